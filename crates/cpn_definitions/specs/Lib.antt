@@ -1,0 +1,4 @@
+pub mod Value
+pub mod Order
+pub mod Colour
+pub mod Marking

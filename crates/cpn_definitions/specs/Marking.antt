@@ -1,0 +1,68 @@
+-- Markings, and the timed order and subtraction of tokens.
+-- Source: timed multisets of Jensen and Kristensen, chapter 11; which stamp is taken is our own choice.
+use Rattle.std.specs.Prelude.{ℕ, Bool, true, false, ◌&&◌, if◌then◌else◌, nat_le, List, [], ◌∷◌}
+use Rattle.std.specs.List.{list_any}
+use Rattle.std.specs.declared.cmp.Ordering.{Ordering}
+use Rattle.std.specs.Ordering.{ordering_then, nat_cmp, is_lt}
+use Rattle.cpn_definitions.specs.Value.{PlainValue}
+use Rattle.cpn_definitions.specs.Order.{value_cmp, same_value}
+
+-- A token: its value and its time stamp. A token of an untimed place has stamp 0.
+pub record PlainToken : Type 0 where
+  pub value : PlainValue
+  pub stamp : ℕ
+
+-- The tokens of one place, sorted by value, then by stamp.
+abbrev pub Tokens : Type 0
+Tokens = List PlainToken
+
+-- A marking: the tokens of each place.
+abbrev pub Marking : Type 0
+Marking = List Tokens
+
+-- how two tokens compare: by value, then by stamp
+abbrev pub token_cmp : PlainToken → PlainToken → Ordering
+token_cmp t u = ordering_then (value_cmp t.value u.value) (nat_cmp t.stamp u.stamp)
+
+-- the tokens of a place with one more, at its place in the order
+abbrev pub add_token : PlainToken → Tokens → Tokens
+add_token t [] = t ∷ []
+add_token t (u ∷ us) = if is_lt (token_cmp t u) then t ∷ u ∷ us else u ∷ add_token t us
+
+-- Stamps: the stamps of the tokens of a value, in order.
+abbrev pub stamps : PlainValue → Tokens → List ℕ
+stamps v [] = []
+stamps v (t ∷ ts) = if same_value v t.value then t.stamp ∷ stamps v ts else stamps v ts
+
+-- The timed order, on sorted lists of numbers. Thresholds are covered by stamps where there are at
+-- least as many stamps, and each threshold is at least the stamp at its place.
+abbrev pub covers : List ℕ → List ℕ → Bool
+covers ss [] = true
+covers [] (t ∷ ts) = false
+covers (s ∷ ss) (t ∷ ts) = nat_le s t && covers ss ts
+
+-- whether sorted stamps begin with one that is not above the threshold
+abbrev pub begins_by : ℕ → List ℕ → Bool
+begins_by t [] = false
+begins_by t (s ∷ ss) = nat_le s t
+
+-- sorted stamps without the largest one that is not above the threshold
+abbrev pub without_latest : ℕ → List ℕ → List ℕ
+without_latest t [] = []
+without_latest t (s ∷ ss) = if begins_by t ss then s ∷ without_latest t ss else (if nat_le s t then ss else s ∷ ss)
+
+-- The timed subtraction, on sorted lists of numbers: for each threshold in turn, the largest remaining
+-- stamp that is not above it is taken away.
+abbrev pub less : List ℕ → List ℕ → List ℕ
+less ss [] = ss
+less ss (t ∷ ts) = less (without_latest t ss) ts
+
+-- whether a token has the value and a stamp that is not above the threshold
+abbrev pub is_taken_by : PlainValue → ℕ → PlainToken → Bool
+is_taken_by v t token = same_value v token.value && nat_le token.stamp t
+
+-- The tokens of a place without the one of the value whose stamp is the largest not above the
+-- threshold: the stamps of the value lose their largest one that is not above it, and all else stays.
+abbrev pub without_token : PlainValue → ℕ → Tokens → Tokens
+without_token v t [] = []
+without_token v t (k ∷ ks) = if list_any (is_taken_by v t) ks then k ∷ without_token v t ks else (if is_taken_by v t k then ks else k ∷ ks)
