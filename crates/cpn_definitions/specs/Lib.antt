@@ -2,3 +2,11 @@ pub mod Value
 pub mod Order
 pub mod Colour
 pub mod Marking
+pub mod Net
+pub mod Meaning
+pub mod Occurrence
+pub mod Legal
+pub mod Enabled
+pub mod HoleRun
+pub mod Draw
+pub mod State

@@ -1,0 +1,158 @@
+-- What a run's journal says: the events that may happen, and the state that they lead to.
+-- Source: own choice. The occurrences of such a run are a legal occurrence sequence of Jensen and
+-- Kristensen, chapter 11, which is a theorem and no part of this definition.
+use Rattle.std.specs.Prelude.{◌≡◌, ◌≢◌, ℕ, suc, ◌<◌, ◌%◌, ◌&&◌, ◌==◌, Bool, true, false, List, [], ◌∷◌, ◌++◌, length, map, take, Option, Some, None, MatchOption, slice_get, slice_index_or, slice_set, if◌then◌else◌}
+use Rattle.std.specs.List.{list_any, enumerate_from}
+use Rattle.cpn_definitions.specs.Marking.{Marking}
+use Rattle.cpn_definitions.specs.Net.{PlainNet, transition_at}
+use Rattle.cpn_definitions.specs.Meaning.{Outcome, gives, faults, no_meaning}
+use Rattle.cpn_definitions.specs.Occurrence.{PlainElement, Needed, Made, covered, needs_of, outputs_of}
+use Rattle.cpn_definitions.specs.Enabled.{PlainEntry, Enabled, ready}
+use Rattle.cpn_definitions.specs.Legal.{TimedElement}
+use Rattle.cpn_definitions.specs.HoleRun.{PlainClaim, Status, open_claim, done_with, failed_with, hole_run, unclaimed, settled, is_open, is_done, committed}
+use Rattle.cpn_definitions.specs.Draw.{word}
+
+-- The limits of a run: how many claims it may make, the last time that it may reach, and its seats.
+pub record PlainLimits : Type 0 where
+  pub steps : ℕ
+  pub until : ℕ
+  pub seats : ℕ
+
+-- What a run starts from: its net, marking and clock, its limits, and the seed of its draws.
+pub record PlainSetup : Type 0 where
+  pub net : PlainNet
+  pub start : Marking
+  pub clock : ℕ
+  pub limits : PlainLimits
+  pub seed : ℕ
+
+-- An event of a run: a seat claims an enabled element, under the next number; a seat completes the
+-- claim of a number.
+pub data PlainEvent : Type 0 where
+  claim_made : ℕ → ℕ → PlainEvent
+  claim_completed : ℕ → ℕ → PlainEvent
+
+-- How a run ends: no element is covered at any time, or as many claims were made as it may make.
+pub data PlainEnd : Type 0 where
+  dead : PlainEnd
+  steps_made : PlainEnd
+
+-- A cut: the number from which on claims were removed, and the cause.
+pub record PlainCut : Type 0 where
+  pub number : ℕ
+  pub cause : PlainEnd
+
+-- The state of a run: the clock, the claims, and the last cut. No event of this table makes a cut; those
+-- of faults, stop monitors and want of memory will.
+pub record PlainState : Type 0 where
+  pub clock : ℕ
+  pub claims : List PlainClaim
+  pub cut : Option PlainCut
+
+abbrev pub first_state : PlainSetup → PlainState
+first_state setup = record { clock = setup.clock; claims = []; cut = None }
+
+-- the marking that the state's claims leave
+abbrev pub unclaimed_in : PlainSetup → PlainState → Option Marking
+unclaimed_in setup state = unclaimed setup.net setup.start state.claims
+
+-- whether a claim of a status makes a cut owed, given whether those after it do
+abbrev pub owed_at : Status → Bool → Bool
+owed_at open_claim rest = false
+owed_at (done_with outputs) rest = rest
+owed_at (failed_with fault) rest = true
+
+-- whether a cut is owed: the first claim that is not committed has failed
+abbrev pub owes_cut : List PlainClaim → Bool
+owes_cut [] = false
+owes_cut (claim ∷ claims) = owed_at claim.status (owes_cut claims)
+
+-- whether a claim is open, and is open for the seat
+abbrev pub is_held_by : ℕ → PlainClaim → Bool
+is_held_by seat claim = is_open claim.status && (claim.seat == seat)
+
+-- the tokens that an element takes, of one that is covered
+abbrev pub given_needs : Outcome (List Needed) → List Needed
+given_needs (gives needs) = needs
+given_needs (faults fault) = []
+given_needs no_meaning = []
+
+-- the claim on an element that a seat makes at a time
+abbrev pub new_claim : PlainNet → ℕ → ℕ → PlainElement → PlainClaim
+new_claim n seat time e = record { seat = seat; element = e; time = time; needs = given_needs (needs_of (transition_at n e.transition) e.binding); status = open_claim }
+
+-- what becomes of a claim when its outputs are evaluated
+abbrev pub status_after : Outcome (List Made) → Option Status
+status_after (gives outputs) = Some (done_with outputs)
+status_after (faults fault) = Some (failed_with fault)
+status_after no_meaning = None
+
+-- The entry is the one that word k draws from the ready ones: the word modulo their number is its position.
+pub record IsDrawn (seed k : ℕ) (entries : List PlainEntry) (drawn : PlainEntry) : Type 0 where
+  pub some : 0 < length entries
+  pub position : slice_get entries (word seed k % length entries) ≡ Some drawn
+
+-- Claim: no cut stands or is owed; the number is that of the next claim and below the limit; the seat is one of the
+-- run's and has no open claim. The claim is open on the drawn one of the ready elements.
+pub record MayClaim (setup : PlainSetup) (old : PlainState) (seat number : ℕ) (new : PlainState) : Type 0 where
+  pub no_cut : old.cut ≡ None
+  pub none_owed : owes_cut old.claims ≡ false
+  pub next_number : number ≡ length old.claims
+  pub below_limit : number < setup.limits.steps
+  pub seat_known : seat < setup.limits.seats
+  pub seat_free : list_any (is_held_by seat) old.claims ≡ false
+  pub marking : Marking
+  pub marking_is : unclaimed_in setup old ≡ Some marking
+  pub entries : List PlainEntry
+  pub enabled : Enabled setup.net marking old.clock entries
+  pub drawn : PlainEntry
+  pub drawn_is : IsDrawn setup.seed number (ready old.clock entries) drawn
+  pub new_is : new ≡ record old { claims = old.claims ++ new_claim setup.net seat old.clock drawn.element ∷ [] }
+
+-- Completion: no cut is owed, and the claim is open and of the seat. It is then done with its outputs, or
+-- failed with their fault.
+pub record MayComplete (setup : PlainSetup) (old : PlainState) (seat number : ℕ) (new : PlainState) : Type 0 where
+  pub none_owed : owes_cut old.claims ≡ false
+  pub held_claim : PlainClaim
+  pub claim_is : slice_get old.claims number ≡ Some held_claim
+  pub held : is_held_by seat held_claim ≡ true
+  pub status : Status
+  pub status_is : status_after (outputs_of setup.net held_claim.element held_claim.time) ≡ Some status
+  pub new_is : new ≡ record old { claims = slice_set old.claims number (record held_claim { status = status }) }
+
+-- the event may happen in the old state, and leads to the new one
+abbrev pub Happens : PlainSetup → PlainState → PlainEvent → PlainState → Type 0
+Happens setup old (claim_made seat number) new = MayClaim setup old seat number new
+Happens setup old (claim_completed seat number) new = MayComplete setup old seat number new
+
+-- the events may happen one after another from the old state, and lead to the new one
+abbrev pub Leads : PlainSetup → PlainState → List PlainEvent → PlainState → Type 0
+Leads setup old [] new = new ≡ old
+Leads setup old (event ∷ events) new = (mid : PlainState) × Happens setup old event mid × Leads setup mid events new
+
+-- State: the journal's events may happen one after another from the start of the run, and lead to the state.
+abbrev pub IsState : PlainSetup → List PlainEvent → PlainState → Type 0
+IsState setup journal state = Leads setup (first_state setup) journal state
+
+-- the run's claims that are committed, with their times, in claim order
+abbrev pub committed_elements : PlainState → List TimedElement
+committed_elements state = map (λ claim. record { element = claim.element; time = claim.time }) (take (committed state.claims) state.claims)
+
+-- nothing is covered in the marking at any time
+abbrev pub IsDead : PlainNet → Marking → Type 0
+IsDead n m = (time : ℕ) (e : PlainElement) → covered n m time e ≡ false
+
+-- the cause for which a run with no cut ends, the first that holds: the limit of claims is reached, or
+-- nothing is covered at any time
+abbrev pub HasCause : PlainSetup → PlainState → PlainEnd → Type 0
+HasCause setup state steps_made = length state.claims ≡ setup.limits.steps
+HasCause setup state dead =
+    (length state.claims ≢ setup.limits.steps)
+    × ((marking : Marking) × (unclaimed_in setup state ≡ Some marking) × IsDead setup.net marking)
+
+-- End: no claim is open and no cut is owed. The cause is that of the last cut, or else that for which a run
+-- with no cut ends.
+pub record EndsBy (setup : PlainSetup) (state : PlainState) (cause : PlainEnd) : Type 0 where
+  pub none_open : list_any (λ claim. is_open claim.status) state.claims ≡ false
+  pub none_owed : owes_cut state.claims ≡ false
+  pub has_cause : MatchOption state.cut (HasCause setup state cause) (λ cut. cause ≡ cut.cause)
