@@ -10,3 +10,5 @@ pub mod Enabled
 pub mod HoleRun
 pub mod Draw
 pub mod State
+pub mod Sound
+pub mod Run

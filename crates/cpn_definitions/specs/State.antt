@@ -2,7 +2,7 @@
 -- Source: own choice. The occurrences of such a run are a legal occurrence sequence of Jensen and
 -- Kristensen, chapter 11, which is a theorem and no part of this definition.
 use Rattle.std.specs.Prelude.{◌≡◌, ◌≢◌, ℕ, suc, ◌<◌, ◌%◌, ◌&&◌, ◌==◌, Bool, true, false, List, [], ◌∷◌, ◌++◌, length, map, take, Option, Some, None, MatchOption, slice_get, slice_index_or, slice_set, if◌then◌else◌}
-use Rattle.std.specs.List.{list_any, enumerate_from}
+use Rattle.std.specs.List.{list_any}
 use Rattle.cpn_definitions.specs.Marking.{Marking}
 use Rattle.cpn_definitions.specs.Net.{PlainNet, transition_at}
 use Rattle.cpn_definitions.specs.Meaning.{Outcome, gives, faults, no_meaning}
@@ -134,9 +134,24 @@ Leads setup old (event ∷ events) new = (mid : PlainState) × Happens setup old
 abbrev pub IsState : PlainSetup → List PlainEvent → PlainState → Type 0
 IsState setup journal state = Leads setup (first_state setup) journal state
 
--- the run's claims that are committed, with their times, in claim order
-abbrev pub committed_elements : PlainState → List TimedElement
-committed_elements state = map (λ claim. record { element = claim.element; time = claim.time }) (take (committed state.claims) state.claims)
+-- An occurrence of a run: the number of its claim, its time, and its element.
+pub record PlainOccurrence : Type 0 where
+  pub number : ℕ
+  pub time : ℕ
+  pub element : PlainElement
+
+-- what an occurrence is in a legal sequence
+abbrev pub timed : PlainOccurrence → TimedElement
+timed o = record { element = o.element; time = o.time }
+
+-- the claims as occurrences, numbered from k
+abbrev pub numbered : ℕ → List PlainClaim → List PlainOccurrence
+numbered k [] = []
+numbered k (claim ∷ claims) = record { number = k; time = claim.time; element = claim.element } ∷ numbered (suc k) claims
+
+-- the occurrences of the committed claims, in claim order
+abbrev pub committed_occurrences : PlainState → List PlainOccurrence
+committed_occurrences state = numbered 0 (take (committed state.claims) state.claims)
 
 -- nothing is covered in the marking at any time
 abbrev pub IsDead : PlainNet → Marking → Type 0
