@@ -2,3 +2,4 @@ pub mod Value
 pub mod Order
 pub mod Colour
 pub mod Marking
+pub mod Code
