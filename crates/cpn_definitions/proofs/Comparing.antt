@@ -1,13 +1,13 @@
 -- The order of values is a total order, and two values are equal in it exactly where they are the same.
 -- A value has a code, a row of integers, whose order xs rows is the order of values.
-use Rattle.std.proofs.Common.{◌≡◌, ℕ, ◌<◌, ℤ, pos, Bool, true, false, List, [], ◌∷◌, refl, sym, ap, ap₂, ◌∙◌, arith, Ordering, Less, Equal, Greater, nat_cmp, int_cmp, is_eq, is_lt, is_gt}
+use Rattle.std.proofs.Common.{◌≡◌, ℕ, ℤ, pos, Bool, true, false, List, [], ◌∷◌, refl, sym, ap, ap₂, ◌∙◌, arith, Ordering, Less, Equal, Greater, nat_cmp, int_cmp, is_eq}
 use Rattle.std.specs.Ordering.{ordering_then, ordering_reverse, bool_cmp, on}
 use Rattle.std.specs.Cmp.{IsTotalOrder}
 use Rattle.std.specs.Cmp.Lexicographic.{slice_cmp}
 use Rattle.std.proofs.lemmas.Cmp.{ranked, int_ranked, lists_total, on_total, int_cmp_total, nat_cmp_total, tied_itself, then_total}
 use Rattle.std.proofs.lemmas.Bool.Decides.{nat_tests}
 use Rattle.cpn_definitions.specs.Value.{PlainValue, PlainValues, unit, boolean, int, constant, text, tuple, bare, applied, list, none, more}
-use Rattle.cpn_definitions.specs.Order.{kind_of, value_cmp, values_cmp, same_value}
+use Rattle.cpn_definitions.specs.Order.{value_cmp, values_cmp, same_value}
 use Rattle.cpn_definitions.specs.Marking.{PlainToken, token_cmp}
 
 -- ---- comparing one thing after another

@@ -1,1 +1,4 @@
 pub mod Comparing
+pub mod Sorting
+pub mod Stamps
+pub mod Rows
