@@ -1,3 +1,8 @@
 pub mod Sequences
 pub mod Untimed
 pub mod Rounds
+pub mod Comparing
+pub mod Sorting
+pub mod Stamps
+pub mod Rows
+pub mod Listing
