@@ -6,3 +6,5 @@ pub mod Sorting
 pub mod Stamps
 pub mod Rows
 pub mod Listing
+pub mod Ending
+pub mod SoundOutputs
