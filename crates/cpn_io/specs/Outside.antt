@@ -1,6 +1,6 @@
 -- What a read and a write do, as one call of a `Source` or a `Sink` sees it.
 use Rattle.std.specs.Prelude.{ℕ, ◌+◌, ◌-◌, ◌^◌, ◌<◌, ◌≤◌, min, List, length, take}
-use Rattle.core.specs.declared.option.Option.{Option}
+use Rattle.std.specs.declared.option.Option.{Option}
 use Rattle.std.specs.Io.KnownBytes.{Appends, Consumes, Keeps, IsAtEnd}
 use Rattle.cpn_io.specs.declared.outside.Got.{Got}
 use Rattle.cpn_io.specs.declared.outside.Got.TheVariants as got

@@ -1,6 +1,6 @@
 // What bytes come from and go to: one call gives or takes some of them, or fails.
 ghost use Rattle.std.specs.Prelude.{◌≡◌, ℕ, ◌<◌, ◌≤◌, List, length};
-ghost use Rattle.core.specs.declared.option.Option.{Option};
+ghost use Rattle.std.specs.declared.option.Option.{Option};
 ghost use Rattle.cpn_io.specs.Outside.{Rose, ReadDoes, WriteDoes};
 
 /// What one read of a source gave.

@@ -1,6 +1,5 @@
 // Reading a source to its end.
-ghost use Rattle.std.specs.Prelude.{◌≡◌, ℕ, ◌+◌, ◌<◌, ◌≤◌, length, vec_len, OnOk, IfOk, IfSome, IsErrOf};
-ghost use Rattle.std.specs.Io.KnownBytes.{IsAtEnd};
+ghost use Rattle.std.specs.Prelude.{◌≡◌, ℕ, ◌+◌, ◌<◌, ◌≤◌, [], Some, length, OnOk, IfOk, IfSome, IsErrOf};
 ghost use Rattle.cpn_io.specs.Outside.{Rose, TakesAtMost};
 
 use crate::outside::{Got, Source};
@@ -43,7 +42,7 @@ impl From<AllocError> for ReadError {
 pub fn read_all<S: Source>(alloc: Global, source: &mut S) -> Result<Vec<u8>, ReadError>
     ensures bytes { IfOk result (λ v. IfSome (S.left source.old) (λ xs. v.items ≡ xs)) }
     ensures short { IfOk result (λ v. length v.items ≤ MOST_BYTES) }
-    ensures end { OnOk result (IsAtEnd (S.left source.new)) }
+    ensures end { OnOk result (IfSome (S.left source.old) (λ _. S.left source.new ≡ Some [])) }
 
     // When a refusal comes. Want of memory is the one error without a cause.
     ensures failed { IsErrOf result ReadError.Failed → Rose (S.faults source.old) (S.faults source.new) }
