@@ -1,6 +1,6 @@
 -- A source and a sink over memory: what each has, and what one call does to it. Calls are numbered
 -- from 0, and a list says which of them fail.
-use Rattle.std.specs.Prelude.{◌≡◌, ℕ, ◌-◌, ◌≤◌, ◌⊎◌, min, List, ◌++◌, length, take, drop, Contains}
+use Rattle.std.specs.Prelude.{◌≡◌, ℕ, ◌-◌, ◌≤◌, ◌⊎◌, min, List, [], ◌++◌, length, take, drop, Contains}
 use Rattle.cpn_io.specs.Outside.{counted}
 use Rattle.cpn_io.specs.declared.outside.Got.{Got}
 use Rattle.cpn_io.specs.declared.outside.Got.TheVariants as got
@@ -15,6 +15,10 @@ pub record MemorySource : Type 0 where
   pub piece : ℕ
   pub next_call : ℕ
   pub faults : ℕ
+
+-- a source of these bytes before its first call
+abbrev pub new_source : List ℕ → List ℕ → ℕ → MemorySource
+new_source bytes fails piece = record { left = bytes; fails = fails; piece = piece; next_call = 0; faults = 0 }
 
 -- the next call is listed as one that fails
 abbrev pub ReadFails : MemorySource → Type 0
@@ -48,6 +52,10 @@ pub record MemorySink : Type 0 where
   pub piece : ℕ
   pub next_call : ℕ
   pub faults : ℕ
+
+-- a sink before its first call, which holds nothing
+abbrev pub new_sink : List ℕ → ℕ → ℕ → MemorySink
+new_sink fails piece room = record { held = []; room = room; fails = fails; piece = piece; next_call = 0; faults = 0 }
 
 -- the next call is listed as one that fails, or no room is left
 abbrev pub WriteFails : MemorySink → Type 0

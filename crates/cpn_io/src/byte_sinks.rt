@@ -1,7 +1,7 @@
 // A sink over memory, which fails just at the calls that are listed for it and where it is full.
-ghost use Rattle.std.specs.Prelude.{◌≡◌, ℕ, ◌<◌, ◌≤◌, ◌↔◌, [], length, Some, IfOk};
+ghost use Rattle.std.specs.Prelude.{◌≡◌, ℕ, ◌<◌, ◌≤◌, ◌↔◌, length, Some, IfOk};
 ghost use Rattle.cpn_io.specs.Outside.{Rose, WriteDoes};
-ghost use Rattle.cpn_io.specs.OverMemory.{WriteFails, TakesMost, after_write};
+ghost use Rattle.cpn_io.specs.OverMemory.{new_sink, WriteFails, TakesMost, after_write};
 
 use crate::outside::{Put, Sink};
 use cpn_core::Memory;
@@ -52,12 +52,7 @@ impl BytesSink {
         room: usize,
     ) -> Result<BytesSink, Memory>
         requires { 1 ≤ piece }
-        ensures held { IfOk result (λ sink. sink.held ≡ []) }
-        ensures room { IfOk result (λ sink. sink.room ≡ room) }
-        ensures fails { IfOk result (λ sink. sink.fails ≡ fails.items) }
-        ensures piece { IfOk result (λ sink. sink.piece ≡ piece) }
-        ensures next_call { IfOk result (λ sink. sink.next_call ≡ 0) }
-        ensures faults { IfOk result (λ sink. sink.faults ≡ 0) }
+        ensures { IfOk result (λ sink. sink ≡ new_sink fails.items piece room) }
     {
         let bytes = Vec::with_capacity(alloc, room)?;
         Ok(BytesSink {

@@ -1,7 +1,7 @@
 // A source over memory, which fails just at the calls that are listed for it.
 ghost use Rattle.std.specs.Prelude.{◌≡◌, ℕ, ◌<◌, ◌≤◌, ◌↔◌, length, Some};
 ghost use Rattle.cpn_io.specs.Outside.{Rose, ReadDoes};
-ghost use Rattle.cpn_io.specs.OverMemory.{ReadFails, GivesMost, after_read, filled};
+ghost use Rattle.cpn_io.specs.OverMemory.{new_source, ReadFails, GivesMost, after_read, filled};
 
 use crate::outside::{Got, Source};
 use std::marker::Model;
@@ -42,11 +42,7 @@ impl BytesSource {
     /// whose numbers are in `fails`.
     pub fn new(bytes: Vec<u8>, fails: Vec<u64>, piece: usize) -> BytesSource
         requires { 1 ≤ piece }
-        ensures left { result.left ≡ bytes.items }
-        ensures fails { result.fails ≡ fails.items }
-        ensures piece { result.piece ≡ piece }
-        ensures next_call { result.next_call ≡ 0 }
-        ensures faults { result.faults ≡ 0 }
+        ensures { result ≡ new_source bytes.items fails.items piece }
     {
         BytesSource {
             bytes,
