@@ -66,3 +66,22 @@ impl Text {
         Ok(text)
     }
 }
+
+#[cfg(test)]
+mod tests {
+    use super::*;
+    use std::test::Fail;
+
+    #[test]
+    fn a_text_grows_and_its_copy_stays(rt: HostRuntime) -> Result<(), Fail> {
+        let mut text = Text::new(rt.alloc());
+        assert!(rt; text.is_empty());
+        text.push(b"dead ")?;
+        let copy = text.copy()?;
+        text.push(b"at 3")?;
+        assert_eq!(rt; text.bytes(), b"dead at 3".as_slice());
+        assert_eq!(rt; text.len(), 9);
+        assert_eq!(rt; copy.bytes(), b"dead ".as_slice());
+        Ok(())
+    }
+}

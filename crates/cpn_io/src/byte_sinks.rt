@@ -28,16 +28,14 @@ impl Model for BytesSink {
 
     ghost Value = { MemorySink };
 
-    ghost view = {
-        λ s. record {
-            held = s.bytes.items;
-            room = s.room;
-            fails = s.fails.items;
-            piece = s.piece;
-            next_call = s.next_call;
-            faults = s.faults;
-        }
-    };
+    ghost view = { λ s. record {
+      held = s.bytes.items;
+      room = s.room;
+      fails = s.fails.items;
+      piece = s.piece;
+      next_call = s.next_call;
+      faults = s.faults;
+    } };
 
     ghost invariant = { λ s. (vec_len s.bytes ≤ s.room) × (s.room ≤ vec_capacity s.bytes) × (1 ≤ s.piece) };
 }

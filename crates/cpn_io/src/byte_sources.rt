@@ -24,15 +24,13 @@ impl Model for BytesSource {
 
     ghost Value = { MemorySource };
 
-    ghost view = {
-        λ s. record {
-            left = drop s.at s.bytes.items;
-            fails = s.fails.items;
-            piece = s.piece;
-            next_call = s.next_call;
-            faults = s.faults;
-        }
-    };
+    ghost view = { λ s. record {
+      left = drop s.at s.bytes.items;
+      fails = s.fails.items;
+      piece = s.piece;
+      next_call = s.next_call;
+      faults = s.faults;
+    } };
 
     ghost invariant = { λ s. (s.at ≤ vec_len s.bytes) × (1 ≤ s.piece) };
 }

@@ -117,3 +117,6 @@ impl<W: Write + Drop> Sink for Stdout<W> {
         }
     }
 }
+
+#[cfg(test)]
+mod tests;

@@ -62,7 +62,10 @@ fn a_source_is_read_up_to_the_limit_and_no_further(rt: HostRuntime) -> Result<()
 fn a_read_that_fails_in_mid_stream_is_told(rt: HostRuntime) -> Result<(), Fail> {
     let bytes = b"abcdef".to_vec(rt.alloc())?;
     let mut source = BytesSource::new(bytes, [2].to_vec(rt.alloc())?, 2);
-    assert_eq!(rt; read_all(rt.alloc(), &mut source).err(), Some(ReadError::Failed));
+    assert_eq!(rt;
+        read_all(rt.alloc(), &mut source).err(),
+        Some(ReadError::Failed)
+    );
     let rest = read_all(rt.alloc(), &mut source)?;
     assert_eq!(rt; rest.as_slice(), b"ef".as_slice());
     Ok(())
