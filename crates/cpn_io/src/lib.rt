@@ -13,9 +13,9 @@
 //! read, unless memory ran out, and that a report was written.
 //!
 //! There are two kinds of sources and sinks. `BytesSource` and `BytesSink` stand over memory, are told to
-//! the byte, and fail just at the calls that are listed for them: with these a whole program can be run,
-//! and proved, against each fault at each call. `Stdin` and `Stdout` are the trusted edge to the running
-//! system. They tell nothing of bytes, since no clause can say what a terminal, a file or a pipe gives.
+//! the byte, and fail just at the calls that are listed for them, so that a program can be run against a
+//! fault at any call. `Stdin` and `Stdout` are the trusted edge to the running system. They tell nothing of
+//! bytes, since no clause can say what a terminal, a file or a pipe gives.
 //!
 //! The crate never looks into the bytes: it knows nothing of nets, documents or reports. It opens no file,
 //! starts no thread, and neither retries nor hides a fault.

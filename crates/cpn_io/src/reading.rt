@@ -45,8 +45,10 @@ pub fn read_all<S: Source>(alloc: Global, source: &mut S) -> Result<Vec<u8>, Rea
     ensures end { OnOk result (IfSome (S.left source.old) (λ _. S.left source.new ≡ Some [])) }
 
     // When a refusal comes. Want of memory is the one error without a cause.
-    ensures failed { IsErrOf result ReadError.Failed → Rose (S.faults source.old) (S.faults source.new) }
-    ensures too_long { IsErrOf result ReadError.TooLong → IfSome (S.left source.old) (λ xs. MOST_BYTES < length xs) }
+    ensures failed { IsErrOf result ReadError.Failed →
+        Rose (S.faults source.old) (S.faults source.new) }
+    ensures too_long { IsErrOf result ReadError.TooLong →
+        IfSome (S.left source.old) (λ xs. MOST_BYTES < length xs) }
 
     // What any answer leaves.
     ensures later { S.faults source.old ≤ S.faults source.new }

@@ -1,4 +1,6 @@
-use Rattle.std.proofs.Common.{◌≡◌, ℕ, ◌-◌, ◌≤◌, vec_len}
+-- What was read is what the source lost, it is no longer than shows that the source is too long, and each
+-- turn adds to it.
+use Rattle.std.proofs.Common.{◌-◌, ◌≤◌, vec_len}
 use Rattle.std.specs.Io.KnownBytes.{Consumes}
 use Rattle.cpn_io.proofs.reading.read_all.Given as goal
 

@@ -1,3 +1,4 @@
+-- The sink has gained the bytes up to `done`, and each turn adds to them.
 use Rattle.std.proofs.Common.{length, ◌-◌, ◌≤◌, take}
 use Rattle.std.specs.Io.KnownBytes.{Appends}
 use Rattle.cpn_io.proofs.writing.write_all.Given as goal
