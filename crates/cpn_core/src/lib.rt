@@ -4,13 +4,23 @@
 //! of what is enabled, and reads and writes nothing outside the program.
 #![tactic(auto)]
 
+mod bindings;
 mod colours;
 mod comparing;
+mod events;
 mod memory_wanted;
+mod nets;
+mod occurrences;
 mod texts;
 mod values;
 
+pub use bindings::{Binding, Element, Pair};
 pub use colours::{Colour, Shape};
+pub use events::{End, Event, Limits};
 pub use memory_wanted::Memory;
+pub use nets::{
+    ArcExpr, BindingTerm, Expr, Guard, MExpr, Net, Pat, Place, PlaceArc, Transition, Variable,
+};
+pub use occurrences::{Entry, Found, FoundBinding, Occurrence};
 pub use texts::Text;
 pub use values::{Value, Values, copy_values};
