@@ -1,4 +1,5 @@
 pub mod Comparing
 pub mod Sorting
 pub mod Stamps
+pub mod Searching
 pub mod Rows
