@@ -1,3 +1,4 @@
 pub mod Views
 pub mod Same
 pub mod Colours
+pub mod Tokens

@@ -6,11 +6,15 @@
 
 mod colours;
 mod comparing;
+mod markings;
 mod memory_wanted;
+mod places;
 mod texts;
 mod values;
 
 pub use colours::{Colour, Shape};
+pub use markings::PlainMarking;
 pub use memory_wanted::Memory;
+pub use places::Token;
 pub use texts::Text;
 pub use values::{Value, Values, copy_values};
