@@ -6,6 +6,7 @@ use Rattle.cpn_definitions.specs.Net.{PlainExpr, PlainMultiset, one, PlainArc, P
 use Rattle.cpn_definitions.specs.Meaning.{PlainBinding, Outcome, gives, faults, no_meaning, ◌>>=◌, PlainTerm, terms_of, meaning, in_colour}
 use Rattle.cpn_definitions.specs.Colour.{PlainColour}
 use Rattle.cpn_definitions.specs.Occurrence.{Needed, Made, is_timed, needed_by, made_by}
+use Rattle.cpn_eval.specs.Stamps.{stamp_at}
 use Rattle.cpn_eval.specs.Given.{as_option, meaning_in, one_value, token_value}
 
 -- the terms of one token, by its value
@@ -41,10 +42,6 @@ needed_some b arc v is = rw (terms_some arc.expr arc.colour b 0 v is) refl
 
 pub needed_none : (b : PlainBinding) (arc : PlainArc) → token_value arc b 0 ≡ None → as_option (needed_by b arc) ≡ None
 needed_none b arc is = outcome_none (terms_of arc.expr arc.colour b 0) _ (terms_none arc.expr arc.colour b 0 is)
-
--- the stamp of a token that is made without delays
-abbrev pub stamp_at : PlainNet → ℕ → ℕ → ℕ → ℕ
-stamp_at n place time delay = cond (is_timed n place) (time + delay + 0) 0
 
 pub made_some : (n : PlainNet) (b : PlainBinding) (time delay : ℕ) (arc : PlainArc) (v : PlainValue) → token_value arc b time ≡ Some v → as_option (made_by n b time delay arc) ≡ Some (record { place = arc.place; value = v; stamp = stamp_at n arc.place time delay } ∷ [])
 made_some n b time delay arc v is = rw (terms_some arc.expr arc.colour b time v is) refl

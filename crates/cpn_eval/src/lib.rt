@@ -8,6 +8,6 @@ mod meanings;
 mod tokens;
 mod transfers;
 
-pub use meanings::{bound_value, value_in_colour, value_of};
+pub use meanings::{arc_value, bound_value, is_timed, transition_delay, value_in_colour, value_of};
 pub use tokens::{Made, Needed};
-pub use transfers::needs_of;
+pub use transfers::{needs_of, outputs_of};
