@@ -1,1 +1,2 @@
 pub mod Soonest
+pub mod RoundDone

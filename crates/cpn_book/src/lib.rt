@@ -7,4 +7,5 @@
 mod draws;
 mod moves;
 mod outlooks;
+mod progresses;
 mod setups;
