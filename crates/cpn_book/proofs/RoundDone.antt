@@ -21,7 +21,7 @@ use Rattle.std.proofs.lemmas.List.{length-map}
 use Rattle.std.proofs.Math.ListN.{length-set}
 use Rattle.cpn_definitions.proofs.Listing.{all_are_ready, covered_now, contains_rest}
 use Rattle.cpn_definitions.proofs.SoundOutputs.{sound_outputs_give}
-use Rattle.cpn_book.specs.Progress.{IsPlayable}
+use Rattle.cpn_book.specs.Playable.{IsPlayable}
 
 -- The position that a word draws from the list.
 pub record IsPosition (setup : PlainSetup) (k : ℕ) (entries : List PlainEntry) (drawn : PlainEntry) : Type 0 where
@@ -42,7 +42,7 @@ is_round setup os marking entries drawn playable enabled drawn_is below is =
       below_limit = below;
       has_seat = playable.seat;
       is_covered = is;
-      outputs_are = made.1 ∙ ap gives (sym (ap given_outputs made.1))
+      outputs_are = made.1 ∙ ap gives (sym (ap given_outputs made.1));
     }
 
 -- the element at a place of a list

@@ -4,8 +4,13 @@
 //! definitions of states and legal sequences; the search for enabled elements is the layer's below.
 #![tactic(auto)]
 
+mod books;
 mod draws;
 mod moves;
 mod outlooks;
 mod progresses;
+mod runs;
 mod setups;
+
+pub use books::Book;
+pub use setups::Setup;

@@ -11,7 +11,8 @@ ghost use Rattle.cpn_core.specs.Nets.{net_view};
 ghost use Rattle.cpn_core.specs.Occurrences.{element_view, entry_view};
 ghost use Rattle.cpn_eval.specs.Tokens.{needed_view, made_view};
 ghost use Rattle.cpn_book.specs.Setups.{setup_view};
-ghost use Rattle.cpn_book.specs.Progress.{IsRunning, IsPlayable};
+ghost use Rattle.cpn_book.specs.Playable.{IsPlayable};
+ghost use Rattle.cpn_book.specs.Progress.{IsRunning};
 
 use crate::draws::Draws;
 use crate::moves::{add_made, subtract};

@@ -37,8 +37,8 @@ returns-clause-running c =
         outputs_are = search rules;
         journal_is = search rules;
         occurrences_are = search rules;
-        marking_is = marking_is
+        marking_is = marking_is;
       });
       draws = c.pick-position.ensures.next c.args.setup.now.seed (length old.occurrences.items) c.requires.running.draws ∙ ap (generator c.args.setup.now.seed) (search rules);
-      entries = ap length marking_is ∙ length_add_made (map made_view c.in_ok-outputs.outputs.items) _ ∙ length_subtract s.net s.clock (map needed_view c.in_ok-needs.needs.items) old.marking ∙ c.requires.running.entries
+      entries = ap length marking_is ∙ length_add_made (map made_view c.in_ok-outputs.outputs.items) _ ∙ length_subtract s.net s.clock (map needed_view c.in_ok-needs.needs.items) old.marking ∙ c.requires.running.entries;
     }
