@@ -84,7 +84,7 @@ module _ (v : PlainValue) (t : ℕ) (ks : List Token) where
       let lt : first - 1 < length ks = omega arith in
       let is : first - 1 + 1 ≡ first = omega arith in
       subst (λ n. count_by (is_taken_by v t) (take n (tokens_view ks)) ≡ count_by (is_taken_by v t) (take (first - 1) (tokens_view ks)) + 1) is
-          (counted_one v t (tokens_view ks) (first - 1) (token_view k) (within ks (first - 1) lt) (entry ks (first - 1) k lt e) (at_most place (first - 1) k (omega arith) short found e) same)
+      (counted_one v t (tokens_view ks) (first - 1) (token_view k) (within ks (first - 1) lt) (entry ks (first - 1) k lt e) (at_most place (first - 1) k (omega arith) short found e) same)
 
   pub counted_out
       : (place first : ℕ) (k : Token) → AreSorted (tokens_view ks) → 0 < first → first ≤ place → place ≤ length ks → IsPlaceOf (token_at v t) (tokens_view ks) place → k ≡ get_or ks (first - 1) k → same_value v (value_view k.value) ≡ false
@@ -93,4 +93,4 @@ module _ (v : PlainValue) (t : ℕ) (ks : List Token) where
       let lt : first - 1 < length ks = omega arith in
       let is : first - 1 + 1 ≡ first = omega arith in
       subst (λ n. count_by (is_taken_by v t) (take n (tokens_view ks)) ≡ 0) is
-          (counted_none v t (tokens_view ks) (first - 1) (token_view k) sorted (within ks (first - 1) lt) (entry ks (first - 1) k lt e) (at_most place (first - 1) k (omega arith) short found e) other)
+      (counted_none v t (tokens_view ks) (first - 1) (token_view k) sorted (within ks (first - 1) lt) (entry ks (first - 1) k lt e) (at_most place (first - 1) k (omega arith) short found e) other)

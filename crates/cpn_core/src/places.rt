@@ -16,7 +16,9 @@ use std::marker::Model;
 /// A token: its value and its time stamp. A token of an untimed place has stamp 0.
 #[derive(Drop)]
 pub struct Token {
+    /// The value, one of the place's colour set.
     pub value: Value,
+    /// The model time from which on the token may be used.
     pub stamp: u64,
 }
 
@@ -140,7 +142,11 @@ fn place_to_take(tokens: &[Token], value: &Value, latest: u64) -> Option<usize>
         return None;
     }
     let last = place - 1;
-    if has_value(&tokens[last], value) { Some(last) } else { None }
+    if has_value(&tokens[last], value) {
+        Some(last)
+    } else {
+        None
+    }
 }
 
 // How many tokens of the value have a stamp that is not above `latest`: those just ahead of its place.

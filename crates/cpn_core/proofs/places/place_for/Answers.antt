@@ -12,7 +12,7 @@ loop-low-preserved-then-comes_before c = record {
   none_below = c.loop-low.invariant.none_below;
   each_above =
       each_from (token_at (value_view c.args.value.now) c.args.stamp) c.args.tokens.now (c.loop-low.low + (c.loop-low.high - c.loop-low.low) / 2) c.index-tokens-middle.result c.requires.sorted (omega arith)
-          c.index-tokens-middle.is (sym c.comes_before.ensures ∙ c.if-comes_before.true);
+      c.index-tokens-middle.is (sym c.comes_before.ensures ∙ c.if-comes_before.true);
 }
 
 pub loop-low-preserved : goal.loop-low-preserved
@@ -21,6 +21,6 @@ loop-low-preserved c = record {
   within = omega arith;
   none_below =
       none_until (token_at (value_view c.args.value.now) c.args.stamp) c.args.tokens.now (c.loop-low.low + (c.loop-low.high - c.loop-low.low) / 2) c.index-tokens-middle.result c.requires.sorted (omega arith)
-          c.index-tokens-middle.is (sym c.comes_before.ensures ∙ c.if-comes_before.false);
+      c.index-tokens-middle.is (sym c.comes_before.ensures ∙ c.if-comes_before.false);
   each_above = c.loop-low.invariant.each_above;
 }

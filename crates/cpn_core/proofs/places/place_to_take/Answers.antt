@@ -9,15 +9,16 @@ returns-then-place-eq0 c = record { found = none_is_before (value_view c.args.va
 
 pub returns-then-has_value : goal.returns-then-has_value
 returns-then-has_value c = record {
-  found =
-      (omega arith,
-          last_is_taken (value_view c.args.value.now) c.args.latest c.args.tokens.now c.place_for-place.result c.index-tokens-last.result (omega arith) c.place_for-place.ensures.within c.place_for-place.ensures.place
-              c.index-tokens-last.is (sym c.has_value.ensures ∙ c.if-has_value.true));
+  found = (
+    omega arith,
+    last_is_taken (value_view c.args.value.now) c.args.latest c.args.tokens.now c.place_for-place.result c.index-tokens-last.result (omega arith) c.place_for-place.ensures.within c.place_for-place.ensures.place
+        c.index-tokens-last.is (sym c.has_value.ensures ∙ c.if-has_value.true),
+  );
 }
 
 pub returns-else-has_value : goal.returns-else-has_value
 returns-else-has_value c = record {
   found =
       last_is_other (value_view c.args.value.now) c.args.latest c.args.tokens.now c.place_for-place.result c.index-tokens-last.result c.requires.sorted (omega arith) c.place_for-place.ensures.within
-          c.place_for-place.ensures.place c.index-tokens-last.is (sym c.has_value.ensures ∙ c.if-has_value.false);
+      c.place_for-place.ensures.place c.index-tokens-last.is (sym c.has_value.ensures ∙ c.if-has_value.false);
 }
