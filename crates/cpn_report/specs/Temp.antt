@@ -1,19 +1,15 @@
-use Rattle.std.specs.Prelude.{ℕ}
-use Rattle.cpn_definitions.specs.State.{PlainEvent, claim_made, claim_completed, PlainEnd, dead, steps_made}
+use Rattle.std.specs.Prelude.{ℕ, List, map}
 use Rattle.cpn_definitions.specs.Run.{Outlook}
-use Rattle.cpn_report.specs.declared.wanted.Event.{Event}
-use Rattle.cpn_report.specs.declared.wanted.Event.TheVariants.{Claim, Done}
-use Rattle.cpn_report.specs.declared.wanted.End.{End}
-use Rattle.cpn_report.specs.declared.wanted.End.TheVariants.{Steps, Dead}
+use Rattle.cpn_definitions.specs.Marking.{PlainToken, Tokens}
+use Rattle.cpn_core.specs.Views.{value_view}
 use Rattle.cpn_report.specs.declared.wanted.Outlook.{Outlook as O}
-
-abbrev pub event_view : Event → PlainEvent
-event_view (Claim s n) = claim_made s n
-event_view (Done s n) = claim_completed s n
-
-abbrev pub end_view : End → PlainEnd
-end_view Steps = steps_made
-end_view Dead = dead
+use Rattle.cpn_report.specs.declared.wanted.Token.{Token}
 
 abbrev pub outlook_view : O → Outlook
 outlook_view o = record { ready_count = o.ready; next = o.next }
+
+abbrev pub token_view : Token → PlainToken
+token_view t = record { value = value_view t.value; stamp = t.stamp }
+
+abbrev pub tokens_view : List Token → Tokens
+tokens_view ts = map token_view ts

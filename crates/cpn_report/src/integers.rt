@@ -3,7 +3,7 @@ ghost use Rattle.std.specs.Prelude.{◌≡◌, ◌++◌, OnOk};
 ghost use Rattle.std.specs.String.{string_bytes};
 ghost use Rattle.cpn_report.specs.Report.{int_text};
 
-use crate::wanted::Memory;
+use cpn_core::Memory;
 use std::fmt::Write;
 
 /// Appends an integer.

@@ -4,6 +4,8 @@
 //! nothing but the text that it returns.
 #![tactic(auto)]
 
+mod elements;
 mod integers;
 mod lines;
+mod places;
 mod wanted;

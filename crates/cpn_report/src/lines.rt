@@ -3,9 +3,11 @@ ghost use Rattle.std.specs.Prelude.{◌≡◌, ◌++◌, map, OnOk};
 ghost use Rattle.std.specs.List.{flat_map};
 ghost use Rattle.std.specs.String.{string_bytes};
 ghost use Rattle.cpn_report.specs.Report.{report_line, run_line, time_text, event_text, schedule_line, cause_text, end_line, occurrences_line, clock_line, ready_line, next_line, total_line};
-ghost use Rattle.cpn_report.specs.Temp.{event_view, end_view, outlook_view};
+ghost use Rattle.cpn_core.specs.Occurrences.{event_view, end_view};
+ghost use Rattle.cpn_report.specs.Temp.{outlook_view};
 
-use crate::wanted::{End, Event, Memory, Outlook};
+use crate::wanted::Outlook;
+use cpn_core::{End, Event, Memory};
 use std::fmt::Write;
 
 /// Appends the first line of each report.

@@ -1,0 +1,1 @@
+// Places and their tokens as they are printed, equal tokens counted.
