@@ -5,6 +5,7 @@
 #![tactic(auto)]
 
 mod elements;
+mod groups;
 mod integers;
 mod lines;
 mod places;

@@ -1,1 +1,23 @@
-// Places and their tokens as they are printed, equal tokens counted.
+// Places as they are printed.
+ghost use Rattle.std.specs.Prelude.{◌≡◌, ◌++◌, OnOk};
+ghost use Rattle.std.specs.String.{string_bytes};
+ghost use Rattle.cpn_core.specs.Nets.{place_view};
+ghost use Rattle.cpn_report.specs.Temp.{tokens_view};
+ghost use Rattle.cpn_report.specs.Report.{place_line};
+
+use crate::groups::push_tokens;
+use crate::wanted::Token;
+use cpn_core::{Memory, Place};
+
+/// Appends the line of a place.
+#[tactic(auto, unfolding(crate::specs::Report::place_line))]
+pub(crate) fn push_place_line(out: &mut String, place: &Place, tokens: &[Token]) -> Result<(), Memory>
+    ensures written { OnOk result (string_bytes out.new ≡ string_bytes out.old ++ place_line (place_view place.now) (tokens_view tokens.now)) }
+{
+    out.push_str("place ")?;
+    out.push_str(place.name.as_str())?;
+    out.push_str(" ")?;
+    push_tokens(out, place.colour.timed, tokens)?;
+    out.push_str("\n")?;
+    Ok(())
+}
