@@ -1,2 +1,3 @@
 pub mod Report
 pub mod Temp
+pub mod Temp2

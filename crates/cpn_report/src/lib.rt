@@ -9,4 +9,7 @@ mod groups;
 mod integers;
 mod lines;
 mod places;
+mod reports;
 mod wanted;
+
+pub use reports::report;

@@ -3,11 +3,12 @@ ghost use Rattle.std.specs.Prelude.{◌≡◌, ◌++◌, map, OnOk};
 ghost use Rattle.std.specs.List.{flat_map};
 ghost use Rattle.std.specs.String.{string_bytes};
 ghost use Rattle.cpn_report.specs.Report.{report_line, run_line, time_text, event_text, schedule_line, cause_text, end_line, occurrences_line, clock_line, ready_line, next_line, total_line};
+ghost use Rattle.cpn_core.specs.Nets.{net_view};
 ghost use Rattle.cpn_core.specs.Occurrences.{event_view, end_view};
 ghost use Rattle.cpn_report.specs.Temp.{outlook_view};
 
 use crate::wanted::Outlook;
-use cpn_core::{End, Event, Memory};
+use cpn_core::{End, Event, Memory, Net};
 use std::fmt::Write;
 
 /// Appends the first line of each report.
@@ -77,22 +78,24 @@ fn push_event(out: &mut String, event: Event) -> Result<(), Memory>
 
 /// Appends the line of the cause of the run's end.
 #[tactic(auto, unfolding(crate::specs::Report::end_line))]
-pub(crate) fn push_end_line(out: &mut String, cause: End) -> Result<(), Memory>
-    ensures written { OnOk result (string_bytes out.new ≡ string_bytes out.old ++ end_line (end_view cause)) }
+pub(crate) fn push_end_line(out: &mut String, net: &Net, cause: &End) -> Result<(), Memory>
+    ensures written { OnOk result (string_bytes out.new ≡ string_bytes out.old ++ end_line (net_view net.now) (end_view cause.now)) }
 {
-    let name = cause_name(cause);
-    write!(out, "end {name}\n")?;
+    out.push_str("end ")?;
+    push_cause(out, net, cause)?;
+    out.push_str("\n")?;
     Ok(())
 }
 
-/// The name of the cause of a run's end.
-fn cause_name(cause: End) -> &'static str
-    ensures { result.now ≡ cause_text (end_view cause) }
+/// Appends the cause of a run's end.
+fn push_cause(out: &mut String, _net: &Net, cause: &End) -> Result<(), Memory>
+    ensures written { OnOk result (string_bytes out.new ≡ string_bytes out.old ++ cause_text (net_view _net.now) (end_view cause.now)) }
 {
     match cause {
-        End::Steps => "steps",
-        End::Dead => "dead",
+        End::Steps => out.push_str("steps")?,
+        End::Dead => out.push_str("dead")?,
     }
+    Ok(())
 }
 
 /// Appends the line of the number of occurrences.

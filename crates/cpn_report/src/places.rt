@@ -1,17 +1,17 @@
 // Places as they are printed.
-ghost use Rattle.std.specs.Prelude.{◌≡◌, ◌++◌, OnOk};
+ghost use Rattle.std.specs.Prelude.{◌≡◌, ◌++◌, map, OnOk};
 ghost use Rattle.std.specs.String.{string_bytes};
 ghost use Rattle.cpn_core.specs.Nets.{place_view};
 ghost use Rattle.cpn_report.specs.Temp.{tokens_view};
-ghost use Rattle.cpn_report.specs.Report.{place_line};
+ghost use Rattle.cpn_report.specs.Report.{place_line, place_lines};
 
 use crate::groups::push_tokens;
-use crate::wanted::Token;
+use crate::wanted::{PlainMarking, Token};
 use cpn_core::{Memory, Place};
 
 /// Appends the line of a place.
 #[tactic(auto, unfolding(crate::specs::Report::place_line))]
-pub(crate) fn push_place_line(out: &mut String, place: &Place, tokens: &[Token]) -> Result<(), Memory>
+fn push_place_line(out: &mut String, place: &Place, tokens: &[Token]) -> Result<(), Memory>
     ensures written { OnOk result (string_bytes out.new ≡ string_bytes out.old ++ place_line (place_view place.now) (tokens_view tokens.now)) }
 {
     out.push_str("place ")?;
@@ -19,5 +19,18 @@ pub(crate) fn push_place_line(out: &mut String, place: &Place, tokens: &[Token])
     out.push_str(" ")?;
     push_tokens(out, place.colour.timed, tokens)?;
     out.push_str("\n")?;
+    Ok(())
+}
+
+/// Appends a line for each place that has tokens in the marking, in order.
+pub(crate) fn push_place_lines(out: &mut String, places: &[Place], marking: &PlainMarking) -> Result<(), Memory>
+    ensures written { OnOk result (string_bytes out.new ≡ string_bytes out.old ++ place_lines (map place_view places.now) marking.now) }
+{
+    for (number, place) in places.iter().enumerate() {
+        let Some(tokens) = marking.get(number) else {
+            return Ok(());
+        };
+        push_place_line(out, place, tokens)?;
+    }
     Ok(())
 }
