@@ -10,6 +10,8 @@ mod integers;
 mod lines;
 mod places;
 mod reports;
+#[cfg(test)]
+mod tests;
 mod wanted;
 
 pub use reports::report;

@@ -32,6 +32,21 @@ impl Model for PlainMarking {
 }
 
 impl PlainMarking {
+    pub fn new(alloc: std::alloc::Global, places: usize) -> Result<PlainMarking, cpn_core::Memory>
+    {
+        let mut held = Vec::with_capacity(alloc, places)?;
+        for _place in 0..places {
+            held.push(Vec::new(alloc))?;
+        }
+        Ok(PlainMarking { places: held })
+    }
+    pub fn add(&mut self, place: u32, value: Value, stamp: u64) -> Result<(), cpn_core::Memory>
+    {
+        if (place as usize) < self.places.len() {
+        self.places[place as usize].push(Token {value, stamp})?;
+        }
+        Ok(())
+    }
     /// The tokens of the place at a position, in order; `None` past the last place.
     pub fn get(&self, position: usize) -> Option<&[Token]>
         ensures present { IsSome result ↔ (position < length self.now) }
