@@ -1,3 +1,1 @@
 pub mod Report
-pub mod Temp
-pub mod Temp2

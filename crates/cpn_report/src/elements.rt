@@ -13,13 +13,12 @@ use crate::integers::push_int;
 use cpn_core::{Binding, Element, Memory, Net, Occurrence, Pair, Value};
 use std::fmt::Write;
 
-/// Appends a value.
+/// Appends a value. One of another colour set than that of the integers is not printed yet.
 pub(crate) fn push_value(out: &mut String, value: &Value) -> Result<(), Memory>
     ensures written { OnOk result (string_bytes out.new ≡ string_bytes out.old ++ value_text (value_view value.now)) }
 {
-    match value {
-        Value::Int(number) => push_int(out, *number)?,
-        _ => {}
+    if let Value::Int(number) = value {
+        push_int(out, *number)?;
     }
     Ok(())
 }
@@ -103,7 +102,11 @@ fn push_occurrence_line(out: &mut String, net: &Net, occurrence: &Occurrence) ->
 }
 
 /// Appends the lines of the occurrences, in order.
-pub(crate) fn push_occurrences(out: &mut String, net: &Net, occurrences: &[Occurrence]) -> Result<(), Memory>
+pub(crate) fn push_occurrences(
+    out: &mut String,
+    net: &Net,
+    occurrences: &[Occurrence],
+) -> Result<(), Memory>
     ensures written { OnOk result (string_bytes out.new ≡ string_bytes out.old ++ flat_map (occurrence_line (net_view net.now)) (map occurrence_view occurrences.now)) }
 {
     for occurrence in occurrences {

@@ -2,12 +2,11 @@
 ghost use Rattle.std.specs.Prelude.{◌≡◌, ◌<◌, ◌≤◌, ◌∷◌, ◌++◌, Bool, codes, drop, length, map, slice_index_or, OnOk};
 ghost use Rattle.std.specs.String.{string_bytes};
 ghost use Rattle.cpn_definitions.specs.Marking.{PlainToken};
-ghost use Rattle.cpn_report.specs.Temp.{token_view, tokens_view};
+ghost use Rattle.cpn_core.specs.Tokens.{token_view, tokens_view};
 ghost use Rattle.cpn_report.specs.Report.{Group, same_token, groups, group_text, tokens_text, joined};
 
-use crate::wanted::Token;
 use crate::elements::push_value;
-use cpn_core::Memory;
+use cpn_core::{Memory, Token};
 use std::fmt::Write;
 
 /// Appends the tokens of a place, with their stamps where the place is timed.

@@ -12,6 +12,5 @@ mod places;
 mod reports;
 #[cfg(test)]
 mod tests;
-mod wanted;
 
 pub use reports::report;

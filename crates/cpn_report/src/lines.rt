@@ -3,12 +3,12 @@ ghost use Rattle.std.specs.Prelude.{◌≡◌, ◌++◌, map, OnOk};
 ghost use Rattle.std.specs.List.{flat_map};
 ghost use Rattle.std.specs.String.{string_bytes};
 ghost use Rattle.cpn_report.specs.Report.{report_line, run_line, time_text, event_text, schedule_line, cause_text, end_line, occurrences_line, clock_line, ready_line, next_line, total_line};
+ghost use Rattle.cpn_definitions.specs.Net.{PlainNet};
 ghost use Rattle.cpn_core.specs.Nets.{net_view};
 ghost use Rattle.cpn_core.specs.Occurrences.{event_view, end_view};
-ghost use Rattle.cpn_report.specs.Temp.{outlook_view};
+ghost use Rattle.cpn_core.specs.Finished.{outlook_view};
 
-use crate::wanted::Outlook;
-use cpn_core::{End, Event, Memory, Net};
+use cpn_core::{End, Event, Finished, Memory, Outlook};
 use std::fmt::Write;
 
 /// Appends the first line of each report.
@@ -23,7 +23,12 @@ pub(crate) fn push_report_line(out: &mut String) -> Result<(), Memory>
 /// Appends the first line of the run with this number, which starts from the initial marking at the
 /// clock, with the outlook there.
 #[tactic(auto, unfolding(crate::specs::Report::run_line))]
-pub(crate) fn push_run_line(out: &mut String, number: u64, clock: u64, opening: &Outlook) -> Result<(), Memory>
+pub(crate) fn push_run_line(
+    out: &mut String,
+    number: u64,
+    clock: u64,
+    opening: &Outlook,
+) -> Result<(), Memory>
     ensures written { OnOk result (string_bytes out.new ≡ string_bytes out.old ++ run_line number clock (outlook_view opening.now)) }
 {
     let ready = opening.ready;
@@ -78,24 +83,22 @@ fn push_event(out: &mut String, event: Event) -> Result<(), Memory>
 
 /// Appends the line of the cause of the run's end.
 #[tactic(auto, unfolding(crate::specs::Report::end_line))]
-pub(crate) fn push_end_line(out: &mut String, net: &Net, cause: &End) -> Result<(), Memory>
-    ensures written { OnOk result (string_bytes out.new ≡ string_bytes out.old ++ end_line (net_view net.now) (end_view cause.now)) }
+pub(crate) fn push_end_line(out: &mut String, finished: &Finished) -> Result<(), Memory>
+    ensures written { OnOk result (string_bytes out.new ≡ string_bytes out.old ++ end_line (net_view finished.now.net.value) (end_view finished.now.cause)) }
 {
-    out.push_str("end ")?;
-    push_cause(out, net, cause)?;
-    out.push_str("\n")?;
+    let name = cause_name(finished.cause);
+    write!(out, "end {name}\n")?;
     Ok(())
 }
 
-/// Appends the cause of a run's end.
-fn push_cause(out: &mut String, _net: &Net, cause: &End) -> Result<(), Memory>
-    ensures written { OnOk result (string_bytes out.new ≡ string_bytes out.old ++ cause_text (net_view _net.now) (end_view cause.now)) }
+/// The name of the cause of a run's end, which is the same for each net.
+fn cause_name(cause: End) -> &'static str
+    ensures name { (n : PlainNet) → result.now ≡ cause_text n (end_view cause) }
 {
     match cause {
-        End::Steps => out.push_str("steps")?,
-        End::Dead => out.push_str("dead")?,
+        End::Steps => "steps",
+        End::Dead => "dead",
     }
-    Ok(())
 }
 
 /// Appends the line of the number of occurrences.

@@ -2,12 +2,11 @@
 ghost use Rattle.std.specs.Prelude.{◌≡◌, ◌++◌, map, OnOk};
 ghost use Rattle.std.specs.String.{string_bytes};
 ghost use Rattle.cpn_core.specs.Nets.{place_view};
-ghost use Rattle.cpn_report.specs.Temp.{tokens_view};
+ghost use Rattle.cpn_core.specs.Tokens.{tokens_view};
 ghost use Rattle.cpn_report.specs.Report.{place_line, place_lines};
 
 use crate::groups::push_tokens;
-use crate::wanted::{PlainMarking, Token};
-use cpn_core::{Memory, Place};
+use cpn_core::{Memory, Place, PlainMarking, Token};
 
 /// Appends the line of a place.
 #[tactic(auto, unfolding(crate::specs::Report::place_line))]
@@ -23,7 +22,11 @@ fn push_place_line(out: &mut String, place: &Place, tokens: &[Token]) -> Result<
 }
 
 /// Appends a line for each place that has tokens in the marking, in order.
-pub(crate) fn push_place_lines(out: &mut String, places: &[Place], marking: &PlainMarking) -> Result<(), Memory>
+pub(crate) fn push_place_lines(
+    out: &mut String,
+    places: &[Place],
+    marking: &PlainMarking,
+) -> Result<(), Memory>
     ensures written { OnOk result (string_bytes out.new ≡ string_bytes out.old ++ place_lines (map place_view places.now) marking.now) }
 {
     for (number, place) in places.iter().enumerate() {

@@ -2,8 +2,7 @@
 ghost use Rattle.std.specs.Prelude.{◌≡◌, ◌++◌, IfOk, OnOk};
 ghost use Rattle.std.specs.String.{string_bytes};
 ghost use Rattle.cpn_core.specs.Nets.{net_view};
-ghost use Rattle.cpn_report.specs.Temp.{outlook_view};
-ghost use Rattle.cpn_report.specs.Temp2.{outcome_view};
+ghost use Rattle.cpn_core.specs.Finished.{outlook_view, outcome_of};
 ghost use Rattle.cpn_report.specs.Report.{run_text, report_text};
 
 use crate::elements::push_occurrences;
@@ -12,8 +11,7 @@ use crate::lines::{
     push_report_line, push_run_line, push_schedule_line, push_total_line,
 };
 use crate::places::push_place_lines;
-use crate::wanted::Finished;
-use cpn_core::Memory;
+use cpn_core::{Finished, Memory};
 use std::alloc::Global;
 
 /// The report of one run that has ended, as text.
@@ -21,7 +19,7 @@ use std::alloc::Global;
 /// It is `Err` only for want of memory.
 #[tactic(auto, unfolding(crate::specs::Report::report_text))]
 pub fn report(alloc: Global, finished: &Finished) -> Result<String, Memory>
-    ensures text { IfOk result (λ text. string_bytes text ≡ report_text (net_view finished.now.net.value) finished.now.start_clock (outlook_view finished.now.opening) (outcome_view finished.now) (outlook_view finished.now.closing)) }
+    ensures text { IfOk result (λ text. string_bytes text ≡ report_text (net_view finished.now.net.value) finished.now.start_clock (outlook_view finished.now.opening) (outcome_of finished.now) (outlook_view finished.now.closing)) }
 {
     let mut out = String::new(alloc);
     push_report_line(&mut out)?;
@@ -33,12 +31,12 @@ pub fn report(alloc: Global, finished: &Finished) -> Result<String, Memory>
 /// Appends the lines of the run with this number.
 #[tactic(auto, unfolding(crate::specs::Report::run_text))]
 fn push_run(out: &mut String, number: u64, finished: &Finished) -> Result<(), Memory>
-    ensures written { OnOk result (string_bytes out.new ≡ string_bytes out.old ++ run_text (net_view finished.now.net.value) number finished.now.start_clock (outlook_view finished.now.opening) (outcome_view finished.now) (outlook_view finished.now.closing)) }
+    ensures written { OnOk result (string_bytes out.new ≡ string_bytes out.old ++ run_text (net_view finished.now.net.value) number finished.now.start_clock (outlook_view finished.now.opening) (outcome_of finished.now) (outlook_view finished.now.closing)) }
 {
     push_run_line(out, number, finished.start_clock, &finished.opening)?;
     push_occurrences(out, &finished.net, &finished.occurrences)?;
     push_schedule_line(out, &finished.journal)?;
-    push_end_line(out, &finished.net, &finished.cause)?;
+    push_end_line(out, finished)?;
     push_occurrences_line(out, finished.occurrences.len() as u64)?;
     push_clock_line(out, finished.clock)?;
     push_place_lines(out, &finished.net.places, &finished.marking)?;

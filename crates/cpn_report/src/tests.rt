@@ -5,10 +5,9 @@ use crate::groups::push_tokens;
 use crate::integers::push_int;
 use crate::lines::{push_next_line, push_schedule_line};
 use crate::report;
-use crate::wanted::{Finished, Outlook, PlainMarking, Token};
 use cpn_core::{
-    Binding, Colour, Element, End, Event, Guard, Limits, Memory, Net, Occurrence, Place, Shape, Transition, Value,
-    Variable,
+    Binding, Colour, Element, End, Event, Finished, Guard, Limits, Memory, Net, Occurrence,
+    Outlook, Place, PlainMarking, Shape, Token, Transition, Value, Variable,
 };
 use std::alloc::Global;
 use std::sync::Arc;
@@ -68,7 +67,10 @@ fn events_and_a_missing_time_are_told(rt: HostRuntime) -> Result<(), Fail> {
     )?;
     push_next_line(&mut out, None)?;
     push_next_line(&mut out, Some(12))?;
-    assert_eq!(rt; out.as_str(), "schedule\nschedule c0 d0\nnext none\nnext 12\n");
+    assert_eq!(rt;
+        out.as_str(),
+        "schedule\nschedule c0 d0\nnext none\nnext 12\n"
+    );
     Ok(())
 }
 
@@ -83,14 +85,18 @@ fn a_binding_is_told_in_order(rt: HostRuntime) -> Result<(), Fail> {
     occurrences.push(occurrence(5, 11, binding))?;
     let mut out = String::new(rt.alloc());
     push_occurrences(&mut out, &net, occurrences.as_slice())?;
-    assert_eq!(rt; out.as_str(), "occ 4 @10 Top/t {}\nocc 5 @11 Top/t {x=1, y=~2}\n");
+    assert_eq!(rt;
+        out.as_str(),
+        "occ 4 @10 Top/t {}\nocc 5 @11 Top/t {x=1, y=~2}\n"
+    );
     Ok(())
 }
 
 #[test]
 fn a_whole_report(rt: HostRuntime) -> Result<(), Fail> {
     let text = report(rt.alloc(), &small_run(rt.alloc())?)?;
-    let lines = "report 1\nrun 0 initial 0 ready 1 next 0\nocc 0 @0 Top/t {x=7}\nschedule c0 d0\nend dead\noccurrences 1\nclock 0\nplace Top/A 1`7 ++ 1`8\nplace Top/B empty\nready 0\nnext none\ntotal 1\n";
+    let lines =
+        "report 1\nrun 0 initial 0 ready 1 next 0\nocc 0 @0 Top/t {x=7}\nschedule c0 d0\nend dead\noccurrences 1\nclock 0\nplace Top/A 1`7 ++ 1`8\nplace Top/B empty\nready 0\nnext none\ntotal 1\n";
     assert_eq!(rt; text.as_str(), lines);
     Ok(())
 }
