@@ -21,7 +21,7 @@ fn push_place_line(out: &mut String, place: &Place, tokens: &[Token]) -> Result<
     Ok(())
 }
 
-/// Appends a line for each place that has tokens in the marking, in order.
+/// Appends a line for each place of the marking, in order.
 pub(crate) fn push_place_lines(
     out: &mut String,
     places: &[Place],

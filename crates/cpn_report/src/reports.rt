@@ -14,9 +14,11 @@ use crate::places::push_place_lines;
 use cpn_core::{Finished, Memory};
 use std::alloc::Global;
 
-/// The report of one run that has ended, as text.
+/// The report of one run that has ended, as text: its first line, the lines of the run, and how many
+/// occurrences there are in all. Source: own choice.
 ///
-/// It is `Err` only for want of memory.
+/// A number past the last transition or variable of the net stands for one without a name, and a place past
+/// the end of the marking has no line. `Err` comes for want of memory alone.
 #[tactic(auto, unfolding(crate::specs::Report::report_text))]
 pub fn report(alloc: Global, finished: &Finished) -> Result<String, Memory>
     ensures text { IfOk result (λ text. string_bytes text ≡ report_text (net_view finished.now.net.value) finished.now.start_clock (outlook_view finished.now.opening) (outcome_of finished.now) (outlook_view finished.now.closing)) }
