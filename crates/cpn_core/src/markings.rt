@@ -1,5 +1,5 @@
 // Markings: the tokens of each place of a net.
-ghost use Rattle.std.specs.Prelude.{◌≡◌, ◌<◌, [], length, replicate, count_by, slice_index_or, slice_set, IfOk, OnOk, OnErr};
+ghost use Rattle.std.specs.Prelude.{◌≡◌, ◌<◌, [], length, replicate, count_by, slice_index_or, slice_set, ◌↔◌, IsSome, IfSome, IfOk, OnOk, OnErr};
 ghost use Rattle.cpn_definitions.specs.Marking.{token_at, add_token, without_token, is_taken_by, AreSorted};
 ghost use Rattle.cpn_core.specs.Views.{value_view};
 ghost use Rattle.cpn_core.specs.Tokens.{tokens_view};
@@ -57,6 +57,17 @@ impl PlainMarking {
     {
         let held = &self.places[place as usize];
         held.tokens()
+    }
+
+    /// The tokens of the place at a position, in order; `None` past the last place.
+    pub fn get(&self, position: usize) -> Option<&[Token]>
+        ensures present { IsSome result ↔ (position < length self.now) }
+        ensures items { IfSome result (λ tokens. tokens_view tokens.now ≡ slice_index_or self.now position []) }
+    {
+        match self.places.get(position) {
+            Some(held) => Some(held.tokens()),
+            None => None,
+        }
     }
 
     /// Adds a token of the value with the time stamp to a place. After `Memory` the marking is as it was.
