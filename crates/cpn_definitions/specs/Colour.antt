@@ -1,5 +1,5 @@
 -- Colour sets, and which values they admit. Source: Jensen and Kristensen, chapters 3 and 4.
-use Rattle.std.specs.Prelude.{ℕ, zero, suc, ◌≤◌, ℤ, Bool, true, false, ◌&&◌, nat_lt, nat_le, int_le, List, Option, Some, None}
+use Rattle.std.specs.Prelude.{ℕ, zero, suc, ℤ, Bool, true, false, ◌&&◌, nat_lt, nat_le, int_le, Option, Some, None}
 use Rattle.std.specs.List.{list_all}
 use Rattle.cpn_definitions.specs.Value.{PlainValue, PlainValues, unit, boolean, int, constant, text, tuple, bare, applied, list, none, more}
 

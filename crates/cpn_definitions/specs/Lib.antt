@@ -12,3 +12,4 @@ pub mod Draw
 pub mod State
 pub mod Sound
 pub mod Run
+pub mod Code

@@ -1,9 +1,9 @@
 -- Markings, and the timed order and subtraction of tokens.
 -- Source: timed multisets of Jensen and Kristensen, chapter 11; which stamp is taken is our own choice.
-use Rattle.std.specs.Prelude.{ℕ, Bool, true, false, ◌&&◌, if◌then◌else◌, nat_le, List, [], ◌∷◌}
+use Rattle.std.specs.Prelude.{◌≡◌, ℕ, Bool, true, false, ◌&&◌, if◌then◌else◌, nat_le, List, [], ◌∷◌}
 use Rattle.std.specs.List.{list_any}
 use Rattle.std.specs.declared.cmp.Ordering.{Ordering}
-use Rattle.std.specs.Ordering.{ordering_then, nat_cmp, is_lt}
+use Rattle.std.specs.Ordering.{ordering_then, nat_cmp, is_lt, is_gt}
 use Rattle.cpn_definitions.specs.Value.{PlainValue}
 use Rattle.cpn_definitions.specs.Order.{value_cmp, same_value}
 
@@ -23,6 +23,16 @@ Marking = List Tokens
 -- how two tokens compare: by value, then by stamp
 abbrev pub token_cmp : PlainToken → PlainToken → Ordering
 token_cmp t u = ordering_then (value_cmp t.value u.value) (nat_cmp t.stamp u.stamp)
+
+-- whether a token may stand before the tokens: it is not above the first of them
+abbrev pub MayPrecede : PlainToken → Tokens → Type 0
+MayPrecede t [] = Unit {0}
+MayPrecede t (u ∷ us) = is_gt (token_cmp t u) ≡ false
+
+-- the tokens are sorted: each may stand before those after it
+abbrev pub AreSorted : Tokens → Type 0
+AreSorted [] = Unit {0}
+AreSorted (t ∷ ts) = MayPrecede t ts × AreSorted ts
 
 -- the tokens of a place with one more, at its place in the order
 abbrev pub add_token : PlainToken → Tokens → Tokens

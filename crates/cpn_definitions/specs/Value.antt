@@ -1,5 +1,5 @@
 -- Values of colour sets, as plain data. Source: the values of CPN ML, Jensen and Kristensen, chapter 3.
-use Rattle.std.specs.Prelude.{ℕ, ◌+◌, ℤ, Bool, List, [], ◌∷◌, length, max}
+use Rattle.std.specs.Prelude.{ℕ, ◌+◌, ℤ, Bool, List, [], ◌∷◌, length}
 
 mutual
   -- A value: the one of unit, a truth value, an integer, a constant of an enumeration by its position,
