@@ -5,3 +5,5 @@ pub mod Comparing
 pub mod Sorting
 pub mod Stamps
 pub mod Rows
+pub mod Rising
+pub mod Assignments
