@@ -7,3 +7,4 @@ pub mod Stamps
 pub mod Rows
 pub mod Rising
 pub mod Assignments
+pub mod SearchLaws
