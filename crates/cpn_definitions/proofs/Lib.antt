@@ -8,3 +8,4 @@ pub mod Rows
 pub mod Rising
 pub mod Assignments
 pub mod SearchLaws
+pub mod AllTransitions

@@ -41,6 +41,11 @@ pub in_append_right : {X : Type 0} (xs ys : List X) (x : X) → IsIn x ys → Is
 in_append_right [] ys x h = h
 in_append_right (z ∷ xs) ys x h = inr (in_append_right xs ys x h)
 
+pub in_append_cases : {X : Type 0} (xs ys : List X) (x : X) → IsIn x (xs ++ ys) → IsIn x xs ⊎ IsIn x ys
+in_append_cases [] ys x h = inr h
+in_append_cases (z ∷ xs) ys x (inl e) = inl (inl e)
+in_append_cases (z ∷ xs) ys x (inr h) = ⊎_elim (λ g. inl (inr g)) (λ g. inr g) (in_append_cases xs ys x h)
+
 pub in_map : {X Y : Type 0} (f : X → Y) (xs : List X) (x : X) → IsIn x xs → IsIn (f x) (map f xs)
 in_map f [] x h = absurd h
 in_map f (y ∷ ys) x (inl e) = inl (ap f e)

@@ -50,7 +50,7 @@ numbers_differ x y h = grind (arith, nat_tests)
 
 -- ---- the parts of a covered element
 
-covered_parts : (n : PlainNet) (m : Marking) (time t : ℕ) (b : PlainBinding) → covered n m time (element_of t b) ≡ true
+pub covered_parts : (n : PlainNet) (m : Marking) (time t : ℕ) (b : PlainBinding) → covered n m time (element_of t b) ≡ true
     → (nat_lt t (length n.transitions) ≡ true) × (binds n (transition_at n t).vars b ≡ true) × (gives_and (needs_of (transition_at n t) b) (are_covered n m time) ≡ true)
 unfolding covered
 covered_parts n m time t b is =
@@ -277,7 +277,7 @@ tried_rise n m t sorted =
 abbrev pub entry_cmp : PlainEntry → PlainEntry → Ordering
 entry_cmp x y = element_cmp x.element y.element
 
-is_increasing_from : (xs : List PlainEntry) → Rises entry_cmp xs → IsIncreasing xs
+pub is_increasing_from : (xs : List PlainEntry) → Rises entry_cmp xs → IsIncreasing xs
 is_increasing_from [] h = tt
 is_increasing_from (x ∷ xs) h = (h.0, is_increasing_from xs h.1)
 
@@ -296,14 +296,14 @@ found_in_order t bs rise =
     found_cmp f g = binding_cmp f.binding g.binding
 
 -- the earliest time of an element of a sound net is the clock
-earliest_is_clock : (n : PlainNet) (m : Marking) (clock : ℕ) (x : PlainEntry) → is_sound n ≡ true → IsEarliest n m clock x → x.earliest ≡ clock
+pub earliest_is_clock : (n : PlainNet) (m : Marking) (clock : ℕ) (x : PlainEntry) → is_sound n ≡ true → IsEarliest n m clock x → x.earliest ≡ clock
 earliest_is_clock n m clock x sound is = split (cases_lt clock x.earliest)
   where
     split : (clock < x.earliest) ⊎ (x.earliest ≤ clock) → x.earliest ≡ clock
     split (inl before) = let no = is.not_earlier clock (omega arith) before in let same = covered_at_any_time n m clock x.earliest x.element sound in let ok = is.is_covered in cc
     split (inr upto) = omega (arith, is.not_before)
 
-covered_is_earliest : (n : PlainNet) (m : Marking) (clock : ℕ) (e : PlainElement) → covered n m clock e ≡ true → IsEarliest n m clock (record { earliest = clock; element = e })
+pub covered_is_earliest : (n : PlainNet) (m : Marking) (clock : ℕ) (e : PlainElement) → covered n m clock e ≡ true → IsEarliest n m clock (record { earliest = clock; element = e })
 covered_is_earliest n m clock e is = record { not_before = omega arith; is_covered = is; not_earlier = λ s from below. absurd (omega arith) }
 
 pub entries_are : (t : ℕ) (bs : List PlainBinding) (x : PlainEntry) → IsIn x (entries_of t (found_now bs)) → (b : PlainBinding) × IsIn b bs × (record { earliest = 0; element = element_of t b } ≡ x)
