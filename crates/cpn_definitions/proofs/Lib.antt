@@ -9,3 +9,4 @@ pub mod Rising
 pub mod Assignments
 pub mod SearchLaws
 pub mod AllTransitions
+pub mod Covering

@@ -263,7 +263,7 @@ covered_is_tried n m time t b sound is =
 abbrev pub PlacesAreSorted : Marking → Type 0
 PlacesAreSorted m = AllByRecursion AreSorted m
 
-sorted_at : (m : Marking) (p : ℕ) → PlacesAreSorted m → AreSorted (tokens_at m p)
+pub sorted_at : (m : Marking) (p : ℕ) → PlacesAreSorted m → AreSorted (tokens_at m p)
 sorted_at [] zero all = tt
 sorted_at [] (suc p) all = tt
 sorted_at (ks ∷ m) zero all = all.0
