@@ -79,13 +79,10 @@ covered n m time e =
     let t = transition_at n e.transition in
     nat_lt e.transition (length n.transitions) && binds n t.vars e.binding && guard_holds t.guard e.binding && gives_and (needs_of t e.binding) (are_covered n m time)
 
--- the delay of a transition
-abbrev pub transition_delay : PlainTransition → PlainBinding → ℕ → Outcome ℕ
-transition_delay t b time = delay_value t.delay
-  where
-    delay_value : Option PlainExpr → Outcome ℕ
-    delay_value None = gives 0
-    delay_value (Some e) = meaning e b time >>= delay_of
+-- the delay of a transition; a missing one is 0
+abbrev pub transition_delay : Option PlainExpr → PlainBinding → ℕ → Outcome ℕ
+transition_delay None b time = gives 0
+transition_delay (Some e) b time = meaning e b time >>= delay_of
 
 -- the tokens that one output arc makes
 abbrev pub made_by : PlainNet → PlainBinding → ℕ → ℕ → PlainArc → Outcome (List Made)
@@ -98,7 +95,7 @@ made_by n b time delay arc = do
 unfoldable pub outputs_of : PlainNet → PlainElement → ℕ → Outcome (List Made)
 outputs_of n e time =
     let t = transition_at n e.transition in
-    transition_delay t e.binding time >>= (λ delay. gather (made_by n e.binding time delay) t.outputs)
+    transition_delay t.delay e.binding time >>= (λ delay. gather (made_by n e.binding time delay) t.outputs)
 
 -- a marking less the needs at a time: for each need in turn, the token of its value on its place with the
 -- largest stamp that is not above its threshold is taken

@@ -1,0 +1,32 @@
+//! The events of a run, its limits and its ends.
+
+/// An event of a run.
+///
+/// Source: own choice.
+#[derive(Clone, Copy, Debug, PartialEq, Eq)]
+pub enum Event {
+    /// A seat claims an enabled element under the next number, from 0.
+    Claim { seat: u32, number: u64 },
+    /// A seat completes the claim of this number with its outputs.
+    Done { seat: u32, number: u64 },
+}
+
+/// The limits of a run.
+#[derive(Clone, Copy, Debug, PartialEq, Eq)]
+pub struct Limits {
+    /// How many claims the run may make: 1 to 1,000,000.
+    pub steps: u64,
+    /// The last time that the run may reach: 0 to 2^62.
+    pub until: u64,
+    /// How many seats make claims: 1 to 64.
+    pub seats: u32,
+}
+
+/// The cause of a run's end, in the order in which they are tried.
+#[derive(Clone, Copy, Debug, PartialEq, Eq)]
+pub enum End {
+    /// As many claims were made as the limit allows.
+    Steps,
+    /// No binding element is enabled at any time.
+    Dead,
+}

@@ -1,0 +1,152 @@
+-- The report of a run, line by line. Source: own choice.
+use Rattle.std.specs.Prelude.{ℕ, suc, ◌+◌, Bool, true, false, ◌&&◌, ◌==◌, if◌then◌else◌, ℤ, pos, negsuc, List, [], ◌∷◌, ◌++◌, length, map, codes, Option, Some, None}
+use Rattle.std.specs.List.{concat, flat_map}
+use Rattle.std.specs.Fmt.{decimal}
+use Rattle.cpn_definitions.specs.Value.{PlainValue, unit, boolean, int, constant, text, tuple, bare, applied, list}
+use Rattle.cpn_definitions.specs.Order.{same_value}
+use Rattle.cpn_definitions.specs.Marking.{PlainToken, Tokens, Marking}
+use Rattle.cpn_definitions.specs.Net.{Coloured, PlainNet, variable_at, transition_at}
+use Rattle.cpn_definitions.specs.Meaning.{PlainBinding}
+use Rattle.cpn_definitions.specs.Occurrence.{PlainElement}
+use Rattle.cpn_definitions.specs.State.{PlainEvent, claim_made, claim_completed, PlainEnd, dead, steps_made, PlainOccurrence}
+use Rattle.cpn_definitions.specs.Run.{PlainOutcome, Outlook}
+
+-- an integer, with ~ in front of a negative one
+abbrev pub int_text : ℤ → List ℕ
+int_text (pos n) = decimal n
+int_text (negsuc n) = codes "~" ++ decimal (suc n)
+
+-- A value. The values of other colour sets than that of the integers are not printed yet.
+abbrev pub value_text : PlainValue → List ℕ
+value_text (int z) = int_text z
+value_text unit = []
+value_text (boolean b) = []
+value_text (constant k) = []
+value_text (text bytes) = []
+value_text (tuple vs) = []
+value_text (bare k) = []
+value_text (applied k v) = []
+value_text (list vs) = []
+
+-- the texts, with one between each two
+abbrev pub joined : List ℕ → List (List ℕ) → List ℕ
+joined between [] = []
+joined between (t ∷ []) = t
+joined between (t ∷ u ∷ us) = t ++ between ++ joined between (u ∷ us)
+
+-- a variable with its value
+abbrev pub pair_text : PlainNet → ℕ × PlainValue → List ℕ
+pair_text n pair = (variable_at n pair.0).name ++ codes "=" ++ value_text pair.1
+
+-- a binding, in declaration order of the variables
+unfoldable pub binding_text : PlainNet → PlainBinding → List ℕ
+binding_text n b = codes "{" ++ joined (codes ", ") (map (pair_text n) b) ++ codes "}"
+
+-- a binding element: the transition's flattened name, a space, the binding
+unfoldable pub element_text : PlainNet → PlainElement → List ℕ
+element_text n e = (transition_at n e.transition).name ++ codes " " ++ binding_text n e.binding
+
+-- a time that may be missing
+abbrev pub time_text : Option ℕ → List ℕ
+time_text None = codes "none"
+time_text (Some time) = decimal time
+
+-- the first line of each report
+unfoldable pub report_line : List ℕ
+report_line = codes "report 1\n"
+
+-- the first line of a run: its number, that it starts from the initial marking, its clock, and its outlook
+unfoldable pub run_line : ℕ → ℕ → Outlook → List ℕ
+run_line number clock outlook =
+    codes "run " ++ decimal number ++ codes " initial " ++ decimal clock ++ codes " ready " ++ decimal outlook.ready_count ++ codes " next " ++ time_text outlook.next ++ codes "\n"
+
+-- the line of an occurrence: the number of its claim, its time, its element
+unfoldable pub occurrence_line : PlainNet → PlainOccurrence → List ℕ
+occurrence_line n o = codes "occ " ++ decimal o.number ++ codes " @" ++ decimal o.time ++ codes " " ++ element_text n o.element ++ codes "\n"
+
+-- an event: c for a claim, d for a completion, with the claim's number
+abbrev pub event_text : PlainEvent → List ℕ
+event_text (claim_made seat number) = codes " c" ++ decimal number
+event_text (claim_completed seat number) = codes " d" ++ decimal number
+
+-- the line of the run's journal
+unfoldable pub schedule_line : List PlainEvent → List ℕ
+schedule_line events = codes "schedule" ++ flat_map event_text events ++ codes "\n"
+
+-- the cause of the run's end
+abbrev pub cause_text : PlainEnd → List ℕ
+cause_text dead = codes "dead"
+cause_text steps_made = codes "steps"
+
+unfoldable pub end_line : PlainEnd → List ℕ
+end_line cause = codes "end " ++ cause_text cause ++ codes "\n"
+
+unfoldable pub occurrences_line : ℕ → List ℕ
+occurrences_line count = codes "occurrences " ++ decimal count ++ codes "\n"
+
+unfoldable pub clock_line : ℕ → List ℕ
+clock_line clock = codes "clock " ++ decimal clock ++ codes "\n"
+
+-- Equal tokens that stand together, and how many there are.
+pub record Group : Type 0 where
+  pub token : PlainToken
+  pub count : ℕ
+
+abbrev pub same_token : PlainToken → PlainToken → Bool
+same_token t u = same_value t.value u.value && (t.stamp == u.stamp)
+
+-- groups with one more token in front
+abbrev pub grouped_with : PlainToken → List Group → List Group
+grouped_with t [] = record { token = t; count = 1 } ∷ []
+grouped_with t (g ∷ gs) = if same_token t g.token then record { token = g.token; count = g.count + 1 } ∷ gs else record { token = t; count = 1 } ∷ g ∷ gs
+
+-- the tokens of a place, equal ones counted
+abbrev pub groups : Tokens → List Group
+groups [] = []
+groups (t ∷ ts) = grouped_with t (groups ts)
+
+-- so many tokens of a value, and their stamp where the place is timed
+abbrev pub group_text : Bool → Group → List ℕ
+group_text timed g = decimal g.count ++ codes "`" ++ value_text g.token.value ++ (if timed then codes "@" ++ decimal g.token.stamp else [])
+
+abbrev pub tokens_text : Bool → Tokens → List ℕ
+tokens_text timed [] = codes "empty"
+tokens_text timed (t ∷ ts) = joined (codes " ++ ") (map (group_text timed) (groups (t ∷ ts)))
+
+-- the line of a place: its flattened name and its tokens
+unfoldable pub place_line : Coloured → Tokens → List ℕ
+place_line place tokens = codes "place " ++ place.name ++ codes " " ++ tokens_text place.colour.timed tokens ++ codes "\n"
+
+-- a line for each place, in order
+abbrev pub place_lines : List Coloured → Marking → List ℕ
+place_lines [] m = []
+place_lines (place ∷ places) [] = []
+place_lines (place ∷ places) (tokens ∷ m) = place_line place tokens ++ place_lines places m
+
+unfoldable pub ready_line : ℕ → List ℕ
+ready_line count = codes "ready " ++ decimal count ++ codes "\n"
+
+unfoldable pub next_line : Option ℕ → List ℕ
+next_line time = codes "next " ++ time_text time ++ codes "\n"
+
+unfoldable pub total_line : ℕ → List ℕ
+total_line count = codes "total " ++ decimal count ++ codes "\n"
+
+-- The lines of one run: what it starts from, its occurrences, its journal, its end, its last clock and
+-- marking, and what is ready and next then.
+unfoldable pub run_text : PlainNet → ℕ → ℕ → Outlook → PlainOutcome → Outlook → List ℕ
+run_text n number clock opening outcome closing =
+    run_line number clock opening
+    ++ flat_map (occurrence_line n) outcome.occurrences
+    ++ schedule_line outcome.journal
+    ++ end_line outcome.cause
+    ++ occurrences_line (length outcome.occurrences)
+    ++ clock_line outcome.clock
+    ++ place_lines n.places outcome.marking
+    ++ ready_line closing.ready_count
+    ++ next_line closing.next
+
+-- Text: the report of one run.
+unfoldable pub report_text : PlainNet → ℕ → Outlook → PlainOutcome → Outlook → List ℕ
+report_text n clock opening outcome closing =
+    report_line ++ run_text n 0 clock opening outcome closing ++ total_line (length outcome.occurrences)

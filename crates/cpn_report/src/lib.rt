@@ -1,0 +1,2 @@
+//! The report of a run, as text.
+#![tactic(auto)]
