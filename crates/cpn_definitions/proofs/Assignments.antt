@@ -9,7 +9,7 @@ use Rattle.std.proofs.lemmas.Cmp.{upto, tied_itself, lists_total}
 use Rattle.cpn_definitions.specs.Value.{PlainValue}
 use Rattle.cpn_definitions.specs.Order.{value_cmp, same_value}
 use Rattle.cpn_definitions.specs.Colour.{admits}
-use Rattle.cpn_definitions.specs.Marking.{PlainToken, Tokens, Marking, token_cmp, MayPrecede, AreSorted}
+use Rattle.cpn_definitions.specs.Marking.{PlainToken, Tokens, Marking, token_cmp, is_taken_by, MayPrecede, AreSorted}
 use Rattle.cpn_definitions.specs.Net.{PlainArc, PlainNet, variable_at}
 use Rattle.cpn_definitions.specs.Meaning.{PlainBinding}
 use Rattle.cpn_definitions.specs.Occurrence.{tokens_at}
@@ -29,9 +29,9 @@ abbrev pub values_passing : (PlainValue → Bool) → Tokens → List PlainValue
 values_passing keep [] = []
 values_passing keep (k ∷ ks) = cond (is_last_of k ks && keep k.value) (k.value ∷ values_passing keep ks) (values_passing keep ks)
 
--- whether the tokens have one of the value
+-- whether one of the tokens has the value and the stamp 0, as all tokens of an untimed place have
 abbrev pub has_value : PlainValue → Tokens → Bool
-has_value v ks = list_any (λ token. same_value v token.value) ks
+has_value v ks = list_any (is_taken_by v 0) ks
 
 -- the place of the first arc that binds the variable
 abbrev pub first_place : ℕ → List PlainArc → ℕ
@@ -160,7 +160,11 @@ later_value b x v w h = extended_cmp b b x v w refl ∙ ap (λ o. ordering_then 
 later_binding : (b c : PlainBinding) (x : ℕ) (v w : PlainValue) → length b ≡ length c → binding_cmp b c ≡ Less → binding_cmp (b ++ (x, v) ∷ []) (c ++ (x, w) ∷ []) ≡ Less
 later_binding b c x v w same h = extended_cmp b c x v w same ∙ ap (λ o. ordering_then o (value_cmp v w)) h
 
--- bindings of one length that rise still rise with rising values for one more variable
+-- The bindings are in order, and each binds so many variables.
+pub record AreInOrder (k : ℕ) (bs : List PlainBinding) : Type 0 where
+  pub long : AllByRecursion (λ b. length b ≡ k) bs
+  pub rise : Rises binding_cmp bs
+
 extended_rise : (x : ℕ) (vs : List PlainValue) (k : ℕ) (bs : List PlainBinding) → Rises value_cmp vs → AllByRecursion (λ b. length b ≡ k) bs → Rises binding_cmp bs → Rises binding_cmp (flat_map (extended x vs) bs)
 extended_rise x vs k bs values long rise =
     rises_flat (λ b. length b ≡ k) binding_cmp binding_cmp (extended x vs) bs
@@ -181,11 +185,14 @@ extended_long x vs k bs long =
     (each_implied (λ b. length b ≡ k) (λ b. AllByRecursion (λ c. length c ≡ suc k) (extended x vs b)) bs
     (λ b h. each_mapped (λ c. length c ≡ suc k) (λ v. b ++ (x, v) ∷ []) vs (each_in (λ v. length (b ++ (x, v) ∷ []) ≡ suc k) vs (λ v _. one_longer b (x, v) k h))) long)
 
--- assignments rise where the values of each variable do
-pub assignments_rise : (values : ℕ → List PlainValue) → ((x : ℕ) → Rises value_cmp (values x)) → (xs : List ℕ) (k : ℕ) (bs : List PlainBinding) → AllByRecursion (λ b. length b ≡ k) bs → Rises binding_cmp bs → Rises binding_cmp (assignments values xs bs)
-assignments_rise values each [] k bs long rise = rise
-assignments_rise values each (x ∷ xs) k bs long rise =
-    assignments_rise values each xs (suc k) (flat_map (extended x (values x)) bs) (extended_long x (values x) k bs long) (extended_rise x (values x) k bs (each x) long rise)
+-- the binding of no variable is in order, and bindings in order still are with rising values for one more variable
+pub first_in_order : AreInOrder 0 ([] ∷ [])
+first_in_order = record { long = (refl, tt); rise = (tt, tt) }
+
+pub more_in_order : (x : ℕ) (vs : List PlainValue) (k : ℕ) (bs : List PlainBinding) → Rises value_cmp vs → AreInOrder k bs → AreInOrder (k + 1) (flat_map (extended x vs) bs)
+more_in_order x vs k bs values before =
+    let next : suc k ≡ k + 1 = omega arith in
+    subst (λ (j : ℕ). AreInOrder j (flat_map (extended x vs) bs)) next (record { long = extended_long x vs k bs before.long; rise = extended_rise x vs k bs values before.long before.rise })
 
 -- ---- none is left out
 

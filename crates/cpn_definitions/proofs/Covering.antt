@@ -1,8 +1,7 @@
--- Whether the needs of a transition are covered, arc by arc: on sorted tokens, each arc's inscription has a
--- value, and at least as many tokens of it with a stamp that is not above the threshold stand on its place
--- as arcs need one.
-use Rattle.std.proofs.Common.{◌≡◌, ℕ, zero, suc, ◌+◌, ◌==◌, Bool, true, false, cond, ◌&&◌, nat_le, List, [], ◌∷◌, ◌++◌, map, replicate, count_by, Option, Some, None, refl, sym, ap, ap₂, ◌∙◌, subst, arith}
-use Rattle.std.specs.List.{filter, list_all, flat_map, AllByRecursion}
+-- Whether the needs of a transition are covered, arc by arc: each arc's inscription has a value, and the
+-- stamps of that value on its place cover the threshold as many times as arcs need a token of it there.
+use Rattle.std.proofs.Common.{◌≡◌, ℕ, zero, suc, ◌+◌, ◌==◌, Bool, true, false, cond, ◌&&◌, ◌||◌, nat_lt, nat_le, List, [], ◌∷◌, ◌++◌, map, replicate, count_by, Option, Some, None, refl, sym, ap, ap₂, ◌∙◌, subst, arith}
+use Rattle.std.specs.List.{filter, list_all, list_any, flat_map, AllByRecursion}
 use Rattle.std.specs.Option.{MatchOption}
 use Rattle.std.proofs.lemmas.Bool.{and_parts}
 use Rattle.std.proofs.lemmas.Bool.Decides.{nat_tests}
@@ -15,7 +14,7 @@ use Rattle.cpn_definitions.specs.Net.{PlainExpr, PlainMultiset, one, PlainArc, P
 use Rattle.cpn_definitions.specs.Meaning.{PlainBinding, Outcome, gives, faults, no_meaning, not_in_colour, gives_and, meaning, in_colour, PlainTerm, gather, ◌>>=◌}
 use Rattle.cpn_definitions.specs.Occurrence.{Needed, tokens_at, is_timed, needed_by, needs_of, threshold, same_need, thresholds, are_covered}
 use Rattle.cpn_definitions.proofs.Stamps.{covers_count}
-use Rattle.cpn_definitions.proofs.SearchLaws.{token_of, PlacesAreSorted, sorted_at}
+use Rattle.cpn_definitions.proofs.SearchLaws.{token_of}
 
 -- ---- what is counted
 
@@ -46,10 +45,10 @@ needs_one b place v arc = (place == arc.place) && is_value v (token_value b arc)
 abbrev pub latest : PlainNet → ℕ → ℕ → ℕ
 latest n time place = cond (is_timed n place) time 0
 
--- whether as many tokens of the value stand on the place as arcs need one
+-- whether the tokens of the value on the place cover as many needs as arcs have one
 abbrev pub has_enough : PlainNet → Marking → ℕ → PlainBinding → List PlainArc → ℕ → Option PlainValue → Bool
 has_enough n m time b arcs place None = false
-has_enough n m time b arcs place (Some v) = nat_le (count_by (needs_one b place v) arcs) (count_by (is_taken_by v (latest n time place)) (tokens_at m place))
+has_enough n m time b arcs place (Some v) = covers (stamps v (tokens_at m place)) (replicate (count_by (needs_one b place v) arcs) (latest n time place))
 
 -- whether the inscription of an arc has a value, and there are enough tokens of it
 abbrev pub is_met : PlainNet → Marking → ℕ → PlainBinding → List PlainArc → PlainArc → Bool
@@ -58,7 +57,7 @@ is_met n m time b arcs arc = has_enough n m time b arcs arc.place (token_value b
 -- ---- the needs of arcs
 
 -- what an outcome gives, if it gives something
-abbrev what_it_gives : {A : Type 0} → Outcome A → Option A
+abbrev pub what_it_gives : {A : Type 0} → Outcome A → Option A
 what_it_gives (gives x) = Some x
 what_it_gives (faults fault) = None
 what_it_gives no_meaning = None
@@ -165,11 +164,9 @@ thresholds_are n time b need (arc ∷ arcs) needs is =
 abbrev is_covered_among : PlainNet → Marking → ℕ → List Needed → Needed → Bool
 is_covered_among n m time needs need = covers (stamps need.value (tokens_at m need.place)) (thresholds n time need needs)
 
-need_is_met : (n : PlainNet) (m : Marking) (time : ℕ) (b : PlainBinding) (arcs : List PlainArc) (needs : List Needed) → PlacesAreSorted m → needs_from b arcs ≡ Some needs → (arc : PlainArc) (v : PlainValue)
+need_is_met : (n : PlainNet) (m : Marking) (time : ℕ) (b : PlainBinding) (arcs : List PlainArc) (needs : List Needed) → needs_from b arcs ≡ Some needs → (arc : PlainArc) (v : PlainValue)
     → is_covered_among n m time needs (token_of arc v) ≡ has_enough n m time b arcs arc.place (Some v)
-need_is_met n m time b arcs needs sorted is arc v =
-    ap (covers (stamps v (tokens_at m arc.place))) (thresholds_are n time b (token_of arc v) arcs needs is)
-    ∙ covers_count v (latest n time arc.place) (count_by (needs_one b arc.place v) arcs) (tokens_at m arc.place) (sorted_at m arc.place sorted)
+need_is_met n m time b arcs needs is arc v = ap (covers (stamps v (tokens_at m arc.place))) (thresholds_are n time b (token_of arc v) arcs needs is)
 
 -- a test of each need is the same test of each arc
 each_need : (b : PlainBinding) (test : Needed → Bool) (met : ℕ → Option PlainValue → Bool) → ((arc : PlainArc) (v : PlainValue) → test (token_of arc v) ≡ met arc.place (Some v)) → (ks : List PlainArc) (needs : List Needed) → needs_from b ks ≡ Some needs
@@ -201,12 +198,29 @@ none_need b met fails (k ∷ ks) is = by_value (token_value b k) (needs_from b k
     by_value (Some v) (Some ys) from is' rest = cc
 
 -- the needs of a transition are covered where the test of each input arc is met
-pub needs_are_met : (n : PlainNet) (m : Marking) (time : ℕ) (tr : PlainTransition) (b : PlainBinding) → PlacesAreSorted m → gives_and (needs_of tr b) (are_covered n m time) ≡ list_all (is_met n m time b tr.inputs) tr.inputs
+pub needs_are_met : (n : PlainNet) (m : Marking) (time : ℕ) (tr : PlainTransition) (b : PlainBinding) → gives_and (needs_of tr b) (are_covered n m time) ≡ list_all (is_met n m time b tr.inputs) tr.inputs
 unfolding needs_of
-needs_are_met n m time tr b sorted =
+needs_are_met n m time tr b =
     gives_and_is (gather (needed_by b) tr.inputs) (are_covered n m time) ∙ ap (λ o. has_and o (are_covered n m time)) (needs_are b tr.inputs) ∙ by_needs (needs_from b tr.inputs) refl
   where
     by_needs : (o : Option (List Needed)) → needs_from b tr.inputs ≡ o → has_and o (are_covered n m time) ≡ list_all (is_met n m time b tr.inputs) tr.inputs
     by_needs None is = sym (none_need b (has_enough n m time b tr.inputs) (λ place. refl) tr.inputs is)
     by_needs (Some needs) is =
-        each_need b (is_covered_among n m time needs) (has_enough n m time b tr.inputs) (need_is_met n m time b tr.inputs needs sorted is) tr.inputs needs is
+        each_need b (is_covered_among n m time needs) (has_enough n m time b tr.inputs) (need_is_met n m time b tr.inputs needs is) tr.inputs needs is
+
+-- among sorted tokens of a value, there are enough where at least as many have a stamp that is not above the latest
+pub enough_counted : (n : PlainNet) (m : Marking) (time : ℕ) (b : PlainBinding) (arcs : List PlainArc) (place : ℕ) (v : PlainValue) → AreSorted (tokens_at m place)
+    → has_enough n m time b arcs place (Some v) ≡ nat_le (count_by (needs_one b place v) arcs) (count_by (is_taken_by v (latest n time place)) (tokens_at m place))
+enough_counted n m time b arcs place v sorted = covers_count v (latest n time place) (count_by (needs_one b place v) arcs) (tokens_at m place) sorted
+
+-- a list has one that passes exactly where those that pass are some
+pub some_counted : {X : Type 0} (p : X → Bool) (xs : List X) → list_any p xs ≡ nat_lt 0 (count_by p xs)
+some_counted p [] = refl
+some_counted p (x ∷ xs) = split (p x) (some_counted p xs) ∙ ap (nat_lt 0) (sym (count_cons p x xs))
+  where
+    split : (b : Bool) → list_any p xs ≡ nat_lt 0 (count_by p xs) → (b || list_any p xs) ≡ nat_lt 0 (cond b 1 0 + count_by p xs)
+    split true rest = grind (arith, nat_tests)
+    split false rest = rest ∙ ap (nat_lt 0) (none (count_by p xs))
+      where
+        none : (k : ℕ) → k ≡ 0 + k
+        none k = omega arith

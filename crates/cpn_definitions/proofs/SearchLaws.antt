@@ -9,16 +9,16 @@ use Rattle.std.proofs.lemmas.Cmp.{tied_itself, nat_cmp_total}
 use Rattle.cpn_definitions.specs.Value.{PlainValue}
 use Rattle.cpn_definitions.specs.Order.{value_cmp, same_value}
 use Rattle.cpn_definitions.specs.Colour.{PlainColour, admits}
-use Rattle.cpn_definitions.specs.Marking.{PlainToken, Tokens, Marking, AreSorted, stamps, covers}
+use Rattle.cpn_definitions.specs.Marking.{PlainToken, Tokens, Marking, stamps, covers, is_taken_by}
 use Rattle.cpn_definitions.specs.Net.{PlainExpr, literal, variable, PlainMultiset, one, PlainArc, PlainTransition, PlainNet, no_transition, variable_at, transition_at}
 use Rattle.cpn_definitions.specs.Meaning.{PlainBinding, Outcome, gives, faults, no_meaning, not_in_colour, gives_and, bound_value, given, meaning, in_colour, PlainTerm, terms_of, gather, ◌>>=◌}
 use Rattle.cpn_definitions.specs.Occurrence.{PlainElement, Needed, tokens_at, binds, guard_holds, needed_by, needs_of, threshold, same_need, thresholds, are_covered, covered}
 use Rattle.cpn_definitions.specs.Enabled.{PlainEntry, PlainFound, element_cmp, IsIncreasing, IsEarliest, entries_of, EnabledOf}
 use Rattle.cpn_definitions.specs.Sound.{is_sound, is_sound_transition, is_sound_arc, is_bound_by, are_increasing, has_no_guard}
 use Rattle.cpn_definitions.proofs.Comparing.{same_value_true, same_value_refl}
-use Rattle.cpn_definitions.proofs.Untimed.{covered_at_any_time}
-use Rattle.cpn_definitions.proofs.Rising.{IsIn, Rises, in_from_contains, contains_from_in, in_append_left, in_append_right, in_map, in_map_from, in_filter, in_filter_from, passes_at, all_pass, some_passes, one_that_passes, rises_filtered, rises_mapped}
-use Rattle.cpn_definitions.proofs.Assignments.{has_value, values_passing, first_place, is_candidate, candidates, assignments, AreAssigned, binding_cmp, values_rise, value_passes, assignments_rise, assignments_have}
+use Rattle.cpn_definitions.proofs.Untimed.{threshold_is_zero, covered_at_any_time}
+use Rattle.cpn_definitions.proofs.Rising.{IsIn, Rises, in_from_contains, contains_from_in, in_append_left, in_append_right, in_map, in_map_from, in_filter, in_filter_from, passes_at, all_pass, some_passes, one_that_passes, each_in, each_mapped, rises_filtered, rises_mapped}
+use Rattle.cpn_definitions.proofs.Assignments.{has_value, first_place, is_candidate, candidates, assignments, AreAssigned, binding_cmp, value_passes, assignments_have}
 
 -- ---- what is found
 
@@ -154,24 +154,28 @@ gathered {A} f (k ∷ arcs) arc xs is h =
     | inr g ↦ (let rest = gathered f arcs arc second.0 second.1 g in (rest.0, rest.1, λ y there. subst (IsIn y) joined (in_append_right first.0 second.0 y (rest.2 y there))))
     ]
 
--- where thresholds are covered by the stamps of a value, and there is one, the value stands on the place
-value_stands : (v : PlainValue) (ks : Tokens) (r : ℕ) (rs : List ℕ) → covers (stamps v ks) rs ≡ true → IsIn r rs → has_value v ks ≡ true
-value_stands v ks r [] is h = absurd h
-value_stands v [] r (s ∷ rs) is h = cc
-value_stands v (k ∷ ks) r (s ∷ rs) is h = split (value_stands v ks s (s ∷ rs)) (same_value v k.value) is
+-- where thresholds of 0 are covered by the stamps of a value, and there is one, the value stands on the place
+value_stands : (v : PlainValue) (ks : Tokens) (r : ℕ) (rs : List ℕ) → AllByRecursion (λ (k : ℕ). k ≡ 0) rs → covers (stamps v ks) rs ≡ true → IsIn r rs → has_value v ks ≡ true
+value_stands v ks r [] zeros is h = absurd h
+value_stands v [] r (s ∷ rs) zeros is h = cc
+value_stands v (k ∷ ks) r (s ∷ rs) zeros is h = split (value_stands v ks s (s ∷ rs) zeros) (same_value v k.value) is
   where
-    split : (covers (stamps v ks) (s ∷ rs) ≡ true → IsIn s (s ∷ rs) → has_value v ks ≡ true) → (b : Bool) → covers (cond b (k.stamp ∷ stamps v ks) (stamps v ks)) (s ∷ rs) ≡ true → (b || has_value v ks) ≡ true
-    split rest true is' = refl
+    is_first : nat_le k.stamp s ≡ true → nat_le k.stamp 0 ≡ true
+    is_first le = ap (nat_le k.stamp) (sym zeros.0) ∙ le
+
+    split : (covers (stamps v ks) (s ∷ rs) ≡ true → IsIn s (s ∷ rs) → has_value v ks ≡ true) → (b : Bool) → covers (cond b (k.stamp ∷ stamps v ks) (stamps v ks)) (s ∷ rs) ≡ true → ((b && nat_le k.stamp 0) || has_value v ks) ≡ true
+    split rest true is' = ap (λ c. c || has_value v ks) (is_first (and_parts (nat_le k.stamp s) (covers (stamps v ks) rs) is').0)
     split rest false is' = rest is' (inl refl)
 
 need_itself : (need : Needed) → same_need need need ≡ true
 need_itself need = rw (number_itself need.place, same_value_refl need.value) refl
 
 -- the value of a need that is covered stands on its place
-needed_stands : (n : PlainNet) (m : Marking) (time : ℕ) (needs : List Needed) (need : Needed) → are_covered n m time needs ≡ true → IsIn need needs → has_value need.value (tokens_at m need.place) ≡ true
-needed_stands n m time needs need all h =
+needed_stands : (n : PlainNet) (m : Marking) (time : ℕ) (needs : List Needed) (need : Needed) → is_sound n ≡ true → are_covered n m time needs ≡ true → IsIn need needs → has_value need.value (tokens_at m need.place) ≡ true
+needed_stands n m time needs need sound all h =
     let at = passes_at (λ need. covers (stamps need.value (tokens_at m need.place)) (thresholds n time need needs)) needs need all h in
-    value_stands need.value (tokens_at m need.place) (threshold n time need) (thresholds n time need needs) at
+    let zeros = each_mapped (λ (k : ℕ). k ≡ 0) (threshold n time) (filter (same_need need) needs) (each_in (λ other. threshold n time other ≡ 0) (filter (same_need need) needs) (λ other _. threshold_is_zero n time other sound)) in
+    value_stands need.value (tokens_at m need.place) (threshold n time need) (thresholds n time need needs) zeros at
     (in_map (threshold n time) (filter (same_need need) needs) need (in_filter (same_need need) needs need h (need_itself need)))
 
 in_colour_is : (colour : PlainColour) (v w : PlainValue) → in_colour colour v ≡ gives w → v ≡ w
@@ -209,13 +213,13 @@ bound_needs b arc x v ys by is gives_it = by_expr arc.expr by gives_it
 
 -- where each of the needs is covered, the value of a variable stands on the place of each arc that it binds
 stands_where_bound : (n : PlainNet) (m : Marking) (time : ℕ) (tr : PlainTransition) (b : PlainBinding) (x : ℕ) (v : PlainValue)
-    → gives_and (needs_of tr b) (are_covered n m time) ≡ true → bound_value x b ≡ Some v
+    → is_sound n ≡ true → gives_and (needs_of tr b) (are_covered n m time) ≡ true → bound_value x b ≡ Some v
     → (arc : PlainArc) → IsIn arc tr.inputs → is_bound_by x arc.expr ≡ true → has_value v (tokens_at m arc.place) ≡ true
 unfolding needs_of
-stands_where_bound n m time tr b x v all is arc h by =
+stands_where_bound n m time tr b x v sound all is arc h by =
     let needs = gives_and_parts (gather (needed_by b) tr.inputs) (are_covered n m time) all in
     let of_arc = gathered (needed_by b) tr.inputs arc needs.0 needs.1 h in
-    needed_stands n m time needs.0 (token_of arc v) needs.2 (of_arc.2 (token_of arc v) (bound_needs b arc x v of_arc.0 by is of_arc.1))
+    needed_stands n m time needs.0 (token_of arc v) sound needs.2 (of_arc.2 (token_of arc v) (bound_needs b arc x v of_arc.0 by is of_arc.1))
 
 first_place_is : (x : ℕ) (arcs : List PlainArc) → list_any (λ arc. is_bound_by x arc.expr) arcs ≡ true → (arc : PlainArc) × IsIn arc arcs × (is_bound_by x arc.expr ≡ true) × (first_place x arcs ≡ arc.place)
 first_place_is x [] any = cc
@@ -240,8 +244,8 @@ is_candidate_from n m arcs x v fits stands = rw fits (all_pass (λ arc. not (is_
 
 in_candidates : (n : PlainNet) (m : Marking) (arcs : List PlainArc) (x : ℕ) (v : PlainValue) → is_candidate n m arcs x v ≡ true → has_value v (tokens_at m (first_place x arcs)) ≡ true → IsIn v (candidates n m arcs x)
 in_candidates n m arcs x v is stands =
-    let token = one_that_passes (λ (token : PlainToken). same_value v token.value) (tokens_at m (first_place x arcs)) stands in
-    let same = same_value_true v token.0.value token.2 in
+    let token = one_that_passes (is_taken_by v 0) (tokens_at m (first_place x arcs)) stands in
+    let same = same_value_true v token.0.value (and_parts (same_value v token.0.value) (nat_le token.0.stamp 0) token.2).0 in
     subst (λ w. IsIn w (candidates n m arcs x)) (sym same) (value_passes (is_candidate n m arcs x) (tokens_at m (first_place x arcs)) token.0 token.1 (ap (is_candidate n m arcs x) (sym same) ∙ is))
 
 -- a binding that is covered at some time is among those that are tried
@@ -252,27 +256,12 @@ covered_is_tried n m time t b sound is =
     let of_net = sound_parts n t sound parts.0 in
     let each : (p : ℕ × PlainValue) → IsIn p b → IsIn p.1 (candidates n m tr.inputs p.0) = λ p h.
         (let pair = pair_is_of n tr.vars b p parts.1 h in
-        let stands = stands_where_bound n m time tr b p.0 p.1 parts.2 (pair_is_bound n tr.vars b p of_net.0 parts.1 h) in
+        let stands = stands_where_bound n m time tr b p.0 p.1 sound parts.2 (pair_is_bound n tr.vars b p of_net.0 parts.1 h) in
         let first = first_place_is p.0 tr.inputs (passes_at (λ x. list_any (λ arc. is_bound_by x arc.expr) tr.inputs) tr.vars p.0 of_net.1 pair.0) in
         in_candidates n m tr.inputs p.0 p.1 (is_candidate_from n m tr.inputs p.0 p.1 pair.1 stands) (subst (λ place. has_value p.1 (tokens_at m place) ≡ true) (sym first.3) (stands first.0 first.1 first.2))) in
     assignments_have (candidates n m tr.inputs) tr.vars b [] ([] ∷ []) (inl refl) (are_assigned n (candidates n m tr.inputs) tr.vars b parts.1 each)
 
 -- ---- the covered ones are the enabled bindings
-
--- each place's tokens are sorted
-abbrev pub PlacesAreSorted : Marking → Type 0
-PlacesAreSorted m = AllByRecursion AreSorted m
-
-pub sorted_at : (m : Marking) (p : ℕ) → PlacesAreSorted m → AreSorted (tokens_at m p)
-sorted_at [] zero all = tt
-sorted_at [] (suc p) all = tt
-sorted_at (ks ∷ m) zero all = all.0
-sorted_at (ks ∷ m) (suc p) all = sorted_at m p all.1
-
-pub tried_rise : (n : PlainNet) (m : Marking) (t : ℕ) → PlacesAreSorted m → Rises binding_cmp (tried n m t)
-tried_rise n m t sorted =
-    let tr = transition_at n t in
-    assignments_rise (candidates n m tr.inputs) (λ x. values_rise (is_candidate n m tr.inputs x) (tokens_at m (first_place x tr.inputs)) (sorted_at m (first_place x tr.inputs) sorted)) tr.vars 0 ([] ∷ []) (refl, tt) (tt, tt)
 
 abbrev pub entry_cmp : PlainEntry → PlainEntry → Ordering
 entry_cmp x y = element_cmp x.element y.element
@@ -312,10 +301,11 @@ entries_are t bs x h =
     let b = in_map_from (λ b. record { binding = b; earliest = 0 }) bs f.0 f.1 in
     (b.0, b.1, ap (λ (f : PlainFound). record { earliest = f.earliest; element = element_of t f.binding }) b.2 ∙ f.2)
 
--- a search that keeps those of the assignments that are covered finds the enabled bindings of the transition
-pub search_finds : (n : PlainNet) (m : Marking) (t : ℕ) → is_sound n ≡ true → PlacesAreSorted m → EnabledOf n m t (found_now (covered_ones n m t (tried n m t)))
-search_finds n m t sound sorted = record {
-  in_order = found_in_order t (covered_ones n m t (tried n m t)) (rises_filtered binding_cmp (λ b. covered n m 0 (element_of t b)) (tried n m t) (tried_rise n m t sorted));
+-- a search that keeps those of the assignments that are covered finds the enabled bindings of the transition, where
+-- the assignments come in order
+pub search_finds : (n : PlainNet) (m : Marking) (t : ℕ) → is_sound n ≡ true → Rises binding_cmp (tried n m t) → EnabledOf n m t (found_now (covered_ones n m t (tried n m t)))
+search_finds n m t sound rise = record {
+  in_order = found_in_order t (covered_ones n m t (tried n m t)) (rises_filtered binding_cmp (λ b. covered n m 0 (element_of t b)) (tried n m t) rise);
   exact = λ x. (is_enabled x, is_found x);
 }
   where

@@ -1,0 +1,2 @@
+pub mod TokensView
+pub mod Finds

@@ -1,0 +1,1 @@
+pub fn is_covered() -> bool { true }

@@ -1,0 +1,2 @@
+pub fn enabled_of() -> bool { true }
+pub fn enabled() -> bool { true }
