@@ -38,9 +38,13 @@ abbrev pub first_place : ℕ → List PlainArc → ℕ
 first_place x [] = 0
 first_place x (arc ∷ arcs) = cond (is_bound_by x arc.expr) arc.place (first_place x arcs)
 
--- whether the variable's colour set admits the value, and it stands on the place of each arc that binds the variable
+-- whether the value stands on the place of each arc that binds the variable
+abbrev pub stands_where_bound : Marking → ℕ → List PlainArc → PlainValue → Bool
+stands_where_bound m x arcs v = list_all (λ arc. not (is_bound_by x arc.expr) || has_value v (tokens_at m arc.place)) arcs
+
+-- whether it does, and the variable's colour set admits it
 abbrev pub is_candidate : PlainNet → Marking → List PlainArc → ℕ → PlainValue → Bool
-is_candidate n m arcs x v = admits (variable_at n x).colour v && list_all (λ arc. not (is_bound_by x arc.expr) || has_value v (tokens_at m arc.place)) arcs
+is_candidate n m arcs x v = admits (variable_at n x).colour v && stands_where_bound m x arcs v
 
 -- the values that a search gives a variable, in order
 abbrev pub candidates : PlainNet → Marking → List PlainArc → ℕ → List PlainValue

@@ -1,6 +1,6 @@
 -- Whether the needs of a transition are covered, arc by arc: each arc's inscription has a value, and the
 -- stamps of that value on its place cover the threshold as many times as arcs need a token of it there.
-use Rattle.std.proofs.Common.{◌≡◌, ℕ, zero, suc, ◌+◌, ◌==◌, Bool, true, false, cond, ◌&&◌, ◌||◌, nat_lt, nat_le, List, [], ◌∷◌, ◌++◌, map, replicate, count_by, Option, Some, None, refl, sym, ap, ap₂, ◌∙◌, subst, arith}
+use Rattle.std.proofs.Common.{◌≡◌, ℕ, zero, suc, ◌+◌, ◌==◌, Bool, true, false, cond, ◌&&◌, ◌||◌, nat_lt, nat_le, List, [], ◌∷◌, ◌++◌, map, length, replicate, count_by, Option, Some, None, refl, sym, ap, ap₂, ◌∙◌, subst, arith}
 use Rattle.std.specs.List.{filter, list_all, list_any, flat_map, AllByRecursion}
 use Rattle.std.specs.Option.{MatchOption}
 use Rattle.std.proofs.lemmas.Bool.{and_parts}
@@ -10,11 +10,11 @@ use Rattle.cpn_definitions.specs.Value.{PlainValue}
 use Rattle.cpn_definitions.specs.Order.{same_value}
 use Rattle.cpn_definitions.specs.Colour.{PlainColour, admits}
 use Rattle.cpn_definitions.specs.Marking.{PlainToken, Tokens, Marking, AreSorted, stamps, covers, is_taken_by}
-use Rattle.cpn_definitions.specs.Net.{PlainExpr, PlainMultiset, one, PlainArc, PlainTransition, PlainNet}
+use Rattle.cpn_definitions.specs.Net.{PlainExpr, PlainMultiset, one, PlainArc, PlainTransition, PlainNet, transition_at}
 use Rattle.cpn_definitions.specs.Meaning.{PlainBinding, Outcome, gives, faults, no_meaning, not_in_colour, gives_and, meaning, in_colour, PlainTerm, gather, ◌>>=◌}
-use Rattle.cpn_definitions.specs.Occurrence.{Needed, tokens_at, is_timed, needed_by, needs_of, threshold, same_need, thresholds, are_covered}
+use Rattle.cpn_definitions.specs.Occurrence.{Needed, tokens_at, is_timed, needed_by, needs_of, threshold, same_need, thresholds, are_covered, binds, guard_holds, covered}
 use Rattle.cpn_definitions.proofs.Stamps.{covers_count}
-use Rattle.cpn_definitions.proofs.SearchLaws.{token_of}
+use Rattle.cpn_definitions.proofs.SearchLaws.{token_of, element_of}
 
 -- ---- what is counted
 
@@ -224,3 +224,18 @@ some_counted p (x ∷ xs) = split (p x) (some_counted p xs) ∙ ap (nat_lt 0) (s
       where
         none : (k : ℕ) → k ≡ 0 + k
         none k = omega arith
+
+-- whether a transition is covered with a binding, arc by arc
+abbrev pub is_covered_with : PlainNet → Marking → ℕ → PlainTransition → PlainBinding → Bool
+is_covered_with n m time tr b = binds n tr.vars b && guard_holds tr.guard b && list_all (is_met n m time b tr.inputs) tr.inputs
+
+-- an element is covered exactly where its transition is one of the net's and is covered with the binding
+pub covered_is : (n : PlainNet) (m : Marking) (time t : ℕ) (b : PlainBinding) → covered n m time (element_of t b) ≡ (nat_lt t (length n.transitions) && is_covered_with n m time (transition_at n t) b)
+unfolding covered
+covered_is n m time t b =
+    let tr = transition_at n t in
+    ap (λ c. nat_lt t (length n.transitions) && binds n tr.vars b && guard_holds tr.guard b && c) (needs_are_met n m time tr b) ∙ regrouped (nat_lt t (length n.transitions)) (binds n tr.vars b) (guard_holds tr.guard b) _
+  where
+    regrouped : (a b c d : Bool) → (a && b && c && d) ≡ (a && (b && c && d))
+    regrouped true b c d = refl
+    regrouped false b c d = refl

@@ -14,7 +14,7 @@ use Rattle.cpn_definitions.specs.Net.{PlainExpr, literal, variable, PlainMultise
 use Rattle.cpn_definitions.specs.Meaning.{PlainBinding, Outcome, gives, faults, no_meaning, not_in_colour, gives_and, bound_value, given, meaning, in_colour, PlainTerm, terms_of, gather, ◌>>=◌}
 use Rattle.cpn_definitions.specs.Occurrence.{PlainElement, Needed, tokens_at, binds, guard_holds, needed_by, needs_of, threshold, same_need, thresholds, are_covered, covered}
 use Rattle.cpn_definitions.specs.Enabled.{PlainEntry, PlainFound, element_cmp, IsIncreasing, IsEarliest, entries_of, EnabledOf}
-use Rattle.cpn_definitions.specs.Sound.{is_sound, is_sound_transition, is_sound_arc, is_bound_by, are_increasing, has_no_guard}
+use Rattle.cpn_definitions.specs.Sound.{is_sound, is_sound_transition, is_sound_arc, is_sound_expr, is_int_colour, is_bound_by, are_increasing, has_no_guard}
 use Rattle.cpn_definitions.proofs.Comparing.{same_value_true, same_value_refl}
 use Rattle.cpn_definitions.proofs.Untimed.{threshold_is_zero, covered_at_any_time}
 use Rattle.cpn_definitions.proofs.Rising.{IsIn, Rises, in_from_contains, contains_from_in, in_append_left, in_append_right, in_map, in_map_from, in_filter, in_filter_from, passes_at, all_pass, some_passes, one_that_passes, each_in, each_mapped, rises_filtered, rises_mapped}
@@ -70,9 +70,22 @@ transition_in (x ∷ ts) (suc t) lt = inr (transition_in ts t (shorter t (length
     shorter : (t k : ℕ) → nat_lt (suc t) (suc k) ≡ true → nat_lt t k ≡ true
     shorter t k lt = grind (arith, nat_tests)
 
--- what is sound of a transition in range: its variables are listed once, and each is bound by an input arc
-pub sound_parts : (n : PlainNet) (t : ℕ) → is_sound n ≡ true → nat_lt t (length n.transitions) ≡ true
-    → (are_increasing (transition_at n t).vars ≡ true) × (list_all (λ x. list_any (λ arc. is_bound_by x arc.expr) (transition_at n t).inputs) (transition_at n t).vars ≡ true)
+-- What is sound of a transition: its variables are known and listed once, each is bound by an input arc, and the
+-- places of the input arcs are known.
+pub record SoundParts (n : PlainNet) (tr : PlainTransition) : Type 0 where
+  pub listed_once : are_increasing tr.vars ≡ true
+  pub known : list_all (λ x. nat_lt x (length n.variables)) tr.vars ≡ true
+  pub bound : list_all (λ x. list_any (λ arc. is_bound_by x arc.expr) tr.inputs) tr.vars ≡ true
+  pub placed : list_all (λ arc. nat_lt arc.place (length n.places)) tr.inputs ≡ true
+
+sound_arcs_placed : (n : PlainNet) (vars : List ℕ) (arcs : List PlainArc) → list_all (is_sound_arc n vars) arcs ≡ true → list_all (λ arc. nat_lt arc.place (length n.places)) arcs ≡ true
+sound_arcs_placed n vars [] all = refl
+sound_arcs_placed n vars (arc ∷ arcs) all =
+    let parts = and_parts (is_sound_arc n vars arc) (list_all (is_sound_arc n vars) arcs) all in
+    let coloured = and_parts (nat_lt arc.place (length n.places) && is_int_colour arc.colour) (is_sound_expr vars arc.expr) parts.0 in
+    rw (and_parts (nat_lt arc.place (length n.places)) (is_int_colour arc.colour) coloured.0).0 (sound_arcs_placed n vars arcs parts.1)
+
+pub sound_parts : (n : PlainNet) (t : ℕ) → is_sound n ≡ true → nat_lt t (length n.transitions) ≡ true → SoundParts n (transition_at n t)
 sound_parts n t sound lt =
     let tr = transition_at n t in
     let whole = passes_at (is_sound_transition n) n.transitions tr (and_parts _ (list_all (is_sound_transition n) n.transitions) sound).1 (transition_in n.transitions t lt) in
@@ -81,7 +94,7 @@ sound_parts n t sound lt =
     let bound = and_parts _ (list_all (λ x. list_any (λ arc. is_bound_by x arc.expr) tr.inputs) tr.vars) ins.0 in
     let known = and_parts _ (list_all (λ x. nat_lt x (length n.variables)) tr.vars) bound.0 in
     let listed = and_parts _ (are_increasing tr.vars) known.0 in
-    (listed.1, bound.1)
+    record { listed_once = listed.1; known = known.1; bound = bound.1; placed = sound_arcs_placed n tr.vars tr.inputs ins.1 }
 
 -- ---- what a binding gives the variables
 
@@ -212,16 +225,16 @@ bound_needs b arc x v ys by is gives_it = by_expr arc.expr by gives_it
 -- ---- a covered binding is tried
 
 -- where each of the needs is covered, the value of a variable stands on the place of each arc that it binds
-stands_where_bound : (n : PlainNet) (m : Marking) (time : ℕ) (tr : PlainTransition) (b : PlainBinding) (x : ℕ) (v : PlainValue)
+stands_at_each : (n : PlainNet) (m : Marking) (time : ℕ) (tr : PlainTransition) (b : PlainBinding) (x : ℕ) (v : PlainValue)
     → is_sound n ≡ true → gives_and (needs_of tr b) (are_covered n m time) ≡ true → bound_value x b ≡ Some v
     → (arc : PlainArc) → IsIn arc tr.inputs → is_bound_by x arc.expr ≡ true → has_value v (tokens_at m arc.place) ≡ true
 unfolding needs_of
-stands_where_bound n m time tr b x v sound all is arc h by =
+stands_at_each n m time tr b x v sound all is arc h by =
     let needs = gives_and_parts (gather (needed_by b) tr.inputs) (are_covered n m time) all in
     let of_arc = gathered (needed_by b) tr.inputs arc needs.0 needs.1 h in
     needed_stands n m time needs.0 (token_of arc v) sound needs.2 (of_arc.2 (token_of arc v) (bound_needs b arc x v of_arc.0 by is of_arc.1))
 
-first_place_is : (x : ℕ) (arcs : List PlainArc) → list_any (λ arc. is_bound_by x arc.expr) arcs ≡ true → (arc : PlainArc) × IsIn arc arcs × (is_bound_by x arc.expr ≡ true) × (first_place x arcs ≡ arc.place)
+pub first_place_is : (x : ℕ) (arcs : List PlainArc) → list_any (λ arc. is_bound_by x arc.expr) arcs ≡ true → (arc : PlainArc) × IsIn arc arcs × (is_bound_by x arc.expr ≡ true) × (first_place x arcs ≡ arc.place)
 first_place_is x [] any = cc
 first_place_is x (arc ∷ arcs) any = split (first_place_is x arcs) (is_bound_by x arc.expr) refl any
   where
@@ -256,8 +269,8 @@ covered_is_tried n m time t b sound is =
     let of_net = sound_parts n t sound parts.0 in
     let each : (p : ℕ × PlainValue) → IsIn p b → IsIn p.1 (candidates n m tr.inputs p.0) = λ p h.
         (let pair = pair_is_of n tr.vars b p parts.1 h in
-        let stands = stands_where_bound n m time tr b p.0 p.1 sound parts.2 (pair_is_bound n tr.vars b p of_net.0 parts.1 h) in
-        let first = first_place_is p.0 tr.inputs (passes_at (λ x. list_any (λ arc. is_bound_by x arc.expr) tr.inputs) tr.vars p.0 of_net.1 pair.0) in
+        let stands = stands_at_each n m time tr b p.0 p.1 sound parts.2 (pair_is_bound n tr.vars b p of_net.listed_once parts.1 h) in
+        let first = first_place_is p.0 tr.inputs (passes_at (λ x. list_any (λ arc. is_bound_by x arc.expr) tr.inputs) tr.vars p.0 of_net.bound pair.0) in
         in_candidates n m tr.inputs p.0 p.1 (is_candidate_from n m tr.inputs p.0 p.1 pair.1 stands) (subst (λ place. has_value p.1 (tokens_at m place) ≡ true) (sym first.3) (stands first.0 first.1 first.2))) in
     assignments_have (candidates n m tr.inputs) tr.vars b [] ([] ∷ []) (inl refl) (are_assigned n (candidates n m tr.inputs) tr.vars b parts.1 each)
 
