@@ -1,1 +1,5 @@
-
+pub mod Bound
+pub mod Enough
+pub mod Places
+pub mod InOrder
+pub mod Steps
