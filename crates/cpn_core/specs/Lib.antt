@@ -5,3 +5,5 @@ pub mod Pairs
 pub mod BindingCode
 pub mod Nets
 pub mod Occurrences
+pub mod Tokens
+pub mod Finished

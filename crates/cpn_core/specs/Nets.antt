@@ -46,3 +46,6 @@ variable_view x = record { name = string_bytes x.name; colour = colour_view x.co
 
 abbrev pub net_view : Net → PlainNet
 net_view n = record { places = map place_view n.places.items; transitions = map transition_view n.transitions.items; variables = map variable_view n.variables.items }
+
+abbrev pub arcs_view : List PlaceArc → List PlainArc
+arcs_view arcs = map arc_view arcs
