@@ -10,7 +10,6 @@ pub mod Rising
 pub mod Assignments
 pub mod SearchLaws
 pub mod AllTransitions
-pub mod Covering
 pub mod Listing
 pub mod Ending
 pub mod SoundOutputs

@@ -5,8 +5,8 @@ use Rattle.cpn_definitions.specs.Order.{value_cmp}
 use Rattle.cpn_definitions.specs.Marking.{AreSorted}
 use Rattle.cpn_definitions.proofs.Rising.{Rises}
 use Rattle.cpn_definitions.proofs.Assignments.{values_passing, values_rise}
-use Rattle.cpn_search.specs.declared.markings.Token.{Token}
-use Rattle.cpn_search.specs.TokensView.{tokens_view}
+use Rattle.cpn_core.specs.declared.places.Token.{Token}
+use Rattle.cpn_core.specs.Tokens.{tokens_view}
 
 -- once no token is left, the values so far are all that pass
 pub passed_rise

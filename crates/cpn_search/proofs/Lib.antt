@@ -1,5 +1,7 @@
+pub mod ArcByArc
 pub mod Bound
-pub mod Enough
+pub mod Counted
 pub mod Places
 pub mod InOrder
 pub mod Steps
+pub mod Sounds

@@ -11,6 +11,6 @@ use Rattle.cpn_core.specs.Nets.{arc_view}
 -- variables of the net, and each is bound by an input arc.
 pub record IsKnown (n : Net) (m : Marking) (t : Transition) : Type 0 where
   pub fits : length m ≡ length n.places.items
-  pub placed : list_all (λ arc. nat_lt arc.place (length n.places.items)) t.inputs.items ≡ true
+  pub placed : list_all (λ arc. nat_lt arc.place (length m)) t.inputs.items ≡ true
   pub declared : list_all (λ x. nat_lt x (length n.variables.items)) t.vars.items ≡ true
   pub bound : list_all (λ x. list_any (λ arc. is_bound_by x (arc_view arc).expr) t.inputs.items) t.vars.items ≡ true

@@ -1,3 +1,3 @@
-pub mod TokensView
 pub mod Finds
 pub mod Known
+pub mod Enough

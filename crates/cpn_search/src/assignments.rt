@@ -9,8 +9,7 @@ ghost use Rattle.cpn_core.specs.Nets.{arc_view, net_view};
 ghost use Rattle.cpn_search.specs.Known.{IsKnown};
 
 use crate::candidates::candidates;
-use crate::markings::PlainMarking;
-use cpn_core::{Binding, Memory, Net, PlaceArc, Transition, Value};
+use cpn_core::{Binding, Memory, Net, PlainMarking, Transition, Value};
 use std::alloc::Global;
 
 /// A copy of the binding with one more variable.

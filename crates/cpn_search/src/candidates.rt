@@ -10,10 +10,9 @@ ghost use Rattle.cpn_definitions.proofs.Rising.{Rises};
 ghost use Rattle.cpn_definitions.proofs.Assignments.{is_last_of, has_value, stands_where_bound as stands_at_each, first_place as first_place_of, is_candidate as is_candidate_value, candidates as candidate_values, values_passing};
 ghost use Rattle.cpn_core.specs.Views.{value_view};
 ghost use Rattle.cpn_core.specs.Nets.{arc_view, net_view};
-ghost use Rattle.cpn_search.specs.TokensView.{token_view, tokens_view};
+ghost use Rattle.cpn_core.specs.Tokens.{token_view, tokens_view};
 
-use crate::markings::{PlainMarking, Token};
-use cpn_core::{Expr, MExpr, Memory, Net, PlaceArc, Value};
+use cpn_core::{Expr, MExpr, Memory, Net, PlaceArc, PlainMarking, Token, Value};
 use std::alloc::Global;
 
 /// Whether the variable is the inscription of the arc.
@@ -54,7 +53,7 @@ fn stands_where_bound(
     variable: u32,
     value: &Value,
 ) -> bool
-    requires known { list_all (λ arc. nat_lt arc.place (length marking.now)) arcs.now ≡ true }
+    requires placed { list_all (λ arc. nat_lt arc.place (length marking.now)) arcs.now ≡ true }
     ensures exact { result ≡ stands_at_each marking.now variable (map arc_view arcs.now) (value_view value.now) }
 {
     for arc in arcs {
@@ -73,8 +72,8 @@ fn is_candidate(
     variable: u32,
     value: &Value,
 ) -> bool
-    requires known { list_all (λ arc. nat_lt arc.place (length marking.now)) arcs.now ≡ true }
-    requires variable_known { variable < length net.now.variables.items }
+    requires placed { list_all (λ arc. nat_lt arc.place (length marking.now)) arcs.now ≡ true }
+    requires declared { variable < length net.now.variables.items }
     ensures exact { result ≡ is_candidate_value (net_view net.now) marking.now (map arc_view arcs.now) variable (value_view value.now) }
 {
     let declared = &net.variables[variable as usize];
@@ -102,8 +101,8 @@ fn values_among(
     variable: u32,
     tokens: &[Token],
 ) -> Result<Vec<Value>, Memory>
-    requires known { list_all (λ arc. nat_lt arc.place (length marking.now)) arcs.now ≡ true }
-    requires variable_known { variable < length net.now.variables.items }
+    requires placed { list_all (λ arc. nat_lt arc.place (length marking.now)) arcs.now ≡ true }
+    requires declared { variable < length net.now.variables.items }
     requires sorted { AreSorted (tokens_view tokens.now) }
     ensures in_order { IfOk result (λ values. Rises value_cmp (map value_view values.items)) }
     ensures values { IfOk result (λ values. map value_view values.items ≡ values_passing (is_candidate_value (net_view net.now) marking.now (map arc_view arcs.now) variable) (tokens_view tokens.now)) }
@@ -126,9 +125,9 @@ pub fn candidates(
     arcs: &[PlaceArc],
     variable: u32,
 ) -> Result<Vec<Value>, Memory>
-    requires known { list_all (λ arc. nat_lt arc.place (length marking.now)) arcs.now ≡ true }
+    requires placed { list_all (λ arc. nat_lt arc.place (length marking.now)) arcs.now ≡ true }
     requires bound { list_any (λ arc. is_bound_by variable (arc_view arc).expr) arcs.now ≡ true }
-    requires variable_known { variable < length net.now.variables.items }
+    requires declared { variable < length net.now.variables.items }
     ensures values { IfOk result (λ values. map value_view values.items ≡ candidate_values (net_view net.now) marking.now (map arc_view arcs.now) variable) }
     ensures in_order { IfOk result (λ values. Rises value_cmp (map value_view values.items)) }
 {

@@ -8,10 +8,7 @@
 mod assignments;
 mod candidates;
 mod covering;
-mod markings;
-mod meanings;
 mod searching;
 
 pub use covering::is_covered;
-pub use markings::{PlainMarking, Token};
 pub use searching::{enabled, enabled_of};

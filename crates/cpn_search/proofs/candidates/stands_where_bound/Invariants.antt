@@ -9,5 +9,5 @@ use Rattle.cpn_search.proofs.candidates.stands_where_bound.Given as goal
 abbrev pub invariant-loop-arc : goal.invariant-loop-arc
 invariant-loop-arc l = record {
   rest : stands_where_bound l.fn.marking l.variable (map arc_view (drop l.arc-index l.arcs)) (value_view l.value) ≡ stands_where_bound l.fn.marking l.variable (map arc_view l.arcs) (value_view l.value);
-  known : list_all (λ arc. nat_lt arc.place (length l.fn.marking)) (drop l.arc-index l.arcs) ≡ true;
+  placed : list_all (λ arc. nat_lt arc.place (length l.fn.marking)) (drop l.arc-index l.arcs) ≡ true;
 }

@@ -3,7 +3,7 @@ use Rattle.std.proofs.Common.{◌≡◌, ◌++◌, map, drop}
 use Rattle.cpn_definitions.proofs.Assignments.{values_passing, is_candidate}
 use Rattle.cpn_core.specs.Views.{value_view}
 use Rattle.cpn_core.specs.Nets.{arc_view, net_view}
-use Rattle.cpn_search.specs.TokensView.{tokens_view}
+use Rattle.cpn_core.specs.Tokens.{tokens_view}
 use Rattle.cpn_search.proofs.candidates.values_among.Given as goal
 
 abbrev pub invariant-loop-i : goal.invariant-loop-i

@@ -9,5 +9,5 @@ use Rattle.cpn_search.proofs.covering.binds.Given as goal
 abbrev pub invariant-loop-i : goal.invariant-loop-i
 invariant-loop-i l = record {
   rest : binds (net_view l.net) (drop l.i l.vars) (pairs_view (drop l.i l.pairs)) ≡ binds (net_view l.net) l.vars (pairs_view l.pairs);
-  known : list_all (λ x. nat_lt x (length l.net.variables.items)) (drop l.i l.vars) ≡ true;
+  declared : list_all (λ x. nat_lt x (length l.net.variables.items)) (drop l.i l.vars) ≡ true;
 }

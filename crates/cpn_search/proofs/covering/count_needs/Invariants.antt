@@ -1,6 +1,6 @@
 -- So many of the arcs so far need one.
 use Rattle.std.proofs.Common.{◌≡◌, ◌≤◌, map, take, count_by}
-use Rattle.cpn_definitions.proofs.Covering.{needs_one}
+use Rattle.cpn_search.specs.Enough.{needs_one}
 use Rattle.cpn_core.specs.Views.{value_view}
 use Rattle.cpn_core.specs.Nets.{arc_view}
 use Rattle.cpn_search.proofs.covering.count_needs.Given as goal

@@ -2,7 +2,7 @@
 use Rattle.std.proofs.Common.{map}
 use Rattle.cpn_core.specs.Nets.{arc_view, net_view}
 use Rattle.cpn_core.specs.Views.{value_view}
-use Rattle.cpn_search.proofs.Enough.{met_where_counted}
+use Rattle.cpn_search.proofs.Counted.{met_where_counted}
 use Rattle.cpn_search.proofs.covering.is_met.Goals as goal
 
 pub returns-in-Some : goal.returns-in-Some

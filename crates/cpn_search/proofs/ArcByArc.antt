@@ -14,59 +14,17 @@ use Rattle.cpn_definitions.specs.Net.{PlainExpr, PlainMultiset, one, PlainArc, P
 use Rattle.cpn_definitions.specs.Meaning.{PlainBinding, Outcome, gives, faults, no_meaning, not_in_colour, gives_and, meaning, in_colour, PlainTerm, gather, ◌>>=◌}
 use Rattle.cpn_definitions.specs.Occurrence.{Needed, tokens_at, is_timed, needed_by, needs_of, threshold, same_need, thresholds, are_covered, binds, guard_holds, covered}
 use Rattle.cpn_definitions.proofs.Stamps.{covers_count}
+use Rattle.cpn_eval.specs.Given.{as_option, token_value}
+use Rattle.cpn_search.specs.Enough.{is_value, needs_one, latest, has_enough, is_met, is_covered_with}
 use Rattle.cpn_definitions.proofs.SearchLaws.{token_of, element_of}
 
--- ---- what is counted
-
--- the value, if the colour set admits it
-abbrev pub admitted : PlainColour → Outcome PlainValue → Option PlainValue
-admitted colour (gives v) = cond (admits colour v) (Some v) None
-admitted colour (faults fault) = None
-admitted colour no_meaning = None
-
--- the inscription of an arc
-abbrev pub expr_of : PlainMultiset → PlainExpr
-expr_of (one e) = e
-
--- the value of the token that an input arc needs under a binding
-abbrev pub token_value : PlainBinding → PlainArc → Option PlainValue
-token_value b arc = admitted arc.colour (meaning (expr_of arc.expr) b 0)
-
--- whether there is the value
-abbrev pub is_value : PlainValue → Option PlainValue → Bool
-is_value v None = false
-is_value v (Some w) = same_value v w
-
--- whether an arc needs a token of the value on the place
-abbrev pub needs_one : PlainBinding → ℕ → PlainValue → PlainArc → Bool
-needs_one b place v arc = (place == arc.place) && is_value v (token_value b arc)
-
--- the latest stamp of a token that is taken from a place at a time
-abbrev pub latest : PlainNet → ℕ → ℕ → ℕ
-latest n time place = cond (is_timed n place) time 0
-
--- whether the tokens of the value on the place cover as many needs as arcs have one
-abbrev pub has_enough : PlainNet → Marking → ℕ → PlainBinding → List PlainArc → ℕ → Option PlainValue → Bool
-has_enough n m time b arcs place None = false
-has_enough n m time b arcs place (Some v) = covers (stamps v (tokens_at m place)) (replicate (count_by (needs_one b place v) arcs) (latest n time place))
-
--- whether the inscription of an arc has a value, and there are enough tokens of it
-abbrev pub is_met : PlainNet → Marking → ℕ → PlainBinding → List PlainArc → PlainArc → Bool
-is_met n m time b arcs arc = has_enough n m time b arcs arc.place (token_value b arc)
-
 -- ---- the needs of arcs
-
--- what an outcome gives, if it gives something
-abbrev pub what_it_gives : {A : Type 0} → Outcome A → Option A
-what_it_gives (gives x) = Some x
-what_it_gives (faults fault) = None
-what_it_gives no_meaning = None
 
 abbrev has_and : {A : Type 0} → Option A → (A → Bool) → Bool
 has_and None test = false
 has_and (Some x) test = test x
 
-gives_and_is : {A : Type 0} (o : Outcome A) (test : A → Bool) → gives_and o test ≡ has_and (what_it_gives o) test
+gives_and_is : {A : Type 0} (o : Outcome A) (test : A → Bool) → gives_and o test ≡ has_and (as_option o) test
 gives_and_is (gives x) test = refl
 gives_and_is (faults fault) test = refl
 gives_and_is no_meaning test = refl
@@ -83,9 +41,9 @@ both (Some xs) (Some ys) = Some (xs ++ ys)
 
 abbrev needs_from : PlainBinding → List PlainArc → Option (List Needed)
 needs_from b [] = Some []
-needs_from b (arc ∷ arcs) = both (need_from arc (token_value b arc)) (needs_from b arcs)
+needs_from b (arc ∷ arcs) = both (need_from arc (token_value arc b 0)) (needs_from b arcs)
 
-need_is : (b : PlainBinding) (arc : PlainArc) → what_it_gives (needed_by b arc) ≡ need_from arc (token_value b arc)
+need_is : (b : PlainBinding) (arc : PlainArc) → as_option (needed_by b arc) ≡ need_from arc (token_value arc b 0)
 need_is b arc = by_expr arc.expr
   where
     its_term : PlainValue → Outcome (List PlainTerm)
@@ -94,23 +52,23 @@ need_is b arc = by_expr arc.expr
     its_needs : List PlainTerm → Outcome (List Needed)
     its_needs terms = gives (flat_map (λ (term : PlainTerm). replicate term.count (record { place = arc.place; value = term.value; offset = term.delay })) terms)
 
-    by_colour : (v : PlainValue) (c : Bool) → what_it_gives ((cond c (gives v) (faults not_in_colour) >>= its_term) >>= its_needs) ≡ need_from arc (cond c (Some v) None)
+    by_colour : (v : PlainValue) (c : Bool) → as_option ((cond c (gives v) (faults not_in_colour) >>= its_term) >>= its_needs) ≡ need_from arc (as_option (cond c (gives v) (faults not_in_colour)))
     by_colour v true = refl
     by_colour v false = refl
 
-    by_meaning : (o : Outcome PlainValue) → what_it_gives ((o >>= (λ v. in_colour arc.colour v >>= its_term)) >>= its_needs) ≡ need_from arc (admitted arc.colour o)
+    by_meaning : (o : Outcome PlainValue) → as_option ((o >>= (λ v. in_colour arc.colour v >>= its_term)) >>= its_needs) ≡ need_from arc (as_option (o >>= in_colour arc.colour))
     by_meaning (gives v) = by_colour v (admits arc.colour v)
     by_meaning (faults fault) = refl
     by_meaning no_meaning = refl
 
-    by_expr : (e : PlainMultiset) → what_it_gives (needed_by b (record arc { expr = e })) ≡ need_from arc (token_value b (record arc { expr = e }))
+    by_expr : (e : PlainMultiset) → as_option (needed_by b (record arc { expr = e })) ≡ need_from arc (token_value (record arc { expr = e }) b 0)
     by_expr (one e) = by_meaning (meaning e b 0)
 
-needs_are : (b : PlainBinding) (arcs : List PlainArc) → what_it_gives (gather (needed_by b) arcs) ≡ needs_from b arcs
+needs_are : (b : PlainBinding) (arcs : List PlainArc) → as_option (gather (needed_by b) arcs) ≡ needs_from b arcs
 needs_are b [] = refl
 needs_are b (arc ∷ arcs) = joined (needed_by b arc) (gather (needed_by b) arcs) ∙ ap₂ both (need_is b arc) (needs_are b arcs)
   where
-    joined : (o p : Outcome (List Needed)) → what_it_gives (o >>= (λ xs. p >>= (λ ys. gives (xs ++ ys)))) ≡ both (what_it_gives o) (what_it_gives p)
+    joined : (o p : Outcome (List Needed)) → as_option (o >>= (λ xs. p >>= (λ ys. gives (xs ++ ys)))) ≡ both (as_option o) (as_option p)
     joined (gives xs) (gives ys) = refl
     joined (gives xs) (faults fault) = refl
     joined (gives xs) no_meaning = refl
@@ -139,7 +97,7 @@ thresholds_are : (n : PlainNet) (time : ℕ) (b : PlainBinding) (need : Needed) 
     → thresholds n time need needs ≡ replicate (count_by (needs_one b need.place need.value) arcs) (latest n time need.place)
 thresholds_are n time b need [] needs is = let e : needs ≡ [] = cc in ap (thresholds n time need) e
 thresholds_are n time b need (arc ∷ arcs) needs is =
-    by_value (token_value b arc) (needs_from b arcs) refl is (thresholds_are n time b need arcs) ∙ ap (λ (k : ℕ). replicate k (latest n time need.place)) (sym (count_cons (needs_one b need.place need.value) arc arcs))
+    by_value (token_value arc b 0) (needs_from b arcs) refl is (thresholds_are n time b need arcs) ∙ ap (λ (k : ℕ). replicate k (latest n time need.place)) (sym (count_cons (needs_one b need.place need.value) arc arcs))
   where
     by_same : (v : PlainValue) (same rest : Bool) (ys : List Needed) → (need.place == arc.place) ≡ same → thresholds n time need ys ≡ replicate (count_by (needs_one b need.place need.value) arcs) (latest n time need.place)
         → map (threshold n time) (cond (same && rest) (token_of arc v ∷ filter (same_need need) ys) (filter (same_need need) ys)) ≡ replicate (cond (same && rest) 1 0 + count_by (needs_one b need.place need.value) arcs) (latest n time need.place)
@@ -170,12 +128,12 @@ need_is_met n m time b arcs needs is arc v = ap (covers (stamps v (tokens_at m a
 
 -- a test of each need is the same test of each arc
 each_need : (b : PlainBinding) (test : Needed → Bool) (met : ℕ → Option PlainValue → Bool) → ((arc : PlainArc) (v : PlainValue) → test (token_of arc v) ≡ met arc.place (Some v)) → (ks : List PlainArc) (needs : List Needed) → needs_from b ks ≡ Some needs
-    → list_all test needs ≡ list_all (λ arc. met arc.place (token_value b arc)) ks
+    → list_all test needs ≡ list_all (λ arc. met arc.place (token_value arc b 0)) ks
 each_need b test met same [] needs is = let e : needs ≡ [] = cc in ap (list_all test) e
-each_need b test met same (k ∷ ks) needs is = by_value (token_value b k) (needs_from b ks) refl is (each_need b test met same ks)
+each_need b test met same (k ∷ ks) needs is = by_value (token_value k b 0) (needs_from b ks) refl is (each_need b test met same ks)
   where
-    by_value : (o : Option PlainValue) (p : Option (List Needed)) → needs_from b ks ≡ p → both (need_from k o) p ≡ Some needs → ((ys : List Needed) → needs_from b ks ≡ Some ys → list_all test ys ≡ list_all (λ arc. met arc.place (token_value b arc)) ks)
-        → list_all test needs ≡ (met k.place o && list_all (λ arc. met arc.place (token_value b arc)) ks)
+    by_value : (o : Option PlainValue) (p : Option (List Needed)) → needs_from b ks ≡ p → both (need_from k o) p ≡ Some needs → ((ys : List Needed) → needs_from b ks ≡ Some ys → list_all test ys ≡ list_all (λ arc. met arc.place (token_value arc b 0)) ks)
+        → list_all test needs ≡ (met k.place o && list_all (λ arc. met arc.place (token_value arc b 0)) ks)
     by_value None p from is' rest = cc
     by_value (Some v) None from is' rest = cc
     by_value (Some v) (Some ys) from is' rest =
@@ -183,17 +141,17 @@ each_need b test met same (k ∷ ks) needs is = by_value (token_value b k) (need
         ap (list_all test) (sym e) ∙ ap₂ (λ c d. c && d) (same k v) (rest ys from)
 
 -- where the inscription of an arc has no value, its test fails
-none_need : (b : PlainBinding) (met : ℕ → Option PlainValue → Bool) → ((place : ℕ) → met place None ≡ false) → (ks : List PlainArc) → needs_from b ks ≡ None → list_all (λ arc. met arc.place (token_value b arc)) ks ≡ false
+none_need : (b : PlainBinding) (met : ℕ → Option PlainValue → Bool) → ((place : ℕ) → met place None ≡ false) → (ks : List PlainArc) → needs_from b ks ≡ None → list_all (λ arc. met arc.place (token_value arc b 0)) ks ≡ false
 none_need b met fails [] is = cc
-none_need b met fails (k ∷ ks) is = by_value (token_value b k) (needs_from b ks) refl is (none_need b met fails ks)
+none_need b met fails (k ∷ ks) is = by_value (token_value k b 0) (needs_from b ks) refl is (none_need b met fails ks)
   where
     and_false : (c : Bool) → (c && false) ≡ false
     and_false true = refl
     and_false false = refl
 
-    by_value : (o : Option PlainValue) (p : Option (List Needed)) → needs_from b ks ≡ p → both (need_from k o) p ≡ None → (needs_from b ks ≡ None → list_all (λ arc. met arc.place (token_value b arc)) ks ≡ false)
-        → (met k.place o && list_all (λ arc. met arc.place (token_value b arc)) ks) ≡ false
-    by_value None p from is' rest = ap (λ c. c && list_all (λ arc. met arc.place (token_value b arc)) ks) (fails k.place)
+    by_value : (o : Option PlainValue) (p : Option (List Needed)) → needs_from b ks ≡ p → both (need_from k o) p ≡ None → (needs_from b ks ≡ None → list_all (λ arc. met arc.place (token_value arc b 0)) ks ≡ false)
+        → (met k.place o && list_all (λ arc. met arc.place (token_value arc b 0)) ks) ≡ false
+    by_value None p from is' rest = ap (λ c. c && list_all (λ arc. met arc.place (token_value arc b 0)) ks) (fails k.place)
     by_value (Some v) None from is' rest = ap (λ c. met k.place (Some v) && c) (rest from) ∙ and_false (met k.place (Some v))
     by_value (Some v) (Some ys) from is' rest = cc
 
@@ -224,10 +182,6 @@ some_counted p (x ∷ xs) = split (p x) (some_counted p xs) ∙ ap (nat_lt 0) (s
       where
         none : (k : ℕ) → k ≡ 0 + k
         none k = omega arith
-
--- whether a transition is covered with a binding, arc by arc
-abbrev pub is_covered_with : PlainNet → Marking → ℕ → PlainTransition → PlainBinding → Bool
-is_covered_with n m time tr b = binds n tr.vars b && guard_holds tr.guard b && list_all (is_met n m time b tr.inputs) tr.inputs
 
 -- an element is covered exactly where its transition is one of the net's and is covered with the binding
 pub covered_is : (n : PlainNet) (m : Marking) (time t : ℕ) (b : PlainBinding) → covered n m time (element_of t b) ≡ (nat_lt t (length n.transitions) && is_covered_with n m time (transition_at n t) b)

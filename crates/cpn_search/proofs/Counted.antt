@@ -4,11 +4,13 @@ use Rattle.cpn_definitions.specs.Value.{PlainValue}
 use Rattle.cpn_definitions.specs.Marking.{Marking, AreSorted, is_taken_by}
 use Rattle.cpn_definitions.specs.Net.{PlainArc, PlainNet}
 use Rattle.cpn_definitions.specs.Meaning.{PlainBinding}
-use Rattle.cpn_definitions.proofs.Covering.{token_value, needs_one, latest, has_enough, is_met, enough_counted}
+use Rattle.cpn_eval.specs.Given.{token_value}
+use Rattle.cpn_search.specs.Enough.{needs_one, latest, has_enough, is_met}
+use Rattle.cpn_search.proofs.ArcByArc.{enough_counted}
 
 pub met_where_counted
     : (n : PlainNet) (m : Marking) (time : ℕ) (b : PlainBinding) (arcs : List PlainArc) (arc : PlainArc) (v : PlainValue) (wanted there late : ℕ)
-    → Some v ≡ token_value b arc
+    → Some v ≡ token_value arc b 0
     → AreSorted (slice_index_or m arc.place [])
     → wanted ≡ count_by (needs_one b arc.place v) arcs
     → late ≡ latest n time arc.place

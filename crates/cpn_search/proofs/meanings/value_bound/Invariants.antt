@@ -1,8 +1,0 @@
--- The variable is bound by the pairs that are left as by all.
-use Rattle.std.proofs.Common.{◌≡◌, drop}
-use Rattle.cpn_definitions.specs.Meaning.{bound_value}
-use Rattle.cpn_core.specs.Pairs.{pairs_view}
-use Rattle.cpn_search.proofs.meanings.value_bound.Given as goal
-
-abbrev pub invariant-loop-pair : goal.invariant-loop-pair
-invariant-loop-pair l = bound_value l.variable (pairs_view (drop l.pair-index l.pair-items)) ≡ bound_value l.variable l.fn.binding
