@@ -163,8 +163,8 @@ gathered {A} f (k ∷ arcs) arc xs is h =
     let second = bound_parts (gather f arcs) _ xs first.2 in
     let joined : first.0 ++ second.0 ≡ xs = same_given _ _ second.2 in
     elim h as (λ _. (ys : List A) × (f arc ≡ gives ys) × ((y : A) → IsIn y ys → IsIn y xs)) [
-      inl e ↦ (first.0, ap f (sym e) ∙ first.1, λ y g. subst (IsIn y) joined (in_append_left first.0 second.0 y g))
-    | inr g ↦ (let rest = gathered f arcs arc second.0 second.1 g in (rest.0, rest.1, λ y there. subst (IsIn y) joined (in_append_right first.0 second.0 y (rest.2 y there))))
+      | inl e ↦ (first.0, ap f (sym e) ∙ first.1, λ y g. subst (IsIn y) joined (in_append_left first.0 second.0 y g))
+      | inr g ↦ (let rest = gathered f arcs arc second.0 second.1 g in (rest.0, rest.1, λ y there. subst (IsIn y) joined (in_append_right first.0 second.0 y (rest.2 y there))))
     ]
 
 -- where thresholds of 0 are covered by the stamps of a value, and there is one, the value stands on the place
@@ -268,10 +268,10 @@ covered_is_tried n m time t b sound is =
     let parts = covered_parts n m time t b is in
     let of_net = sound_parts n t sound parts.0 in
     let each : (p : ℕ × PlainValue) → IsIn p b → IsIn p.1 (candidates n m tr.inputs p.0) = λ p h.
-        (let pair = pair_is_of n tr.vars b p parts.1 h in
-        let stands = stands_at_each n m time tr b p.0 p.1 sound parts.2 (pair_is_bound n tr.vars b p of_net.listed_once parts.1 h) in
-        let first = first_place_is p.0 tr.inputs (passes_at (λ x. list_any (λ arc. is_bound_by x arc.expr) tr.inputs) tr.vars p.0 of_net.bound pair.0) in
-        in_candidates n m tr.inputs p.0 p.1 (is_candidate_from n m tr.inputs p.0 p.1 pair.1 stands) (subst (λ place. has_value p.1 (tokens_at m place) ≡ true) (sym first.3) (stands first.0 first.1 first.2))) in
+    (let pair = pair_is_of n tr.vars b p parts.1 h in
+    let stands = stands_at_each n m time tr b p.0 p.1 sound parts.2 (pair_is_bound n tr.vars b p of_net.listed_once parts.1 h) in
+    let first = first_place_is p.0 tr.inputs (passes_at (λ x. list_any (λ arc. is_bound_by x arc.expr) tr.inputs) tr.vars p.0 of_net.bound pair.0) in
+    in_candidates n m tr.inputs p.0 p.1 (is_candidate_from n m tr.inputs p.0 p.1 pair.1 stands) (subst (λ place. has_value p.1 (tokens_at m place) ≡ true) (sym first.3) (stands first.0 first.1 first.2))) in
     assignments_have (candidates n m tr.inputs) tr.vars b [] ([] ∷ []) (inl refl) (are_assigned n (candidates n m tr.inputs) tr.vars b parts.1 each)
 
 -- ---- the covered ones are the enabled bindings

@@ -5,3 +5,4 @@ pub mod Places
 pub mod InOrder
 pub mod Steps
 pub mod Sounds
+pub mod Finding

@@ -16,7 +16,7 @@ use Rattle.cpn_search.specs.Enough.{is_covered_with}
 use Rattle.cpn_search.specs.Known.{IsKnown}
 use Rattle.cpn_search.proofs.ArcByArc.{covered_is}
 
-length_map : {A B : Type 0} (f : A → B) (xs : List A) → length (map f xs) ≡ length xs
+pub length_map : {A B : Type 0} (f : A → B) (xs : List A) → length (map f xs) ≡ length xs
 length_map f [] = refl
 length_map f (x ∷ xs) = ap (λ (k : ℕ). suc k) (length_map f xs)
 

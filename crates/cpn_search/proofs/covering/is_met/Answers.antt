@@ -7,5 +7,5 @@ use Rattle.cpn_search.proofs.covering.is_met.Goals as goal
 
 pub returns-in-Some : goal.returns-in-Some
 returns-in-Some c = record {
-  exact = met_where_counted (net_view c.args.net.now) c.args.marking.now c.args.time c.args.binding.now (map arc_view c.args.arcs.now) (arc_view c.args.arc.now) (value_view c.in-Some.value.now) c.count_needs-wanted.result c.count-there.result c.latest.result c.in-Some.ensures.value c.count-there.ensures.sorted c.count_needs-wanted.ensures.number c.latest.ensures.exact c.count-there.ensures.number;
+  exact = met_where_counted (net_view c.args.net.now) c.args.marking.now c.args.time c.args.binding.now (map arc_view c.args.arcs.now) (arc_view c.args.arc.now) (value_view c.in-Some.value.now) c.count_needs-wanted.result c.count-there.result c.latest.result (c.in-Some.ensures 0) c.count-there.ensures.sorted c.count_needs-wanted.ensures.number c.latest.ensures.exact c.count-there.ensures.number;
 }
