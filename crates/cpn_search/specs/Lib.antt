@@ -1,0 +1,3 @@
+pub mod Finds
+pub mod Known
+pub mod Enough
