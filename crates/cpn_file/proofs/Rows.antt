@@ -5,7 +5,7 @@ use Rattle.serde_json.specs.Data.{Data, number, unsigned, string, array, object,
 use Rattle.cpn_definitions.specs.Value.{int}
 use Rattle.cpn_definitions.specs.Net.{literal, variable, one, literal_pattern, variable_pattern, PlainArc}
 use Rattle.cpn_definitions.specs.Sound.{int_colour}
-use Rattle.cpn_file.specs.Texts.{is_name, number_in, variable_in, initial_in}
+use Rattle.cpn_file.specs.Texts.{is_name, number_in, variable_in, initial_in, is_variable_name, is_reserved, count_in}
 use Rattle.cpn_file.specs.Document.{document_in, variables_in}
 use Rattle.cpn_file.specs.Loading.{loaded_in, loaded_from, transition_with, transitions_from}
 

@@ -2,3 +2,4 @@ pub mod Parts
 pub mod Texts
 pub mod Document
 pub mod Loading
+pub mod Refusals
