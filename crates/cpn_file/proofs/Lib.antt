@@ -1,2 +1,6 @@
 pub mod Rows
 pub mod Widths
+pub mod Stripping
+pub mod Digits
+pub mod NameLists
+pub mod Lists

@@ -6,7 +6,7 @@ use Rattle.std.specs.Str.{bytes_eq}
 use Rattle.serde_json.specs.Data.{Data, Items, no_items, item}
 use Rattle.serde_json.specs.Find.{get, as_str}
 use Rattle.cpn_file.specs.Parts.{◌>>=◌, when, text_at, list_at, number_at, has_keys, each_in, only}
-use Rattle.cpn_file.specs.Texts.{name_in, number_in, variable_in, initial_in, is_one_of}
+use Rattle.cpn_file.specs.Texts.{name_in, number_in, variable_in, initial_in}
 use Rattle.cpn_file.specs.declared.initials.Initial.{Initial}
 use Rattle.cpn_file.specs.declared.arcs.Arc.{Arc}
 use Rattle.cpn_file.specs.declared.arcs.Way.{Way}
@@ -14,10 +14,18 @@ use Rattle.cpn_file.specs.declared.arcs.Way.TheVariants.{ToTransition, ToPlace, 
 use Rattle.cpn_file.specs.declared.arcs.Inscription.{Inscription}
 use Rattle.cpn_file.specs.declared.arcs.Inscription.TheVariants.{Number, Variable}
 
+-- whether a text is one of the texts
+abbrev pub is_one_of : List ℕ → List (List ℕ) → Bool
+is_one_of text texts = list_any (bytes_eq text) texts
+
 -- no text is there twice
 abbrev pub are_distinct : List (List ℕ) → Bool
 are_distinct [] = true
 are_distinct (text ∷ texts) = not (is_one_of text texts) && are_distinct texts
+
+-- the texts, where no text is there twice
+unfoldable pub apart : List (List ℕ) → Option (List (List ℕ))
+apart texts = if are_distinct texts then Some texts else None
 
 -- the number of a name: its position among the names
 abbrev pub number_of_name : List ℕ → List (List ℕ) → Option ℕ
@@ -33,15 +41,15 @@ name_at key d = option_and_then name_in (text_at key d)
 abbrev pub declared_in : Data → Option (List ℕ)
 declared_in d = option_and_then variable_in (as_str d)
 
--- The declarations: first that of INT as the colour set of integers, then at most 32 variables of it, each
--- declared once. They are read as the variables' names.
+-- The declarations: first that of INT as the colour set of integers, then at most 32 variables of it. They
+-- are read as the variables' names.
 unfoldable pub variables_in : Items → Option (List (List ℕ))
 variables_in no_items = None
 variables_in (item d ds) = do
   first ← as_str d
   int ← when (bytes_eq first (codes "colset INT = int;"))
   names ← each_in declared_in ds
-  fit ← when (are_distinct names && nat_le (length names) 32)
+  few ← when (nat_le (length names) 32)
   Some names
 
 -- ---- places and transitions
@@ -105,6 +113,15 @@ arc_in places transitions variables d = do
 
 -- ---- the module and the document
 
+-- The arcs of a module, given the names of its places and transitions, and the variables: no name is there
+-- twice among the places, among the transitions, or among the variables.
+unfoldable pub arcs_among : List (List ℕ) → List (List ℕ) → List (List ℕ) → Items → Option (List Arc)
+arcs_among places transitions variables items = do
+  place_names ← apart places
+  transition_names ← apart transitions
+  variable_names ← apart variables
+  each_in (arc_in place_names transition_names variable_names) items
+
 -- A module: its name, its places, the names of its transitions, its arcs.
 pub record PlainModule : Type 0 where
   pub name : List ℕ
@@ -115,30 +132,16 @@ pub record PlainModule : Type 0 where
 abbrev pub place_names : List PlainPlace → List (List ℕ)
 place_names places = map (λ place. place.name) places
 
--- the places at the key `places`, with distinct names
-unfoldable pub places_at : Data → Option (List PlainPlace)
-places_at d = do
-  items ← list_at (codes "places") d
-  places ← each_in place_in items
-  apart ← when (are_distinct (place_names places))
-  Some places
-
--- the names at the key `transitions`, which are distinct
-unfoldable pub transitions_at : Data → Option (List (List ℕ))
-transitions_at d = do
-  items ← list_at (codes "transitions") d
-  names ← each_in transition_in items
-  apart ← when (are_distinct names)
-  Some names
-
 -- A module has the keys `name`, `places`, `transitions` and `arcs`.
 unfoldable pub module_in : List (List ℕ) → Data → Option PlainModule
 module_in variables d = do
   name ← name_at (codes "name") d
-  places ← places_at d
-  transitions ← transitions_at d
-  items ← list_at (codes "arcs") d
-  arcs ← each_in (arc_in (place_names places) transitions variables) items
+  place_items ← list_at (codes "places") d
+  places ← each_in place_in place_items
+  transition_items ← list_at (codes "transitions") d
+  transitions ← each_in transition_in transition_items
+  arc_items ← list_at (codes "arcs") d
+  arcs ← arcs_among (place_names places) transitions variables arc_items
   all ← has_keys 4 d
   Some (record { name = name; places = places; transitions = transitions; arcs = arcs })
 

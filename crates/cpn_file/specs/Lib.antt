@@ -3,3 +3,5 @@ pub mod Texts
 pub mod Document
 pub mod Loading
 pub mod Refusals
+pub mod Names
+pub mod Views

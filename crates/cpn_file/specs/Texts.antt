@@ -42,12 +42,8 @@ reserved =
     ∷ codes "end" ∷ codes "foldl" ∷ codes "over" ∷ codes "from" ∷ codes "do" ∷ codes "andalso" ∷ codes "orelse" ∷ codes "not" ∷ codes "div" ∷ codes "mod"
     ∷ codes "true" ∷ codes "false" ∷ codes "empty" ∷ codes "time" ∷ codes "hd" ∷ codes "tl" ∷ codes "length" ∷ codes "rev" ∷ codes "mem" ∷ codes "size" ∷ []
 
--- whether a text is one of the texts
-abbrev pub is_one_of : List ℕ → List (List ℕ) → Bool
-is_one_of text texts = list_any (bytes_eq text) texts
-
 unfoldable pub is_reserved : List ℕ → Bool
-is_reserved text = is_one_of text reserved
+is_reserved text = list_any (λ word. bytes_eq word text) reserved
 
 -- a byte of a variable's name after the first
 abbrev pub is_word_byte : ℕ → Bool
@@ -82,6 +78,6 @@ count_in text = do
 -- An initial marking is written K, a backtick and a number: K tokens of that value.
 unfoldable pub initial_in : List ℕ → Option Initial
 initial_in text = do
-  count ← count_in (before_first is_backtick text)
   value ← number_in (after_first is_backtick text)
+  count ← count_in (before_first is_backtick text)
   Some (record { count = count; value = pos value })
