@@ -1,8 +1,8 @@
 //! Bindings and binding elements.
 
-ghost use Rattle.std.specs.Prelude.{◌≡◌, [], ◌∷◌, ◌++◌, IfOk, OnErr};
+ghost use Rattle.std.specs.Prelude.{◌≡◌, [], ◌∷◌, ◌++◌, IfOk, IfErr, option_copied, option_map};
+ghost use Rattle.cpn_definitions.specs.Meaning.{bound_value};
 ghost use Rattle.cpn_core.specs.Views.{value_view};
-ghost use Rattle.cpn_core.specs.Elements.{element_view};
 
 use crate::memory_wanted::Memory;
 use crate::values::Value;
@@ -30,7 +30,7 @@ pub struct Binding {
 
 impl Model for Binding {
     ghost use Rattle.cpn_definitions.specs.Meaning.{PlainBinding};
-    ghost use Rattle.cpn_definitions.specs.Code.{binding_code};
+    ghost use Rattle.cpn_core.specs.BindingCode.{binding_code};
 
     ghost Value = { PlainBinding };
 
@@ -39,4 +39,69 @@ impl Model for Binding {
     ghost use Rattle.cpn_core.specs.Pairs.{pairs_view};
 
     ghost view = { λ b. pairs_view b.pairs.items };
+}
+
+impl Binding {
+    ghost use Rattle.cpn_core.specs.Pairs.{pairs_view};
+
+    /// The binding of no variable.
+    pub fn new(alloc: Global) -> Binding
+        ensures empty { result ≡ [] }
+    {
+        Binding {
+            pairs: SmallVec::new(alloc),
+        }
+    }
+
+    /// Binds one more variable, the last one so far. After `Memory` the binding is unchanged.
+    pub fn bind(&mut self, variable: u32, value: Value) -> Result<(), Memory>
+        ensures bound { IfOk result (λ _. self.new ≡ self.old ++ (variable, value_view value) ∷ []) }
+        ensures unchanged { IfErr result (λ _. self.new ≡ self.old) }
+    {
+        self.pairs.push(Pair { variable, value })?;
+        Ok(())
+    }
+
+    /// The pairs of variable and value, in declaration order.
+    pub fn pairs(&self) -> &[Pair]
+        ensures pairs { pairs_view result.now ≡ self.now }
+    {
+        self.pairs.as_slice()
+    }
+
+    /// A copy of its own.
+    pub fn copy(&self) -> Result<Binding, Memory>
+        ensures same { IfOk result (λ copied. copied ≡ self.now) }
+    {
+        let mut copied = Binding::new(*self.pairs.allocator());
+        for pair in self.pairs() {
+            copied.bind(pair.variable, pair.value.copy()?)?;
+        }
+        Ok(copied)
+    }
+}
+
+/// A binding element: a transition and a binding of its variables.
+///
+/// Source: Jensen and Kristensen, chapter 4.
+#[derive(Drop)]
+pub struct Element {
+    /// The number of the transition.
+    pub transition: u32,
+    /// The values of its variables.
+    pub binding: Binding,
+}
+
+impl Element {
+    /// A copy of its own.
+    pub fn copy(&self) -> Result<Element, Memory>
+        ensures transition { IfOk result (λ copied. copied.transition ≡ self.now.transition) }
+        ensures binding { IfOk result (λ copied. copied.binding ≡ self.now.binding) }
+    {
+        let binding = self.binding.copy()?;
+        Ok(Element {
+            transition: self.transition,
+            binding,
+        })
+    }
 }

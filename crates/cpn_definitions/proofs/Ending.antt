@@ -2,7 +2,7 @@
 use Rattle.std.proofs.Common.{◌≡◌, ◌≢◌, ℕ, List, [], ◌∷◌, length, map, take, Some, None, refl, sym, ap, ◌∙◌, subst, arith}
 use Rattle.cpn_definitions.specs.Marking.{Marking}
 use Rattle.cpn_definitions.specs.HoleRun.{PlainClaim, hole_run, committed}
-use Rattle.cpn_definitions.specs.State.{PlainSetup, PlainEvent, PlainEnd, dead, steps_made, PlainState, HasCause, EndsBy, IsDead, PlainOccurrence, numbered}
+use Rattle.cpn_definitions.specs.State.{PlainSetup, PlainEvent, PlainEnd, dead, steps_made, fault_end, PlainState, HasCause, EndsBy, IsDead, PlainOccurrence, numbered}
 use Rattle.cpn_definitions.specs.Run.{PlainOutcome, IsRun, IsLegalRun}
 use Rattle.cpn_definitions.proofs.Rounds.{IsUnderWay, done_claims, done_owe_no_cut, done_are_not_open, done_are_committed, length_done}
 
@@ -10,12 +10,14 @@ use Rattle.cpn_definitions.proofs.Rounds.{IsUnderWay, done_claims, done_owe_no_c
 abbrev pub IsOver : PlainSetup → List PlainOccurrence → Marking → PlainEnd → Type 0
 IsOver setup os marking steps_made = length os ≡ setup.limits.steps
 IsOver setup os marking dead = (length os ≢ setup.limits.steps) × IsDead setup.net marking
+IsOver setup os marking (fault_end e fault) = ⊥
 
 has_cause : (setup : PlainSetup) (journal : List PlainEvent) (os : List PlainOccurrence) (marking : Marking) (cause : PlainEnd)
     → IsUnderWay setup journal os marking → IsOver setup os marking cause → HasCause setup (record { clock = setup.clock; claims = done_claims setup.net os; cut = None }) cause
 has_cause setup journal os marking steps_made way over = length_done setup.net os ∙ over
 has_cause setup journal os marking dead way over =
     ((λ is. over.0 (sym (length_done setup.net os) ∙ is)), (marking, way.marking_is, over.1))
+has_cause setup journal os marking (fault_end e fault) way over = over
 
 -- the run that has ended is one of its setup
 pub ended : (setup : PlainSetup) (journal : List PlainEvent) (os : List PlainOccurrence) (marking : Marking) (cause : PlainEnd)

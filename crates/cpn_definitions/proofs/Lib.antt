@@ -4,6 +4,7 @@ pub mod Rounds
 pub mod Comparing
 pub mod Sorting
 pub mod Stamps
+pub mod Searching
 pub mod Rows
 pub mod Listing
 pub mod Ending

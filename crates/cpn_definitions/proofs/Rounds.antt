@@ -9,8 +9,8 @@ use Rattle.cpn_definitions.specs.Meaning.{Outcome, gives, faults, no_meaning, gi
 use Rattle.cpn_definitions.specs.Occurrence.{PlainElement, Needed, Made, are_covered, covered, binds, guard_holds, needs_of, outputs_of, after, exchanged, subtract, add_made}
 use Rattle.cpn_definitions.specs.Legal.{LeastTime, TimedElement, Legal}
 use Rattle.cpn_definitions.specs.Enabled.{PlainEntry, Enabled, ready}
-use Rattle.cpn_definitions.specs.HoleRun.{PlainClaim, Status, open_claim, done_with, failed_with, hole_run, unclaimed, settled, is_open, is_done, committed, added}
-use Rattle.cpn_definitions.specs.State.{PlainSetup, PlainEvent, claim_made, claim_completed, PlainEnd, PlainState, PlainCut, first_state, owes_cut, owed_at, is_held_by, given_needs, new_claim, status_after, IsDrawn, MayClaim, MayComplete, Happens, Leads, IsState, PlainOccurrence, timed, numbered, committed_occurrences}
+use Rattle.cpn_definitions.specs.HoleRun.{PlainClaim, Status, open_claim, done_with, faulted_with, hole_run, unclaimed, settled, is_open, is_done, committed, added}
+use Rattle.cpn_definitions.specs.State.{PlainSetup, PlainEvent, claim_made, claim_completed, PlainEnd, PlainState, PlainCut, first_state, cut_by, cut_at, owed_cut, is_held_by, given_needs, new_claim, status_after, IsDrawn, MayClaim, MayComplete, Happens, Leads, IsState, PlainOccurrence, timed, numbered, committed_occurrences}
 use Rattle.cpn_definitions.proofs.Sequences.{legal_more, hole_run_more, passed}
 
 -- the outputs that an outcome gives, none where it gives none
@@ -31,10 +31,20 @@ pub leads_more : (setup : PlainSetup) (old : PlainState) (events more : List Pla
 leads_more setup old [] more mid new first second = let P : PlainState → Type 0 = λ s. Leads setup s more new in subst P first second
 leads_more setup old (event ∷ events) more mid new first second = (first.0, first.1, leads_more setup first.0 events more mid new first.2 second)
 
+-- whether a cut is made doesn't depend on the number
+pub no_cut_at_any : (j k : ℕ) (claim : Option PlainClaim) → cut_at j claim ≡ None → cut_at k claim ≡ None
+no_cut_at_any j k None none = refl
+no_cut_at_any j k (Some claim) none = by_status claim.status none
+  where
+    by_status : (status : Status) → cut_by j claim.element status ≡ None → cut_by k claim.element status ≡ None
+    by_status open_claim is = refl
+    by_status (done_with outputs) is = refl
+    by_status (faulted_with fault) is = cc
+
 -- of claims that are all done: no cut is owed, no claim is open or held, and all are committed
-pub done_owe_no_cut : (n : PlainNet) (os : List PlainOccurrence) → owes_cut (done_claims n os) ≡ false
+pub done_owe_no_cut : (n : PlainNet) (os : List PlainOccurrence) → owed_cut (done_claims n os) ≡ None
 done_owe_no_cut n [] = refl
-done_owe_no_cut n (o ∷ os) = done_owe_no_cut n os
+done_owe_no_cut n (o ∷ os) = no_cut_at_any (committed (done_claims n os)) (suc (committed (done_claims n os))) (slice_get (done_claims n os) (committed (done_claims n os))) (done_owe_no_cut n os)
 
 pub done_are_not_open : (n : PlainNet) (os : List PlainOccurrence) → list_any (λ claim. is_open claim.status) (done_claims n os) ≡ false
 done_are_not_open n [] = refl
@@ -49,14 +59,21 @@ done_are_committed n [] = refl
 done_are_committed n (o ∷ os) = ap (λ cs. done_claim n o ∷ cs) (done_are_committed n os)
 
 -- an open claim after done ones owes no cut
-pub open_owes_no_cut : (n : PlainNet) (os : List PlainOccurrence) (claim : PlainClaim) → is_open claim.status ≡ true → owes_cut (done_claims n os ++ claim ∷ []) ≡ false
-open_owes_no_cut n [] claim is = no_cut claim.status is
-  where
-    no_cut : (status : Status) → is_open status ≡ true → owed_at status false ≡ false
-    no_cut open_claim is' = refl
-    no_cut (done_with outputs) is' = refl
-    no_cut (failed_with fault) is' = cc
-open_owes_no_cut n (o ∷ os) claim is = open_owes_no_cut n os claim is
+open_is_not_done : (status : Status) → is_open status ≡ true → is_done status ≡ false
+open_is_not_done open_claim is = refl
+open_is_not_done (done_with outputs) is = cc
+open_is_not_done (faulted_with fault) is = refl
+
+open_makes_no_cut : (k : ℕ) (e : PlainElement) (status : Status) → is_open status ≡ true → cut_by k e status ≡ None
+open_makes_no_cut k e open_claim is = refl
+open_makes_no_cut k e (done_with outputs) is = refl
+open_makes_no_cut k e (faulted_with fault) is = cc
+
+pub open_owes_no_cut : (n : PlainNet) (os : List PlainOccurrence) (claim : PlainClaim) → is_open claim.status ≡ true → owed_cut (done_claims n os ++ claim ∷ []) ≡ None
+open_owes_no_cut n [] claim is = rw (open_is_not_done claim.status is) (open_makes_no_cut 0 claim.element claim.status is)
+open_owes_no_cut n (o ∷ os) claim is =
+    let claims = done_claims n os ++ claim ∷ [] in
+    no_cut_at_any (committed claims) (suc (committed claims)) (slice_get claims (committed claims)) (open_owes_no_cut n os claim is)
 
 -- the last of a list with one more, and its change
 pub last_is : {A : Type 0} (xs : List A) (x : A) → slice_get (xs ++ x ∷ []) (length xs) ≡ Some x

@@ -26,7 +26,7 @@ untimed_at (place ∷ places) (suc p) all = untimed_at places p (and_parts (is_i
 
 -- each place of a sound net is untimed
 pub sound_is_untimed : (n : PlainNet) (p : ℕ) → is_sound n ≡ true → is_timed n p ≡ false
-sound_is_untimed n p sound = untimed_at n.places p (and_parts _ _ (and_parts _ _ sound).0).0
+sound_is_untimed n p sound = untimed_at n.places p (and_parts _ _ (and_parts _ _ (and_parts _ _ sound).0).0).0
 
 -- the threshold of a need is 0 at each time
 pub threshold_is_zero : (n : PlainNet) (time : ℕ) (need : Needed) → is_sound n ≡ true → threshold n time need ≡ 0

@@ -2,6 +2,7 @@
 -- Source: timed multisets of Jensen and Kristensen, chapter 11; which stamp is taken is our own choice.
 use Rattle.std.specs.Prelude.{◌≡◌, ℕ, Bool, true, false, ◌&&◌, if◌then◌else◌, nat_le, List, [], ◌∷◌}
 use Rattle.std.specs.List.{list_any}
+use Rattle.std.specs.List.Sorted.{IsPartitionPoint}
 use Rattle.std.specs.declared.cmp.Ordering.{Ordering}
 use Rattle.std.specs.Ordering.{ordering_then, nat_cmp, is_lt, is_gt}
 use Rattle.cpn_definitions.specs.Value.{PlainValue}
@@ -11,6 +12,10 @@ use Rattle.cpn_definitions.specs.Order.{value_cmp, same_value}
 pub record PlainToken : Type 0 where
   pub value : PlainValue
   pub stamp : ℕ
+
+-- a token of a value with a time stamp
+abbrev pub token_at : PlainValue → ℕ → PlainToken
+token_at v s = record { value = v; stamp = s }
 
 -- The tokens of one place, sorted by value, then by stamp.
 abbrev pub Tokens : Type 0
@@ -33,6 +38,19 @@ MayPrecede t (u ∷ us) = is_gt (token_cmp t u) ≡ false
 abbrev pub AreSorted : Tokens → Type 0
 AreSorted [] = Unit {0}
 AreSorted (t ∷ ts) = MayPrecede t ts × AreSorted ts
+
+-- the token comes before another
+abbrev pub Precedes : PlainToken → PlainToken → Type 0
+Precedes t u = is_lt (token_cmp t u) ≡ true
+
+-- the token does not come before another
+abbrev pub DoesNotPrecede : PlainToken → PlainToken → Type 0
+DoesNotPrecede t u = is_lt (token_cmp t u) ≡ false
+
+-- the place of a token among sorted tokens: it comes before none of those ahead of the place, and before each
+-- from the place on
+abbrev pub IsPlaceOf : PlainToken → Tokens → ℕ → Type 0
+IsPlaceOf t ks = IsPartitionPoint (DoesNotPrecede t) (Precedes t) ks
 
 -- the tokens of a place with one more, at its place in the order
 abbrev pub add_token : PlainToken → Tokens → Tokens

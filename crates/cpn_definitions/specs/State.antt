@@ -5,11 +5,11 @@ use Rattle.std.specs.Prelude.{◌≡◌, ◌≢◌, ℕ, suc, ◌<◌, ◌%◌, 
 use Rattle.std.specs.List.{list_any}
 use Rattle.cpn_definitions.specs.Marking.{Marking}
 use Rattle.cpn_definitions.specs.Net.{PlainNet, transition_at}
-use Rattle.cpn_definitions.specs.Meaning.{Outcome, gives, faults, no_meaning}
+use Rattle.cpn_definitions.specs.Meaning.{Fault, Outcome, gives, faults, no_meaning}
 use Rattle.cpn_definitions.specs.Occurrence.{PlainElement, Needed, Made, covered, needs_of, outputs_of}
 use Rattle.cpn_definitions.specs.Enabled.{PlainEntry, Enabled, ready}
 use Rattle.cpn_definitions.specs.Legal.{TimedElement}
-use Rattle.cpn_definitions.specs.HoleRun.{PlainClaim, Status, open_claim, done_with, failed_with, hole_run, unclaimed, settled, is_open, is_done, committed}
+use Rattle.cpn_definitions.specs.HoleRun.{PlainClaim, Status, open_claim, done_with, faulted_with, hole_run, unclaimed, settled, is_open, is_done, committed}
 use Rattle.cpn_definitions.specs.Draw.{word}
 
 -- The limits of a run: how many claims it may make, the last time that it may reach, and its seats.
@@ -32,18 +32,20 @@ pub data PlainEvent : Type 0 where
   claim_made : ℕ → ℕ → PlainEvent
   claim_completed : ℕ → ℕ → PlainEvent
 
--- How a run ends: no element is covered at any time, or as many claims were made as it may make.
+-- How a run ends: no element is covered at any time, as many claims were made as it may make, or the outputs
+-- of an element had a fault.
 pub data PlainEnd : Type 0 where
   dead : PlainEnd
   steps_made : PlainEnd
+  fault_end : PlainElement → Fault → PlainEnd
 
 -- A cut: the number from which on claims were removed, and the cause.
 pub record PlainCut : Type 0 where
   pub number : ℕ
   pub cause : PlainEnd
 
--- The state of a run: the clock, the claims, and the last cut. No event of this table makes a cut; those
--- of faults, stop monitors and want of memory will.
+-- The state of a run: the clock, the claims, and the last cut. No event below makes a cut, so there is none
+-- in any state of a journal.
 pub record PlainState : Type 0 where
   pub clock : ℕ
   pub claims : List PlainClaim
@@ -56,16 +58,19 @@ first_state setup = record { clock = setup.clock; claims = []; cut = None }
 abbrev pub unclaimed_in : PlainSetup → PlainState → Option Marking
 unclaimed_in setup state = unclaimed setup.net setup.start state.claims
 
--- whether a claim of a status makes a cut owed, given whether those after it do
-abbrev pub owed_at : Status → Bool → Bool
-owed_at open_claim rest = false
-owed_at (done_with outputs) rest = rest
-owed_at (failed_with fault) rest = true
+-- the cut that a claim of a number makes owed where it is the first that is not committed
+abbrev pub cut_by : ℕ → PlainElement → Status → Option PlainCut
+cut_by k e open_claim = None
+cut_by k e (done_with outputs) = None
+cut_by k e (faulted_with fault) = Some (record { number = k; cause = fault_end e fault })
 
--- whether a cut is owed: the first claim that is not committed has failed
-abbrev pub owes_cut : List PlainClaim → Bool
-owes_cut [] = false
-owes_cut (claim ∷ claims) = owed_at claim.status (owes_cut claims)
+abbrev pub cut_at : ℕ → Option PlainClaim → Option PlainCut
+cut_at k None = None
+cut_at k (Some claim) = cut_by k claim.element claim.status
+
+-- the cut that is owed: at the first claim that is not committed, where it is done with a fault
+abbrev pub owed_cut : List PlainClaim → Option PlainCut
+owed_cut claims = cut_at (committed claims) (slice_get claims (committed claims))
 
 -- whether a claim is open, and is open for the seat
 abbrev pub is_held_by : ℕ → PlainClaim → Bool
@@ -84,7 +89,7 @@ new_claim n seat time e = record { seat = seat; element = e; time = time; needs 
 -- what becomes of a claim when its outputs are evaluated
 abbrev pub status_after : Outcome (List Made) → Option Status
 status_after (gives outputs) = Some (done_with outputs)
-status_after (faults fault) = Some (failed_with fault)
+status_after (faults fault) = Some (faulted_with fault)
 status_after no_meaning = None
 
 -- The entry is the one that word k draws from the ready ones: the word modulo their number is its position.
@@ -96,7 +101,7 @@ pub record IsDrawn (seed k : ℕ) (entries : List PlainEntry) (drawn : PlainEntr
 -- run's and has no open claim. The claim is open on the drawn one of the ready elements.
 pub record MayClaim (setup : PlainSetup) (old : PlainState) (seat number : ℕ) (new : PlainState) : Type 0 where
   pub no_cut : old.cut ≡ None
-  pub none_owed : owes_cut old.claims ≡ false
+  pub none_owed : owed_cut old.claims ≡ None
   pub next_number : number ≡ length old.claims
   pub below_limit : number < setup.limits.steps
   pub seat_known : seat < setup.limits.seats
@@ -110,9 +115,9 @@ pub record MayClaim (setup : PlainSetup) (old : PlainState) (seat number : ℕ) 
   pub new_is : new ≡ record old { claims = old.claims ++ new_claim setup.net seat old.clock drawn.element ∷ [] }
 
 -- Completion: no cut is owed, and the claim is open and of the seat. It is then done with its outputs, or
--- failed with their fault.
+-- with their fault.
 pub record MayComplete (setup : PlainSetup) (old : PlainState) (seat number : ℕ) (new : PlainState) : Type 0 where
-  pub none_owed : owes_cut old.claims ≡ false
+  pub none_owed : owed_cut old.claims ≡ None
   pub held_claim : PlainClaim
   pub claim_is : slice_get old.claims number ≡ Some held_claim
   pub held : is_held_by seat held_claim ≡ true
@@ -164,10 +169,11 @@ HasCause setup state steps_made = length state.claims ≡ setup.limits.steps
 HasCause setup state dead =
     (length state.claims ≢ setup.limits.steps)
     × ((marking : Marking) × (unclaimed_in setup state ≡ Some marking) × IsDead setup.net marking)
+HasCause setup state (fault_end e fault) = ⊥
 
 -- End: no claim is open and no cut is owed. The cause is that of the last cut, or else that for which a run
 -- with no cut ends.
 pub record EndsBy (setup : PlainSetup) (state : PlainState) (cause : PlainEnd) : Type 0 where
   pub none_open : list_any (λ claim. is_open claim.status) state.claims ≡ false
-  pub none_owed : owes_cut state.claims ≡ false
+  pub none_owed : owed_cut state.claims ≡ None
   pub has_cause : MatchOption state.cut (HasCause setup state cause) (λ cut. cause ≡ cut.cause)

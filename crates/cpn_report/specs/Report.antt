@@ -6,9 +6,9 @@ use Rattle.cpn_definitions.specs.Value.{PlainValue, unit, boolean, int, constant
 use Rattle.cpn_definitions.specs.Order.{same_value}
 use Rattle.cpn_definitions.specs.Marking.{PlainToken, Tokens, Marking}
 use Rattle.cpn_definitions.specs.Net.{Coloured, PlainNet, variable_at, transition_at}
-use Rattle.cpn_definitions.specs.Meaning.{PlainBinding}
+use Rattle.cpn_definitions.specs.Meaning.{PlainBinding, Fault, overflow, divide_by_zero, empty_list, no_case, not_in_colour, bad_coefficient, bad_delay, too_large}
 use Rattle.cpn_definitions.specs.Occurrence.{PlainElement}
-use Rattle.cpn_definitions.specs.State.{PlainEvent, claim_made, claim_completed, PlainEnd, dead, steps_made, PlainOccurrence}
+use Rattle.cpn_definitions.specs.State.{PlainEvent, claim_made, claim_completed, PlainEnd, dead, steps_made, fault_end, PlainOccurrence}
 use Rattle.cpn_definitions.specs.Run.{PlainOutcome, Outlook}
 
 -- an integer, with ~ in front of a negative one
@@ -73,13 +73,25 @@ event_text (claim_completed seat number) = codes " d" ++ decimal number
 unfoldable pub schedule_line : List PlainEvent → List ℕ
 schedule_line events = codes "schedule" ++ flat_map event_text events ++ codes "\n"
 
--- the cause of the run's end
-abbrev pub cause_text : PlainEnd → List ℕ
-cause_text dead = codes "dead"
-cause_text steps_made = codes "steps"
+-- the number and the name of a fault
+abbrev pub fault_text : Fault → List ℕ
+fault_text overflow = codes "1 overflow"
+fault_text divide_by_zero = codes "2 divide_by_zero"
+fault_text empty_list = codes "3 empty_list"
+fault_text no_case = codes "4 no_case"
+fault_text not_in_colour = codes "5 not_in_colour"
+fault_text bad_coefficient = codes "6 bad_coefficient"
+fault_text bad_delay = codes "7 bad_delay"
+fault_text too_large = codes "8 too_large"
 
-unfoldable pub end_line : PlainEnd → List ℕ
-end_line cause = codes "end " ++ cause_text cause ++ codes "\n"
+-- the cause of the run's end
+abbrev pub cause_text : PlainNet → PlainEnd → List ℕ
+cause_text n dead = codes "dead"
+cause_text n steps_made = codes "steps"
+cause_text n (fault_end e fault) = codes "fault " ++ fault_text fault ++ codes " " ++ element_text n e
+
+unfoldable pub end_line : PlainNet → PlainEnd → List ℕ
+end_line n cause = codes "end " ++ cause_text n cause ++ codes "\n"
 
 unfoldable pub occurrences_line : ℕ → List ℕ
 occurrences_line count = codes "occurrences " ++ decimal count ++ codes "\n"
@@ -139,7 +151,7 @@ run_text n number clock opening outcome closing =
     run_line number clock opening
     ++ flat_map (occurrence_line n) outcome.occurrences
     ++ schedule_line outcome.journal
-    ++ end_line outcome.cause
+    ++ end_line n outcome.cause
     ++ occurrences_line (length outcome.occurrences)
     ++ clock_line outcome.clock
     ++ place_lines n.places outcome.marking

@@ -1,0 +1,15 @@
+-- One level of a value.
+use Rattle.std.proofs.Common.{◌≡◌, ℕ, Option, Some, None, Box, Global, rules}
+use Rattle.cpn_definitions.specs.Value.{applied}
+use Rattle.cpn_core.specs.declared.values.Value.{Value, the_lemmas}
+use Rattle.cpn_core.specs.declared.values.Value.TheViews.{Con}
+use Rattle.cpn_core.specs.Views.{value_view, constructor_view}
+
+-- a constructor with its argument is seen as that constructor, applied to what the argument is seen as
+pub view_con_some : (k : ℕ) (b : Box Value Global) → value_view (Con k (Some b)) ≡ applied k (value_view b.value)
+view_con_some k b = search (rules, the_lemmas)
+
+-- a constructor, without or with its argument
+pub view_con : (k : ℕ) (argument : Option (Box Value Global)) → value_view (Con k argument) ≡ constructor_view k argument
+view_con k None = search (rules, the_lemmas)
+view_con k (Some b) = view_con_some k b

@@ -1,0 +1,4 @@
+pub mod Levels
+pub mod Items
+pub mod Shapes
+pub mod Placing

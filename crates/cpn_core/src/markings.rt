@@ -1,0 +1,102 @@
+// Markings: the tokens of each place of a net.
+ghost use Rattle.std.specs.Prelude.{◌≡◌, ◌<◌, [], length, replicate, count_by, slice_index_or, slice_set, IfOk, OnOk, OnErr};
+ghost use Rattle.cpn_definitions.specs.Marking.{token_at, add_token, without_token, is_taken_by, AreSorted};
+ghost use Rattle.cpn_core.specs.Views.{value_view};
+ghost use Rattle.cpn_core.specs.Tokens.{tokens_view};
+
+use crate::memory_wanted::Memory;
+use crate::places::{Place, Token};
+use crate::values::Value;
+use std::alloc::Global;
+use std::marker::Model;
+
+/// A marking: for each place, by its number from 0, its tokens, sorted by value and then by time stamp.
+/// Source: timed multisets, Jensen and Kristensen, chapter 11. A clause sees it as the plain marking of
+/// the definitions.
+#[derive(Drop)]
+pub struct PlainMarking {
+    places: Vec<Place>,
+}
+
+impl Model for PlainMarking {
+    ghost use Rattle.cpn_definitions.specs.Marking.{Marking};
+    ghost use Rattle.cpn_definitions.specs.Code.{marking_code};
+
+    ghost Value = { Marking };
+
+    ghost coded = { marking_code };
+
+    ghost view = { λ m. m.places.items };
+}
+
+impl PlainMarking {
+    /// The marking of so many places without tokens.
+    pub fn new(alloc: Global, places: usize) -> Result<PlainMarking, Memory>
+        ensures empty { IfOk result (λ marking. marking ≡ replicate places []) }
+    {
+        let mut held = Vec::with_capacity(alloc, places)?;
+        for _place in 0..places {
+            held.push(Place::new(alloc))?;
+        }
+        Ok(PlainMarking { places: held })
+    }
+
+    /// The number of places.
+    pub fn len(&self) -> usize
+        ensures number { result ≡ length self.now }
+    {
+        self.places.len()
+    }
+
+    /// The tokens of a place, in order.
+    pub fn tokens(&self, place: u32) -> &[Token]
+        requires in_range { place < length self.now }
+        ensures items { tokens_view result.now ≡ slice_index_or self.now place [] }
+        ensures sorted { AreSorted (slice_index_or self.now place []) }
+    {
+        let held = &self.places[place as usize];
+        held.tokens()
+    }
+
+    /// Adds a token of the value with the time stamp to a place. After `Memory` the marking is as it was.
+    pub fn add(&mut self, place: u32, value: Value, stamp: u64) -> Result<(), Memory>
+        requires in_range { place < length self.old }
+        ensures added { OnOk result (self.new ≡ slice_set self.old place (add_token (token_at (value_view value) stamp) (slice_index_or self.old place []))) }
+        ensures unchanged { OnErr result (self.new ≡ self.old) }
+    {
+        let held = &mut self.places[place as usize];
+        held.add(value, stamp)
+    }
+
+    /// Takes from a place the latest token of the value whose stamp is not above `latest`; where there is
+    /// none the marking stays as it is. It takes no memory.
+    pub fn take(&mut self, place: u32, value: &Value, latest: u64)
+        requires in_range { place < length self.old }
+        ensures taken { self.new ≡ slice_set self.old place (without_token (value_view value.now) latest (slice_index_or self.old place [])) }
+    {
+        let held = &mut self.places[place as usize];
+        held.take(value, latest);
+    }
+
+    /// How many tokens of the value in a place have a stamp that is not above `latest`: as often as that
+    /// the value can be taken there at that threshold.
+    pub fn count(&self, place: u32, value: &Value, latest: u64) -> usize
+        requires in_range { place < length self.now }
+        ensures number { result ≡ count_by (is_taken_by (value_view value.now) latest) (slice_index_or self.now place []) }
+        ensures sorted { AreSorted (slice_index_or self.now place []) }
+    {
+        let held = &self.places[place as usize];
+        held.count(value, latest)
+    }
+
+    /// A marking of its own with the same tokens.
+    pub fn copy(&self) -> Result<PlainMarking, Memory>
+        ensures same { IfOk result (λ marking. marking ≡ self.now) }
+    {
+        let mut places = Vec::with_capacity(*self.places.allocator(), self.places.len())?;
+        for place in &self.places {
+            places.push(place.copy()?)?;
+        }
+        Ok(PlainMarking { places })
+    }
+}

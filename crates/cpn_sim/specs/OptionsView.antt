@@ -1,0 +1,6 @@
+-- The plain options that those of the program stand for.
+use Rattle.cpn_sim.specs.Options.{PlainOptions}
+use Rattle.cpn_sim.specs.declared.options.Options.{Options}
+
+abbrev pub options_view : Options → PlainOptions
+options_view o = record { seed = o.seed; steps = o.steps }
