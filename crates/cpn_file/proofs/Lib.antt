@@ -4,3 +4,5 @@ pub mod Stripping
 pub mod Digits
 pub mod NameLists
 pub mod Lists
+pub mod Bound
+pub mod Numbered

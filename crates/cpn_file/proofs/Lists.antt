@@ -14,14 +14,15 @@ use Rattle.cpn_file.specs.declared.refusals.DocError.TheVariants.{Memory, NotJso
 abbrev pub with_front : {A : Type 0} → List A → Option (List A) → Option (List A)
 with_front front rest = option_map (λ xs. front ++ xs) rest
 
+-- one more item goes from the rest to those that were read
+pub front_more : {A : Type 0} (front : List A) (x : A) (rest : Option (List A)) → with_front front (option_map (λ xs. x ∷ xs) rest) ≡ with_front (front ++ x ∷ []) rest
+front_more front x None = refl
+front_more front x (Some xs) = ap Some (sym (append_assoc front (x ∷ []) xs))
+
 module _ {A : Type 0} (read : Data → Option A) where
   each_item : (front : List A) (d : Data) (ds : Items) (x : A) → read d ≡ Some x → with_front front (each_in read (item d ds)) ≡ with_front (front ++ x ∷ []) (each_in read ds)
   unfolding each_in
-  each_item front d ds x h = rw h (by (each_in read ds))
-    where
-      by : (rest : Option (List A)) → with_front front (option_map (λ xs. x ∷ xs) rest) ≡ with_front (front ++ x ∷ []) rest
-      by None = refl
-      by (Some xs) = ap Some (sym (append_assoc front (x ∷ []) xs))
+  each_item front d ds x h = rw h (front_more front x (each_in read ds))
 
   item_refused : (front : List A) (d : Data) (ds : Items) → read d ≡ None → with_front front (each_in read (item d ds)) ≡ None
   unfolding each_in

@@ -5,3 +5,4 @@ pub mod Loading
 pub mod Refusals
 pub mod Names
 pub mod Views
+pub mod Groups

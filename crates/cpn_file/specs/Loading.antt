@@ -1,6 +1,6 @@
 -- The net and the initial marking of a document. Source: own choice; arcs and markings are those of Jensen
 -- and Kristensen, chapter 4.
-use Rattle.std.specs.Prelude.{ℕ, zero, suc, ◌+◌, ◌==◌, Bool, true, false, ◌&&◌, nat_le, List, [], ◌∷◌, ◌++◌, length, map, replicate, Option, Some, None, option_map, option_and_then, codes}
+use Rattle.std.specs.Prelude.{ℕ, zero, suc, ◌+◌, ◌==◌, Bool, true, false, if◌then◌else◌, nat_le, List, [], ◌∷◌, ◌++◌, length, map, replicate, Option, Some, None, option_map, option_and_then, codes}
 use Rattle.std.specs.List.{filter, list_any, list_all, range_with_len}
 use Rattle.serde_json.specs.Data.{Data}
 use Rattle.cpn_definitions.specs.Value.{int}
@@ -77,17 +77,23 @@ outputs_among arcs = map output_of (filter (λ arc. is_output arc.way) arcs)
 abbrev pub stands_on : List PlainArc → ℕ → Bool
 stands_on arcs x = list_any (λ arc. is_bound_by x arc.expr) arcs
 
--- the variables, of so many, that stand on one of the arcs, in declaration order
-abbrev pub variables_on : ℕ → List PlainArc → List ℕ
-variables_on count arcs = filter (stands_on arcs) (range_with_len 0 count)
+-- the variables among these numbers that stand on an arc, where each of them stands on an input arc
+abbrev pub bound_among : List PlainArc → List PlainArc → List ℕ → Option (List ℕ)
+bound_among inputs outputs numbers =
+    if list_all (stands_on inputs) (filter (stands_on (inputs ++ outputs)) numbers) then Some (filter (stands_on (inputs ++ outputs)) numbers) else None
+
+-- The variables of a transition: those, of so many, that stand on one of its arcs, in declaration order,
+-- where each of them stands on an input arc.
+unfoldable pub variables_on : ℕ → List PlainArc → List PlainArc → Option (List ℕ)
+variables_on count inputs outputs = bound_among inputs outputs (range_with_len 0 count)
 
 -- A transition of a name with these arcs: at most 64 of them, an arc both ways counting two, and each of
 -- its variables stands on an input arc.
 unfoldable pub transition_with : ℕ → List ℕ → List Arc → Option PlainTransition
 transition_with count name arcs = do
   few ← when (nat_le (length (inputs_among arcs) + length (outputs_among arcs)) 64)
-  bound ← when (list_all (stands_on (inputs_among arcs)) (variables_on count (inputs_among arcs ++ outputs_among arcs)))
-  Some (record { name = name; guard = []; delay = None; inputs = inputs_among arcs; outputs = outputs_among arcs; vars = variables_on count (inputs_among arcs ++ outputs_among arcs) })
+  vars ← variables_on count (inputs_among arcs) (outputs_among arcs)
+  Some (record { name = name; guard = []; delay = None; inputs = inputs_among arcs; outputs = outputs_among arcs; vars = vars })
 
 -- the transitions of these names, numbered from t
 unfoldable pub transitions_from : ℕ → List ℕ → List Arc → ℕ → List (List ℕ) → Option (List PlainTransition)
