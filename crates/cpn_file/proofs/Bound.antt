@@ -22,7 +22,7 @@ module _ (inputs outputs : List PlainArc) where
     bound_input h =
         let rest = range_with_len (x + 1) (count - (x + 1)) in
         let found = filter (stands_on (inputs ++ outputs)) rest in
-        rw (next_number, list_any-append (λ arc. is_bound_by x arc.expr) inputs outputs, h) (front_bound front x (list_all (stands_on inputs) found) found)
+        rw (next_number, list_any-append (λ arc. is_bound_by x arc.expr) inputs outputs, h, h) (front_bound front x (list_all (stands_on inputs) found) found)
 
     -- the next variable stands on no arc
     pub bound_neither : stands_on inputs x ≡ false → stands_on outputs x ≡ false → with_front front (bound_among inputs outputs (range_with_len (x + 1) (count - (x + 1)))) ≡ with_front front (bound_among inputs outputs (range_with_len x (count - x)))

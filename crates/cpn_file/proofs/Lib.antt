@@ -6,3 +6,4 @@ pub mod NameLists
 pub mod Lists
 pub mod Bound
 pub mod Numbered
+pub mod Marked

@@ -6,3 +6,5 @@ pub mod Refusals
 pub mod Names
 pub mod Views
 pub mod Groups
+pub mod Loads
+pub mod Reads

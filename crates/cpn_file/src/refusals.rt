@@ -3,6 +3,7 @@
 ghost use Rattle.std.specs.Prelude.{◌≡◌};
 ghost use Rattle.cpn_file.specs.declared.refusals.DocError.TheVariants.{Memory};
 
+use cpn_core::Memory;
 use std::alloc::{AllocError, AllocFailed};
 use thiserror::Error;
 
@@ -24,6 +25,14 @@ impl From<AllocError> for DocError {
     ghost from_gives = { λ _ e. e ≡ Memory };
 
     fn from(_error: AllocError) -> DocError {
+        DocError::Memory
+    }
+}
+
+impl From<Memory> for DocError {
+    ghost from_gives = { λ _ e. e ≡ Memory };
+
+    fn from(_error: Memory) -> DocError {
         DocError::Memory
     }
 }
