@@ -1,6 +1,8 @@
 //! The initial marking of the net.
 
 ghost use Rattle.std.specs.Prelude.{◌≡◌, ◌<◌, [], Some, length, map, slice_index_or, slice_set, IfOk, OnOk};
+ghost use Rattle.cpn_definitions.specs.Value.{int};
+ghost use Rattle.cpn_core.specs.Views.{value_view};
 ghost use Rattle.cpn_file.specs.Loading.{initial_tokens};
 ghost use Rattle.cpn_file.specs.Views.{places_view};
 
@@ -9,6 +11,13 @@ use crate::places::PlacePart;
 use cpn_core::{Memory, PlainMarking, Value};
 use std::alloc::Global;
 
+/// The value of each token of an initial marking.
+fn value_of(written: Initial) -> Value
+    ensures { value_view result ≡ int written.value }
+{
+    Value::Int(written.value)
+}
+
 /// Adds the tokens of an initial marking to a place that has none.
 fn add_tokens(marking: &mut PlainMarking, place: u32, written: Initial) -> Result<(), Memory>
     requires in_range { place < length marking.old }
@@ -16,7 +25,7 @@ fn add_tokens(marking: &mut PlainMarking, place: u32, written: Initial) -> Resul
     ensures { OnOk result (marking.new ≡ slice_set marking.old place (initial_tokens (Some written))) }
 {
     for _token in 0..written.count {
-        marking.add(place, Value::Int(written.value), 0)?;
+        marking.add(place, value_of(written), 0)?;
     }
     Ok(())
 }

@@ -10,4 +10,5 @@ pub loop-token-init : goal.loop-token-init
 loop-token-init c = none_added c.args.marking.now c.args.place (token_at (int c.args.written.value) 0) c.requires.empty
 
 pub loop-token-preserved : goal.loop-token-preserved
-loop-token-preserved c = c.in_ok-add.ensures.added ∙ rw c.loop-token.invariant (one_added c.args.marking.now c.args.place (token_at (int c.args.written.value) 0) c.loop-token._token c.requires.in_range)
+loop-token-preserved c =
+    rw (c.in_ok-add.ensures.added, c.value_of.ensures, c.loop-token.invariant) (one_added c.args.marking.now c.args.place (token_at (int c.args.written.value) 0) c.loop-token._token c.requires.in_range)
