@@ -1,0 +1,5 @@
+use Rattle.cpn_file.proofs.Stripping.{end_taken}
+use Rattle.cpn_file.proofs.texts.before.Goals as goal
+
+pub returns : goal.returns
+returns c = end_taken c.args.end.now c.args.text.now c.strip_suffix.result c.strip_suffix.ensures.cases

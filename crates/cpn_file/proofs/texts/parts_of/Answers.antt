@@ -1,0 +1,5 @@
+use Rattle.cpn_file.proofs.Stripping.{parts_taken}
+use Rattle.cpn_file.proofs.texts.parts_of.Goals as goal
+
+pub returns : goal.returns
+returns c = parts_taken c.args.text.now c.split_once.result c.split_once.ensures.cases

@@ -1,0 +1,125 @@
+//! The transitions of the net, with their variables.
+
+ghost use Rattle.std.specs.Prelude.{◌≡◌, List, length, map, string_bytes, IfOk};
+ghost use Rattle.cpn_core.specs.Nets.{multiset_view, arcs_view, transition_view};
+ghost use Rattle.cpn_definitions.specs.Sound.{is_bound_by};
+ghost use Rattle.cpn_file.specs.Loading.{flattened as flattened_name, stands_on as is_on, variables_on as variables_in, transition_with as transition_in, transitions_from};
+ghost use Rattle.cpn_file.specs.Names.{strings_of};
+ghost use Rattle.cpn_file.specs.Groups.{HoldsArcs};
+ghost use Rattle.cpn_file.specs.declared.arcs.Arc.{Arc as TheArc};
+ghost use Rattle.cpn_file.specs.Refusals.{Gives};
+
+use crate::arcs::Arc;
+use crate::grouping::grouped;
+use crate::net_arcs::{inputs_among, outputs_among};
+use crate::refusals::DocError;
+use cpn_core::{Expr, Guard, MExpr, PlaceArc, Transition};
+use std::alloc::{AllocError, Global};
+
+/// The most arcs of one transition, where an arc both ways counts two.
+const MOST_ARCS: usize = 64;
+
+/// The name of a place or a transition in the net: the module's name, `/`, its name.
+pub(crate) fn flattened(alloc: Global, top: &str, name: &str) -> Result<String, AllocError>
+    ensures { IfOk result (λ text. string_bytes text ≡ flattened_name top.now name.now) }
+{
+    let mut text = String::from_str(alloc, top)?;
+    text.push_str("/")?;
+    text.push_str(name)?;
+    Ok(text)
+}
+
+fn binds(variable: u32, inscription: &MExpr) -> bool
+    ensures { result ≡ is_bound_by variable (multiset_view inscription.now) }
+{
+    match inscription {
+        MExpr::One(expr) => match expr {
+            Expr::Lit(_) => false,
+            Expr::Var(number) => variable == *number,
+        },
+    }
+}
+
+/// Whether a variable stands on one of the arcs.
+fn stands_on(arcs: &[PlaceArc], variable: u32) -> bool
+    ensures { result ≡ is_on (arcs_view arcs.now) variable }
+{
+    for arc in arcs {
+        if binds(variable, &arc.inscription.expr) {
+            return true;
+        }
+    }
+    false
+}
+
+/// The variables, of so many, that stand on one of the arcs, each of them on an input arc.
+#[tactic(auto, unfolding(crate::specs::Loading::variables_on))]
+fn variables_on(
+    alloc: Global,
+    count: u32,
+    inputs: &[PlaceArc],
+    outputs: &[PlaceArc],
+) -> Result<Vec<u32>, DocError>
+    ensures { Gives (λ vars. vars.items) result (variables_in count (arcs_view inputs.now) (arcs_view outputs.now)) }
+{
+    let mut vars = Vec::new(alloc);
+    for variable in 0..count {
+        if stands_on(inputs, variable) {
+            vars.push(variable)?;
+        } else if stands_on(outputs, variable) {
+            return Err(DocError::NotYet);
+        }
+    }
+    Ok(vars)
+}
+
+#[tactic(auto, unfolding(crate::specs::Loading::transition_with))]
+fn transition_with(
+    alloc: Global,
+    count: u32,
+    name: String,
+    arcs: &[Arc],
+) -> Result<Transition, DocError>
+    ensures { Gives transition_view result (transition_in count (string_bytes name) arcs.now) }
+{
+    let inputs = inputs_among(alloc, arcs)?;
+    let outputs = outputs_among(alloc, arcs)?;
+    if inputs.len() > MOST_ARCS || outputs.len() > MOST_ARCS - inputs.len() {
+        return Err(DocError::NotYet);
+    }
+    let vars = variables_on(alloc, count, inputs.as_slice(), outputs.as_slice())?;
+    let guard = Guard { conjuncts: Vec::new(alloc) };
+    Ok(Transition { name, guard, delay: None, inputs, outputs, vars })
+}
+
+fn transitions_with(
+    alloc: Global,
+    count: u32,
+    top: &str,
+    names: &[String],
+    groups: &[Vec<Arc>],
+) -> Result<Vec<Transition>, DocError>
+    requires { length groups.now ≡ length names.now }
+    ensures { (arcs : List TheArc) → HoldsArcs groups.now (length names.now) arcs → Gives (λ transitions. map transition_view transitions.items) result (transitions_from count top.now arcs 0 (strings_of names.now)) }
+{
+    let mut transitions = Vec::new(alloc);
+    for (number, name) in names.iter().enumerate() {
+        let name = flattened(alloc, top, name.as_str())?;
+        transitions.push(transition_with(alloc, count, name, groups[number].as_slice())?)?;
+    }
+    Ok(transitions)
+}
+
+/// The transitions of these names, each with its own of the arcs.
+pub(crate) fn transitions_of(
+    alloc: Global,
+    count: u32,
+    top: &str,
+    names: &[String],
+    arcs: &[Arc],
+) -> Result<Vec<Transition>, DocError>
+    ensures { Gives (λ transitions. map transition_view transitions.items) result (transitions_from count top.now arcs.now 0 (strings_of names.now)) }
+{
+    let groups = grouped(alloc, arcs, names.len())?;
+    transitions_with(alloc, count, top, names, groups.as_slice())
+}
