@@ -7,3 +7,5 @@ pub mod Lists
 pub mod Bound
 pub mod Numbered
 pub mod Marked
+pub mod Tests
+pub mod Served

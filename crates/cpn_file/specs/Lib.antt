@@ -8,3 +8,4 @@ pub mod Views
 pub mod Groups
 pub mod Loads
 pub mod Reads
+pub mod WellLoaded
