@@ -1,18 +1,19 @@
 //! The words of the program, and the options that they give.
 
-ghost use Rattle.std.specs.Prelude.{◌≡◌, ◌<◌, ◌^◌, true, length, map, string_bytes, SomeIff};
+ghost use Rattle.std.specs.Prelude.{◌≡◌, ◌<◌, ◌≤◌, IfSome, ◌^◌, true, length, map, string_bytes, SomeIff};
 ghost use Rattle.std.specs.Str.{all_ascii_digits};
 ghost use Rattle.std.specs.Option.{option_map};
 ghost use Rattle.cpn_sim.specs.Options.{options_of_four, options_from, number_in, number_after};
 ghost use Rattle.cpn_sim.specs.OptionsView.{options_view};
 
 /// The options of a run.
-#[derive(Clone, Copy, Debug, PartialEq, Eq)]
+#[derive(Debug, Drop)]
 pub struct Options {
     /// The seed of the draws.
     pub seed: u64,
     /// How many claims the run may make: 1 to 1,000,000.
     pub steps: u64,
+    ghost few_steps: { steps ≤ 1000000 },
 }
 
 /// The options that the words give; `None` where they are not exactly `--seed`, a number, `--steps`
@@ -49,7 +50,8 @@ fn options_of_four(first: &str, seed_word: &str, second: &str, steps_word: &str)
 /// The number that the word spells in 1 to 20 digits, if it is in the range.
 #[tactic(auto, unfolding(crate::specs::Options::number_in))]
 fn number_in(low: u64, high: u64, word: &str) -> Option<u64>
-    ensures { result ≡ number_in low high word.now }
+    ensures within { IfSome result (λ n. n ≤ high) }
+    ensures value { result ≡ number_in low high word.now }
 {
     if word.is_empty() {
         return None;
