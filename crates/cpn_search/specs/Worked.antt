@@ -1,5 +1,5 @@
 -- The net that the tests search.
-use Rattle.std.specs.Prelude.{◌≡◌, ℕ, pos, List, [], ◌∷◌, None, map}
+use Rattle.std.specs.Prelude.{◌≡◌, ℕ, pos, [], ◌∷◌, None, map}
 use Rattle.cpn_definitions.specs.Value.{int}
 use Rattle.cpn_definitions.specs.Net.{literal, variable, one, literal_pattern, variable_pattern, PlainArc}
 use Rattle.cpn_definitions.specs.Sound.{int_colour}
