@@ -1,18 +1,18 @@
 -- The enabled elements of a net, gathered transition by transition.
-use Rattle.std.proofs.Common.{◌≡◌, ℕ, zero, suc, ◌+◌, ◌<◌, ◌≤◌, ◌⊎◌, Bool, true, false, max, nat_lt, List, [], ◌∷◌, ◌++◌, map, length, refl, sym, ap, ap₂, ◌∙◌, subst, inl, inr, ⊎_elim, arith, Contains, ◌↔◌, Ordering, Less, nat_cmp}
+use Rattle.std.proofs.Common.{◌≡◌, ℕ, ◌+◌, ◌<◌, true, max, nat_lt, List, [], ◌∷◌, ◌++◌, map, length, sym, ap, ◌∙◌, subst, ⊎_elim, arith, Contains, ◌↔◌, Less, nat_cmp}
 use Rattle.std.specs.Ordering.{ordering_then}
 use Rattle.std.specs.List.{AllByRecursion}
-use Rattle.std.proofs.lemmas.Bool.{and_parts, cases_lt}
+use Rattle.std.proofs.lemmas.Bool.{cases_lt}
 use Rattle.std.proofs.lemmas.Bool.Decides.{nat_tests}
 use Rattle.cpn_definitions.specs.Marking.{Marking}
-use Rattle.cpn_definitions.specs.Net.{PlainNet, transition_at}
-use Rattle.cpn_definitions.specs.Occurrence.{PlainElement, binds, guard_holds, needs_of, covered}
-use Rattle.cpn_definitions.specs.Enabled.{PlainEntry, PlainFound, element_cmp, IsIncreasing, IsEarliest, Enabled, entries_of, EnabledOf}
+use Rattle.cpn_definitions.specs.Net.{PlainNet}
+use Rattle.cpn_definitions.specs.Occurrence.{covered}
+use Rattle.cpn_definitions.specs.Enabled.{PlainEntry, PlainFound, IsIncreasing, IsEarliest, Enabled, entries_of, EnabledOf}
 use Rattle.cpn_definitions.specs.Sound.{is_sound}
 use Rattle.cpn_definitions.proofs.Untimed.{covered_at_any_time}
 use Rattle.cpn_definitions.proofs.Rising.{IsIn, Rises, in_from_contains, contains_from_in, in_append_left, in_append_right, in_append_cases, in_map, in_map_from, each_in, rises_mapped, rises_appended}
 use Rattle.cpn_definitions.proofs.Assignments.{binding_cmp}
-use Rattle.cpn_definitions.proofs.SearchLaws.{element_of, entry_cmp, is_increasing_from, earliest_is_clock, covered_is_earliest, covered_parts}
+use Rattle.cpn_definitions.proofs.SearchLaws.{entry_cmp, is_increasing_from, earliest_is_clock, covered_is_earliest, covered_parts}
 
 -- the entry, not before the clock
 abbrev pub not_before : ℕ → PlainEntry → PlainEntry

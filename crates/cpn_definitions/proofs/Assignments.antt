@@ -1,6 +1,6 @@
 -- The bindings that a search tries: for each variable in declaration order each of its candidates, the
 -- values that stand on the places of the arcs that bind it. They come in order and leave none out.
-use Rattle.std.proofs.Common.{◌≡◌, ℕ, suc, ◌+◌, ◌⊎◌, Bool, true, false, not, cond, ◌&&◌, ◌||◌, List, [], ◌∷◌, ◌++◌, map, length, refl, sym, ap, ◌∙◌, subst, inl, inr, arith, append_assoc, append-nil, Ordering, Less, Equal, Greater, is_eq, is_gt}
+use Rattle.std.proofs.Common.{◌≡◌, ℕ, suc, ◌+◌, Bool, true, false, not, cond, ◌&&◌, ◌||◌, List, [], ◌∷◌, ◌++◌, map, length, refl, sym, ap, ◌∙◌, subst, inl, inr, arith, append_assoc, append-nil, Ordering, Less, Equal, Greater, is_eq, is_gt}
 use Rattle.std.specs.Ordering.{ordering_then}
 use Rattle.std.specs.List.{flat_map, list_all, list_any, AllByRecursion}
 use Rattle.std.specs.Cmp.Lexicographic.{slice_cmp}
@@ -14,8 +14,8 @@ use Rattle.cpn_definitions.specs.Net.{PlainArc, PlainNet, variable_at}
 use Rattle.cpn_definitions.specs.Meaning.{PlainBinding}
 use Rattle.cpn_definitions.specs.Occurrence.{tokens_at}
 use Rattle.cpn_definitions.specs.Sound.{is_bound_by}
-use Rattle.cpn_definitions.proofs.Comparing.{value_cmp_total, value_same, value_itself, same_value_true, same_value_refl, then_then, then_equal}
-use Rattle.cpn_definitions.proofs.Rising.{IsIn, Rises, AllBefore, in_map, in_flat_map, each_in, of_one_in, each_mapped, each_implied, each_flat, rises_mapped, rises_flat}
+use Rattle.cpn_definitions.proofs.Comparing.{value_cmp_total, value_same, value_itself, same_value_true, then_then, then_equal}
+use Rattle.cpn_definitions.proofs.Rising.{IsIn, Rises, in_map, in_flat_map, each_in, each_mapped, each_implied, each_flat, rises_mapped, rises_flat}
 
 -- ---- what is tried
 

@@ -1,23 +1,22 @@
 -- The covered ones among the assignments of a search are the enabled bindings of a transition of a sound net.
-use Rattle.std.proofs.Common.{◌≡◌, ℕ, zero, suc, ◌+◌, ◌<◌, ◌≤◌, ◌==◌, ◌⊎◌, Bool, true, false, not, cond, ◌&&◌, ◌||◌, nat_lt, nat_le, List, [], ◌∷◌, ◌++◌, map, length, replicate, slice_index_or, Some, None, Option, refl, sym, ap, ap₂, ◌∙◌, subst, inl, inr, ⊎_elim, arith, Contains, ◌↔◌, Ordering, Less, Equal, nat_cmp, is_none}
+use Rattle.std.proofs.Common.{◌≡◌, ℕ, zero, suc, ◌<◌, ◌≤◌, ◌==◌, ◌⊎◌, Bool, true, false, not, cond, ◌&&◌, ◌||◌, nat_lt, nat_le, List, [], ◌∷◌, ◌++◌, map, length, replicate, slice_index_or, Some, refl, sym, ap, ap₂, ◌∙◌, subst, inl, inr, arith, Contains, Ordering, Less, Equal, nat_cmp}
 use Rattle.std.specs.Ordering.{ordering_then}
 use Rattle.std.specs.List.{filter, flat_map, list_all, list_any, AllByRecursion}
-use Rattle.std.specs.Cmp.Lexicographic.{slice_cmp}
 use Rattle.std.proofs.lemmas.Bool.{and_parts, cases_lt}
 use Rattle.std.proofs.lemmas.Bool.Decides.{nat_tests}
 use Rattle.std.proofs.lemmas.Cmp.{tied_itself, nat_cmp_total}
 use Rattle.cpn_definitions.specs.Value.{PlainValue}
-use Rattle.cpn_definitions.specs.Order.{value_cmp, same_value}
+use Rattle.cpn_definitions.specs.Order.{same_value}
 use Rattle.cpn_definitions.specs.Colour.{PlainColour, admits}
-use Rattle.cpn_definitions.specs.Marking.{PlainToken, Tokens, Marking, stamps, covers, is_taken_by}
+use Rattle.cpn_definitions.specs.Marking.{Tokens, Marking, stamps, covers, is_taken_by}
 use Rattle.cpn_definitions.specs.Net.{PlainExpr, literal, variable, PlainMultiset, one, PlainArc, PlainTransition, PlainNet, no_transition, variable_at, transition_at}
 use Rattle.cpn_definitions.specs.Meaning.{PlainBinding, Outcome, gives, faults, no_meaning, not_in_colour, gives_and, bound_value, given, meaning, in_colour, PlainTerm, terms_of, gather, ◌>>=◌}
-use Rattle.cpn_definitions.specs.Occurrence.{PlainElement, Needed, tokens_at, binds, guard_holds, needed_by, needs_of, threshold, same_need, thresholds, are_covered, covered}
+use Rattle.cpn_definitions.specs.Occurrence.{PlainElement, Needed, tokens_at, binds, needed_by, needs_of, threshold, same_need, thresholds, are_covered, covered}
 use Rattle.cpn_definitions.specs.Enabled.{PlainEntry, PlainFound, element_cmp, IsIncreasing, IsEarliest, entries_of, EnabledOf}
-use Rattle.cpn_definitions.specs.Sound.{is_sound, is_sound_but_arcs, has_sound_arcs, is_sound_transition, is_sound_arc, is_sound_expr, is_int_colour, is_bound_by, are_increasing, has_no_guard}
+use Rattle.cpn_definitions.specs.Sound.{is_sound, is_sound_but_arcs, has_sound_arcs, is_sound_transition, is_sound_arc, is_sound_expr, is_int_colour, is_bound_by, are_increasing}
 use Rattle.cpn_definitions.proofs.Comparing.{same_value_true, same_value_refl}
 use Rattle.cpn_definitions.proofs.Untimed.{threshold_is_zero, covered_at_any_time}
-use Rattle.cpn_definitions.proofs.Rising.{IsIn, Rises, in_from_contains, contains_from_in, in_append_left, in_append_right, in_map, in_map_from, in_filter, in_filter_from, passes_at, all_pass, some_passes, one_that_passes, each_in, each_mapped, rises_filtered, rises_mapped}
+use Rattle.cpn_definitions.proofs.Rising.{IsIn, Rises, in_from_contains, contains_from_in, in_append_left, in_append_right, in_map, in_map_from, in_filter, in_filter_from, passes_at, all_pass, one_that_passes, each_in, each_mapped, rises_filtered, rises_mapped}
 use Rattle.cpn_definitions.proofs.Assignments.{has_value, first_place, is_candidate, candidates, assignments, AreAssigned, binding_cmp, value_passes, assignments_have}
 
 -- ---- what is found

@@ -1,16 +1,14 @@
 -- Whether the needs of a transition are covered, arc by arc: each arc's inscription has a value, and the
 -- stamps of that value on its place cover the threshold as many times as arcs need a token of it there.
-use Rattle.std.proofs.Common.{◌≡◌, ℕ, zero, suc, ◌+◌, ◌==◌, Bool, true, false, cond, ◌&&◌, ◌||◌, nat_lt, nat_le, List, [], ◌∷◌, ◌++◌, map, length, replicate, count_by, Option, Some, None, refl, sym, ap, ap₂, ◌∙◌, subst, arith}
-use Rattle.std.specs.List.{filter, list_all, list_any, flat_map, AllByRecursion}
-use Rattle.std.specs.Option.{MatchOption}
-use Rattle.std.proofs.lemmas.Bool.{and_parts}
+use Rattle.std.proofs.Common.{◌≡◌, ℕ, suc, ◌+◌, ◌==◌, Bool, true, false, cond, ◌&&◌, ◌||◌, nat_lt, nat_le, List, [], ◌∷◌, ◌++◌, map, length, replicate, count_by, Option, Some, None, refl, sym, ap, ap₂, ◌∙◌, subst, arith}
+use Rattle.std.specs.List.{filter, list_all, list_any, flat_map}
 use Rattle.std.proofs.lemmas.Bool.Decides.{nat_tests}
 use Rattle.std.proofs.lemmas.List.Sums.{sum_by-cons}
 use Rattle.cpn_definitions.specs.Value.{PlainValue}
 use Rattle.cpn_definitions.specs.Order.{same_value}
-use Rattle.cpn_definitions.specs.Colour.{PlainColour, admits}
-use Rattle.cpn_definitions.specs.Marking.{PlainToken, Tokens, Marking, AreSorted, stamps, covers, is_taken_by}
-use Rattle.cpn_definitions.specs.Net.{PlainExpr, PlainMultiset, one, PlainArc, PlainTransition, PlainNet, transition_at}
+use Rattle.cpn_definitions.specs.Colour.{admits}
+use Rattle.cpn_definitions.specs.Marking.{Marking, AreSorted, stamps, covers, is_taken_by}
+use Rattle.cpn_definitions.specs.Net.{PlainMultiset, one, PlainArc, PlainTransition, PlainNet, transition_at}
 use Rattle.cpn_definitions.specs.Meaning.{PlainBinding, Outcome, gives, faults, no_meaning, not_in_colour, gives_and, meaning, in_colour, PlainTerm, gather, ◌>>=◌}
 use Rattle.cpn_definitions.specs.Occurrence.{Needed, tokens_at, is_timed, needed_by, needs_of, threshold, same_need, thresholds, are_covered, binds, guard_holds, covered}
 use Rattle.cpn_definitions.proofs.Stamps.{covers_count}

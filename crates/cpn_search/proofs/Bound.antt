@@ -1,7 +1,6 @@
 -- Pairs that are more or fewer than the variables don't bind them.
-use Rattle.std.proofs.Common.{◌≡◌, ◌≢◌, ℕ, suc, Bool, false, true, ◌&&◌, ◌==◌, List, [], ◌∷◌, map, length, refl, sym, ap, ◌∙◌, subst, arith}
-use Rattle.cpn_definitions.specs.Colour.{admits}
-use Rattle.cpn_definitions.specs.Net.{PlainNet, variable_at}
+use Rattle.std.proofs.Common.{◌≡◌, ◌≢◌, ℕ, suc, Bool, false, true, ◌&&◌, List, [], ◌∷◌, length, refl, sym, ap, ◌∙◌}
+use Rattle.cpn_definitions.specs.Net.{PlainNet}
 use Rattle.cpn_definitions.specs.Meaning.{PlainBinding}
 use Rattle.cpn_definitions.specs.Occurrence.{binds}
 use Rattle.cpn_core.specs.declared.bindings.Pair.{Pair}

@@ -1,5 +1,5 @@
 -- The candidates come in order.
-use Rattle.std.proofs.Common.{◌≡◌, ℕ, ◌≤◌, Bool, List, [], ◌++◌, drop, length, map, sym, ap, ◌∙◌, subst, drop_of_length-le, append-nil}
+use Rattle.std.proofs.Common.{◌≡◌, ℕ, ◌≤◌, Bool, List, [], ◌++◌, drop, length, sym, ap, ◌∙◌, subst, drop_of_length-le, append-nil}
 use Rattle.cpn_definitions.specs.Value.{PlainValue}
 use Rattle.cpn_definitions.specs.Order.{value_cmp}
 use Rattle.cpn_definitions.specs.Marking.{AreSorted}

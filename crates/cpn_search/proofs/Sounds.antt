@@ -3,7 +3,7 @@ use Rattle.std.proofs.Common.{◌≡◌, ℕ, zero, suc, ◌<◌, ◌≤◌, Boo
 use Rattle.std.specs.List.{list_all, list_any}
 use Rattle.std.proofs.lemmas.Bool.Decides.{nat_tests}
 use Rattle.cpn_definitions.specs.Marking.{Marking}
-use Rattle.cpn_definitions.specs.Net.{PlainArc, PlainTransition, no_transition, transition_at}
+use Rattle.cpn_definitions.specs.Net.{PlainArc, no_transition, transition_at}
 use Rattle.cpn_definitions.specs.Meaning.{PlainBinding}
 use Rattle.cpn_definitions.specs.Occurrence.{covered}
 use Rattle.cpn_definitions.specs.Sound.{is_sound, is_bound_by}

@@ -1,5 +1,5 @@
 -- What a search knows of a transition of a sound net, and of a marking of the net.
-use Rattle.std.specs.Prelude.{◌≡◌, ℕ, true, nat_lt, length}
+use Rattle.std.specs.Prelude.{◌≡◌, true, nat_lt, length}
 use Rattle.std.specs.List.{list_all, list_any}
 use Rattle.cpn_definitions.specs.Marking.{Marking}
 use Rattle.cpn_definitions.specs.Sound.{is_bound_by}

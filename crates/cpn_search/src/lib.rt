@@ -9,6 +9,8 @@ mod assignments;
 mod candidates;
 mod covering;
 mod searching;
+#[cfg(test)]
+mod tests;
 
 pub use covering::is_covered;
 pub use searching::{enabled, enabled_of};

@@ -1,5 +1,5 @@
 // The enabled bindings of a transition, and the enabled elements of a net.
-ghost use Rattle.std.specs.Prelude.{◌≡◌, ◌<◌, ◌++◌, ◌^◌, true, [], ◌∷◌, length, map, OnOk, IfOk};
+ghost use Rattle.std.specs.Prelude.{◌≡◌, ◌<◌, ◌++◌, true, [], ◌∷◌, length, map, OnOk, IfOk};
 ghost use Rattle.cpn_definitions.specs.Sound.{is_sound};
 ghost use Rattle.cpn_definitions.specs.Enabled.{EnabledOf, Enabled};
 ghost use Rattle.cpn_definitions.proofs.SearchLaws.{covered_ones, found_now};
@@ -92,9 +92,19 @@ fn push_entries(
     Ok(())
 }
 
+/// The number of transitions of the net.
+fn transition_count(net: &Net) -> Result<u32, Memory>
+    ensures count { IfOk result (λ count. count ≡ length net.now.transitions.items) }
+{
+    match u32::try_from(net.transitions.len()) {
+        Ok(count) => Ok(count),
+        Err(_) => Err(Memory),
+    }
+}
+
 /// The enabled elements of a sound net: each binding element that is covered at some time not before the
 /// clock, once, by transition and then by binding, with the least such time. `Memory` comes where memory
-/// is wanted, and leaves nothing behind. A net has fewer than 2^32 transitions, as their numbers say.
+/// is wanted, and for a net of 2^32 transitions or more, which have no numbers; it leaves nothing behind.
 /// Source: Jensen and Kristensen, chapter 11; the order is our own choice.
 pub fn enabled(
     alloc: Global,
@@ -104,11 +114,10 @@ pub fn enabled(
 ) -> Result<Vec<Entry>, Memory>
     requires sound { is_sound (net_view net.now) ≡ true }
     requires fits { length marking.now ≡ length net.now.places.items }
-    requires numbered { length net.now.transitions.items < 2 ^ 32 }
     ensures enabled { IfOk result (λ entries. Enabled (net_view net.now) marking.now clock (map entry_view entries.items)) }
 {
     let mut entries = Vec::new(alloc);
-    let count = net.transitions.len() as u32;
+    let count = transition_count(net)?;
     for t in 0..count {
         let found = enabled_of(alloc, net, marking, t)?;
         push_entries(&mut entries, found, t, clock)?;

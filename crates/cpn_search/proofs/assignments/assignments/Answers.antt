@@ -1,7 +1,5 @@
 -- One variable more is bound, and the bindings stay in order.
-use Rattle.std.proofs.Common.{◌≡◌, ℕ, nat_lt, length, map, drop, arith, sym, ap, ◌∙◌}
-use Rattle.std.specs.List.{list_any}
-use Rattle.cpn_definitions.specs.Sound.{is_bound_by}
+use Rattle.std.proofs.Common.{map}
 use Rattle.cpn_definitions.proofs.Assignments.{candidates}
 use Rattle.cpn_core.specs.Nets.{arc_view, net_view}
 use Rattle.cpn_search.proofs.Steps.{one_bound, passes_after}

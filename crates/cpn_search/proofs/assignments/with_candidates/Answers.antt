@@ -1,5 +1,5 @@
 -- Bindings in order stay in order with candidates, which come in order.
-use Rattle.std.proofs.Common.{◌≡◌, ◌+◌, ◌∙◌, List, sym, ap, ap₂, subst, map}
+use Rattle.std.proofs.Common.{◌+◌, ◌∙◌, sym, ap₂, subst, map}
 use Rattle.std.specs.List.{flat_map}
 use Rattle.cpn_definitions.proofs.Assignments.{AreInOrder, extended, more_in_order}
 use Rattle.cpn_core.specs.Views.{value_view}

@@ -1,5 +1,5 @@
 -- A value stands on a place exactly where some of its tokens are counted.
-use Rattle.std.proofs.Common.{◌≡◌, ◌∙◌, sym, ap, nat_lt, [], slice_index_or}
+use Rattle.std.proofs.Common.{◌∙◌, sym, ap, nat_lt, [], slice_index_or}
 use Rattle.cpn_definitions.specs.Marking.{is_taken_by}
 use Rattle.cpn_search.proofs.ArcByArc.{some_counted}
 use Rattle.cpn_core.specs.Views.{value_view}

@@ -1,5 +1,5 @@
 -- An element is covered where its transition is one of the net's and is covered with the binding.
-use Rattle.std.proofs.Common.{◌<◌, ◌≤◌, ◌∙◌, length, arith}
+use Rattle.std.proofs.Common.{◌∙◌, arith}
 use Rattle.cpn_search.proofs.Sounds.{known_transition, covered_here, covered_nowhere}
 use Rattle.cpn_search.proofs.covering.is_covered.Goals as goal
 

@@ -1,6 +1,4 @@
 -- The covered ones among the assignments are the enabled bindings.
-use Rattle.std.proofs.Common.{◌≡◌, ◌∙◌, ap, arith}
-use Rattle.cpn_core.specs.Nets.{net_view}
 use Rattle.cpn_search.specs.Finds.{found_views}
 use Rattle.cpn_search.proofs.Sounds.{known_transition}
 use Rattle.cpn_search.proofs.Finding.{found_enabled}
