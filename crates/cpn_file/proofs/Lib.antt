@@ -9,3 +9,5 @@ pub mod Numbered
 pub mod Marked
 pub mod Tests
 pub mod Served
+pub mod Sounding
+pub mod WellMade

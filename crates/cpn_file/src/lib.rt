@@ -22,3 +22,6 @@ pub use initials::Initial;
 pub use loading::Loaded;
 pub use reading::read_document;
 pub use refusals::DocError;
+
+#[cfg(test)]
+mod tests;

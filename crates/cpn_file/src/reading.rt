@@ -5,6 +5,7 @@ ghost use Rattle.serde_json.specs.View.{view};
 ghost use Rattle.cpn_file.specs.Loading.{PlainLoaded, loaded_in};
 ghost use Rattle.cpn_file.specs.Loads.{loaded_view};
 ghost use Rattle.cpn_file.specs.Reads.{Reads, IsNotYet, IsNotJson};
+ghost use Rattle.cpn_file.specs.WellLoaded.{IsWellLoaded};
 ghost use Rattle.cpn_file.specs.Refusals.{Gives};
 
 use crate::loading::{Loaded, loaded_of};
@@ -33,6 +34,7 @@ fn loaded_from_value(alloc: Global, value: &Value) -> Result<Loaded, DocError>
 /// - [`DocError::NotYet`]: the bytes are a JSON value, but no document that is served yet.
 pub fn read_document(alloc: Global, bytes: &[u8]) -> Result<Loaded, DocError>
     ensures ok { IfOk result (λ loaded. Reads bytes.now (loaded_view loaded)) }
+    ensures sound { IfOk result (λ loaded. IsWellLoaded (loaded_view loaded)) }
     ensures not_json { IsErrOf result DocError.NotJson → IsNotJson bytes.now }
     ensures not_yet { IsErrOf result DocError.NotYet → IsNotYet bytes.now }
     ensures complete { (loaded : PlainLoaded) → Reads bytes.now loaded → IfErr result (λ e. e ≡ DocError.Memory) }
