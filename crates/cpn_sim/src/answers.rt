@@ -11,8 +11,9 @@ ghost use Rattle.cpn_sim.specs.OptionsView.{options_view};
 ghost use Rattle.cpn_sim.specs.Reported.{IsReport, IsReportUnder, IsReportOf, setup_from};
 ghost use Rattle.cpn_sim.specs.Causes.{HasCause, IsOfDocument};
 
-use crate::options::{Options, options_from};
+use crate::options::Options;
 use crate::refusals::Refusal;
+use crate::words::options_from;
 use cpn_book::{Book, Setup};
 use cpn_core::{Finished, Limits, Memory};
 use cpn_file::{DocError, Loaded, read_document};

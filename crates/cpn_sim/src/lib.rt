@@ -9,5 +9,8 @@ mod answers;
 mod options;
 mod refusals;
 mod statuses;
+mod words;
 
-pub use options::{Options, options_from};
+pub use options::Options;
+pub use statuses::Status;
+pub use words::options_from;
