@@ -5,6 +5,8 @@ use Rattle.cpn_io.specs.Outside.{Rose}
 use Rattle.cpn_sim.specs.Options.{options_from}
 use Rattle.cpn_sim.specs.declared.refusals.Refusal.{Refusal}
 use Rattle.cpn_sim.specs.declared.refusals.Refusal.TheVariants as refusals
+use Rattle.cpn_sim.specs.declared.statuses.Status.{Status}
+use Rattle.cpn_sim.specs.declared.statuses.Status.TheVariants as statuses
 
 -- the cause of each refusal: the words, the bytes that were left where these are told, or the count of
 -- faults; want of memory has none
@@ -33,3 +35,12 @@ error_line refusals.Long = codes "error long\n"
 error_line refusals.NotJson = codes "error document 1 not_json\n"
 error_line refusals.NotYet = codes "error document 7 not_yet\n"
 error_line refusals.Memory = []
+
+-- the status of a refusal
+abbrev pub status_of : Refusal → Status
+status_of refusals.Words = statuses.BadWords
+status_of refusals.Read = statuses.ReadFault
+status_of refusals.Long = statuses.TooLong
+status_of refusals.NotJson = statuses.BadDocument
+status_of refusals.NotYet = statuses.BadDocument
+status_of refusals.Memory = statuses.Memory

@@ -1,5 +1,8 @@
 //! Why there is no report, and the line that says so.
 
+ghost use Rattle.std.specs.Prelude.{◌≡◌};
+ghost use Rattle.cpn_sim.specs.Causes.{error_line, status_of};
+
 use crate::statuses::Status;
 
 /// Why there is no report.
@@ -17,4 +20,32 @@ pub enum Refusal {
     NotYet,
     /// Memory ran out.
     Memory,
+}
+
+/// The line of the refusal, with its line feed; that of want of memory is empty.
+pub fn line_of(refusal: Refusal) -> &'static str
+    ensures { result.now ≡ error_line refusal }
+{
+    match refusal {
+        Refusal::Words => "error words\n",
+        Refusal::Read => "error read\n",
+        Refusal::Long => "error long\n",
+        Refusal::NotJson => "error document 1 not_json\n",
+        Refusal::NotYet => "error document 7 not_yet\n",
+        Refusal::Memory => "",
+    }
+}
+
+/// The status of the refusal.
+pub fn status_of(refusal: Refusal) -> Status
+    ensures { result ≡ status_of refusal }
+{
+    match refusal {
+        Refusal::Words => Status::BadWords,
+        Refusal::Read => Status::ReadFault,
+        Refusal::Long => Status::TooLong,
+        Refusal::NotJson => Status::BadDocument,
+        Refusal::NotYet => Status::BadDocument,
+        Refusal::Memory => Status::Memory,
+    }
 }
