@@ -6,8 +6,11 @@ use std::alloc::{AllocError, Global};
 use std::test::Fail;
 
 const COLSET: &str = "\"colset INT = int;\"";
+
 const X: &str = "\"colset INT = int;\",\"var x : INT;\"";
+
 const A: &str = "{\"name\":\"A\",\"colour\":\"INT\"}";
+
 const T: &str = "{\"name\":\"t\"}";
 
 /// How a text is answered.
@@ -28,8 +31,7 @@ fn document(
     transitions: &str,
     arcs: &str,
 ) -> Result<String, AllocError> {
-    format!(
-        in alloc;
+    format!(in alloc;
         "{{\"version\":1,\"declarations\":[{declarations}],\"top\":\"Top\",\"modules\":[{{\"name\":\"Top\",\"places\":[{places}],\"transitions\":[{transitions}],\"arcs\":[{arcs}]}}]}}"
     )
 }
@@ -38,7 +40,10 @@ fn document(
 fn declarations(rt: HostRuntime) -> Result<(), Fail> {
     let table = [
         ("\"colset INT = int;\"", "read"),
-        ("\"colset INT = int;\",\"var x : INT;\",\"var y2_z : INT;\"", "read"),
+        (
+            "\"colset INT = int;\",\"var x : INT;\",\"var y2_z : INT;\"",
+            "read",
+        ),
         ("\"colset INT = int;\",\"var INT : INT;\"", "read"),
         ("\"colset INT = int;\",\"var timer : INT;\"", "read"),
         ("", "not yet"),
@@ -52,12 +57,19 @@ fn declarations(rt: HostRuntime) -> Result<(), Fail> {
         ("\"colset INT = int;\",\"var  : INT;\"", "not yet"),
         ("\"colset INT = int;\",\"var x: INT;\"", "not yet"),
         ("\"colset INT = int;\",\"var x, y : INT;\"", "not yet"),
-        ("\"colset INT = int;\",\"var x : INT;\",\"var x : INT;\"", "not yet"),
+        (
+            "\"colset INT = int;\",\"var x : INT;\",\"var x : INT;\"",
+            "not yet",
+        ),
         ("\"colset INT = int;\",7", "not yet"),
     ];
     for (declarations, expected) in table {
         let text = document(rt.alloc(), declarations, A, T, "")?;
-        assert_eq!(rt; outcome(rt.alloc(), text.as_str()), expected, "{declarations}");
+        assert_eq!(rt;
+            outcome(rt.alloc(), text.as_str()),
+            expected,
+            "{declarations}"
+        );
     }
     Ok(())
 }
@@ -80,8 +92,14 @@ fn the_number_of_variables(rt: HostRuntime) -> Result<(), Fail> {
 fn names(rt: HostRuntime) -> Result<(), Fail> {
     let table = [
         ("A b-1_", "read"),
-        ("abcdefghijklmnopqrstuvwxyzabcdefghijklmnopqrstuvwxyz0123456789ab", "read"),
-        ("abcdefghijklmnopqrstuvwxyzabcdefghijklmnopqrstuvwxyz0123456789abc", "not yet"),
+        (
+            "abcdefghijklmnopqrstuvwxyzabcdefghijklmnopqrstuvwxyz0123456789ab",
+            "read",
+        ),
+        (
+            "abcdefghijklmnopqrstuvwxyzabcdefghijklmnopqrstuvwxyz0123456789abc",
+            "not yet",
+        ),
         ("", "not yet"),
         ("1", "not yet"),
         ("_A", "not yet"),
@@ -105,14 +123,30 @@ fn places_and_transitions(rt: HostRuntime) -> Result<(), Fail> {
     let table = [
         ("", "", "read"),
         (A, "{\"name\":\"A\"}", "read"),
-        ("{\"name\":\"A\",\"colour\":\"INT\"},{\"name\":\"A\",\"colour\":\"INT\"}", T, "not yet"),
-        ("{\"name\":\"A\",\"colour\":\"INT\"},{\"name\":\"a\",\"colour\":\"INT\"}", T, "read"),
+        (
+            "{\"name\":\"A\",\"colour\":\"INT\"},{\"name\":\"A\",\"colour\":\"INT\"}",
+            T,
+            "not yet",
+        ),
+        (
+            "{\"name\":\"A\",\"colour\":\"INT\"},{\"name\":\"a\",\"colour\":\"INT\"}",
+            T,
+            "read",
+        ),
         (A, "{\"name\":\"t\"},{\"name\":\"t\"}", "not yet"),
         ("{\"name\":\"A\",\"colour\":\"int\"}", T, "not yet"),
         ("{\"name\":\"A\"}", T, "not yet"),
         ("{\"colour\":\"INT\"}", T, "not yet"),
-        ("{\"name\":\"A\",\"colour\":\"INT\",\"port\":\"in\"}", T, "not yet"),
-        ("{\"name\":\"A\",\"name\":\"A\",\"colour\":\"INT\"}", T, "read"),
+        (
+            "{\"name\":\"A\",\"colour\":\"INT\",\"port\":\"in\"}",
+            T,
+            "not yet",
+        ),
+        (
+            "{\"name\":\"A\",\"name\":\"A\",\"colour\":\"INT\"}",
+            T,
+            "read",
+        ),
         ("7", T, "not yet"),
         (A, "{\"name\":\"t\",\"guard\":\"true\"}", "not yet"),
         (A, "{}", "not yet"),
@@ -120,7 +154,11 @@ fn places_and_transitions(rt: HostRuntime) -> Result<(), Fail> {
     ];
     for (places, transitions, expected) in table {
         let text = document(rt.alloc(), COLSET, places, transitions, "")?;
-        assert_eq!(rt; outcome(rt.alloc(), text.as_str()), expected, "{places} {transitions}");
+        assert_eq!(rt;
+            outcome(rt.alloc(), text.as_str()),
+            expected,
+            "{places} {transitions}"
+        );
     }
     Ok(())
 }
@@ -149,7 +187,9 @@ fn initial_markings(rt: HostRuntime) -> Result<(), Fail> {
         ("null", "not yet"),
     ];
     for (initial, expected) in table {
-        let place = format!(in rt.alloc(); "{{\"name\":\"A\",\"colour\":\"INT\",\"initial\":{initial}}}")?;
+        let place = format!(in rt.alloc();
+            "{{\"name\":\"A\",\"colour\":\"INT\",\"initial\":{initial}}}"
+        )?;
         let text = document(rt.alloc(), COLSET, place.as_str(), "", "")?;
         assert_eq!(rt; outcome(rt.alloc(), text.as_str()), expected, "{initial}");
     }
@@ -159,21 +199,66 @@ fn initial_markings(rt: HostRuntime) -> Result<(), Fail> {
 #[test]
 fn arcs(rt: HostRuntime) -> Result<(), Fail> {
     let table = [
-        ("{\"place\":\"A\",\"transition\":\"t\",\"to\":\"transition\",\"expr\":\"x\"}", "read"),
-        ("{\"place\":\"A\",\"transition\":\"t\",\"to\":\"both\",\"expr\":\"x\"}", "read"),
-        ("{\"place\":\"A\",\"transition\":\"t\",\"to\":\"place\",\"expr\":\"7\"}", "read"),
-        ("{\"place\":\"A\",\"transition\":\"t\",\"to\":\"place\",\"expr\":\"999999999999999999\"}", "read"),
-        ("{\"place\":\"A\",\"transition\":\"t\",\"to\":\"place\",\"expr\":\"0000000000000000007\"}", "not yet"),
-        ("{\"place\":\"A\",\"transition\":\"t\",\"to\":\"place\",\"expr\":\"x\"}", "not yet"),
-        ("{\"place\":\"A\",\"transition\":\"t\",\"to\":\"transition\",\"expr\":\"y\"}", "not yet"),
-        ("{\"place\":\"A\",\"transition\":\"t\",\"to\":\"transition\",\"expr\":\"-7\"}", "not yet"),
-        ("{\"place\":\"A\",\"transition\":\"t\",\"to\":\"transition\",\"expr\":\"\"}", "not yet"),
-        ("{\"place\":\"A\",\"transition\":\"t\",\"to\":\"transition\"}", "not yet"),
-        ("{\"place\":\"B\",\"transition\":\"t\",\"to\":\"transition\",\"expr\":\"x\"}", "not yet"),
-        ("{\"place\":\"A\",\"transition\":\"u\",\"to\":\"transition\",\"expr\":\"x\"}", "not yet"),
-        ("{\"place\":\"A\",\"transition\":\"t\",\"to\":\"Both\",\"expr\":\"x\"}", "not yet"),
-        ("{\"place\":\"A\",\"transition\":\"t\",\"to\":\"both\",\"expr\":\"x\",\"at\":1}", "not yet"),
-        ("{\"place\":1,\"transition\":\"t\",\"to\":\"both\",\"expr\":\"x\"}", "not yet"),
+        (
+            "{\"place\":\"A\",\"transition\":\"t\",\"to\":\"transition\",\"expr\":\"x\"}",
+            "read",
+        ),
+        (
+            "{\"place\":\"A\",\"transition\":\"t\",\"to\":\"both\",\"expr\":\"x\"}",
+            "read",
+        ),
+        (
+            "{\"place\":\"A\",\"transition\":\"t\",\"to\":\"place\",\"expr\":\"7\"}",
+            "read",
+        ),
+        (
+            "{\"place\":\"A\",\"transition\":\"t\",\"to\":\"place\",\"expr\":\"999999999999999999\"}",
+            "read",
+        ),
+        (
+            "{\"place\":\"A\",\"transition\":\"t\",\"to\":\"place\",\"expr\":\"0000000000000000007\"}",
+            "not yet",
+        ),
+        (
+            "{\"place\":\"A\",\"transition\":\"t\",\"to\":\"place\",\"expr\":\"x\"}",
+            "not yet",
+        ),
+        (
+            "{\"place\":\"A\",\"transition\":\"t\",\"to\":\"transition\",\"expr\":\"y\"}",
+            "not yet",
+        ),
+        (
+            "{\"place\":\"A\",\"transition\":\"t\",\"to\":\"transition\",\"expr\":\"-7\"}",
+            "not yet",
+        ),
+        (
+            "{\"place\":\"A\",\"transition\":\"t\",\"to\":\"transition\",\"expr\":\"\"}",
+            "not yet",
+        ),
+        (
+            "{\"place\":\"A\",\"transition\":\"t\",\"to\":\"transition\"}",
+            "not yet",
+        ),
+        (
+            "{\"place\":\"B\",\"transition\":\"t\",\"to\":\"transition\",\"expr\":\"x\"}",
+            "not yet",
+        ),
+        (
+            "{\"place\":\"A\",\"transition\":\"u\",\"to\":\"transition\",\"expr\":\"x\"}",
+            "not yet",
+        ),
+        (
+            "{\"place\":\"A\",\"transition\":\"t\",\"to\":\"Both\",\"expr\":\"x\"}",
+            "not yet",
+        ),
+        (
+            "{\"place\":\"A\",\"transition\":\"t\",\"to\":\"both\",\"expr\":\"x\",\"at\":1}",
+            "not yet",
+        ),
+        (
+            "{\"place\":1,\"transition\":\"t\",\"to\":\"both\",\"expr\":\"x\"}",
+            "not yet",
+        ),
     ];
     for (arcs, expected) in table {
         let text = document(rt.alloc(), X, A, T, arcs)?;
@@ -193,13 +278,21 @@ fn the_number_of_arcs(rt: HostRuntime) -> Result<(), Fail> {
         (33, "both", "not yet"),
     ];
     for (count, to, expected) in table {
-        let mut arcs = format!(in rt.alloc(); "{{\"place\":\"A\",\"transition\":\"t\",\"to\":\"{to}\",\"expr\":\"7\"}}")?;
+        let mut arcs = format!(in rt.alloc();
+            "{{\"place\":\"A\",\"transition\":\"t\",\"to\":\"{to}\",\"expr\":\"7\"}}"
+        )?;
         for number in 1..count {
-            let more = format!(in rt.alloc(); ",{{\"place\":\"A\",\"transition\":\"t\",\"to\":\"{to}\",\"expr\":\"{number}\"}}")?;
+            let more = format!(in rt.alloc();
+                ",{{\"place\":\"A\",\"transition\":\"t\",\"to\":\"{to}\",\"expr\":\"{number}\"}}"
+            )?;
             arcs.push_str(more.as_str())?;
         }
         let text = document(rt.alloc(), COLSET, A, T, arcs.as_str())?;
-        assert_eq!(rt; outcome(rt.alloc(), text.as_str()), expected, "{count} {to}");
+        assert_eq!(rt;
+            outcome(rt.alloc(), text.as_str()),
+            expected,
+            "{count} {to}"
+        );
     }
     Ok(())
 }
@@ -207,18 +300,54 @@ fn the_number_of_arcs(rt: HostRuntime) -> Result<(), Fail> {
 #[test]
 fn roots(rt: HostRuntime) -> Result<(), Fail> {
     let table = [
-        ("{\"version\":1,\"declarations\":[\"colset INT = int;\"],\"top\":\"M\",\"modules\":[{\"name\":\"M\",\"places\":[],\"transitions\":[],\"arcs\":[]}]}", "read"),
-        ("{\"version\":2,\"declarations\":[\"colset INT = int;\"],\"top\":\"M\",\"modules\":[{\"name\":\"M\",\"places\":[],\"transitions\":[],\"arcs\":[]}]}", "not yet"),
-        ("{\"version\":1.0,\"declarations\":[\"colset INT = int;\"],\"top\":\"M\",\"modules\":[{\"name\":\"M\",\"places\":[],\"transitions\":[],\"arcs\":[]}]}", "not yet"),
-        ("{\"version\":1e0,\"declarations\":[\"colset INT = int;\"],\"top\":\"M\",\"modules\":[{\"name\":\"M\",\"places\":[],\"transitions\":[],\"arcs\":[]}]}", "not yet"),
-        ("{\"version\":\"1\",\"declarations\":[\"colset INT = int;\"],\"top\":\"M\",\"modules\":[{\"name\":\"M\",\"places\":[],\"transitions\":[],\"arcs\":[]}]}", "not yet"),
-        ("{\"declarations\":[\"colset INT = int;\"],\"top\":\"M\",\"modules\":[{\"name\":\"M\",\"places\":[],\"transitions\":[],\"arcs\":[]}]}", "not yet"),
-        ("{\"version\":1,\"declarations\":[\"colset INT = int;\"],\"top\":\"N\",\"modules\":[{\"name\":\"M\",\"places\":[],\"transitions\":[],\"arcs\":[]}]}", "not yet"),
-        ("{\"version\":1,\"declarations\":[\"colset INT = int;\"],\"top\":\"M\",\"modules\":[]}", "not yet"),
-        ("{\"version\":1,\"declarations\":[\"colset INT = int;\"],\"top\":\"M\",\"modules\":[{\"name\":\"M\",\"places\":[],\"transitions\":[],\"arcs\":[]},{\"name\":\"N\",\"places\":[],\"transitions\":[],\"arcs\":[]}]}", "not yet"),
-        ("{\"version\":1,\"declarations\":[\"colset INT = int;\"],\"top\":\"M\",\"modules\":[{\"name\":\"M\",\"places\":[],\"transitions\":[],\"arcs\":[]}],\"phases\":[]}", "not yet"),
-        ("{\"version\":1,\"declarations\":[\"colset INT = int;\"],\"top\":\"M\",\"modules\":[{\"name\":\"M\",\"places\":[],\"transitions\":[],\"arcs\":[],\"subs\":[]}]}", "not yet"),
-        ("{\"version\":1,\"declarations\":[\"colset INT = int;\"],\"top\":\"M\",\"modules\":[{\"name\":\"M\",\"places\":[],\"transitions\":[]}]}", "not yet"),
+        (
+            "{\"version\":1,\"declarations\":[\"colset INT = int;\"],\"top\":\"M\",\"modules\":[{\"name\":\"M\",\"places\":[],\"transitions\":[],\"arcs\":[]}]}",
+            "read",
+        ),
+        (
+            "{\"version\":2,\"declarations\":[\"colset INT = int;\"],\"top\":\"M\",\"modules\":[{\"name\":\"M\",\"places\":[],\"transitions\":[],\"arcs\":[]}]}",
+            "not yet",
+        ),
+        (
+            "{\"version\":1.0,\"declarations\":[\"colset INT = int;\"],\"top\":\"M\",\"modules\":[{\"name\":\"M\",\"places\":[],\"transitions\":[],\"arcs\":[]}]}",
+            "not yet",
+        ),
+        (
+            "{\"version\":1e0,\"declarations\":[\"colset INT = int;\"],\"top\":\"M\",\"modules\":[{\"name\":\"M\",\"places\":[],\"transitions\":[],\"arcs\":[]}]}",
+            "not yet",
+        ),
+        (
+            "{\"version\":\"1\",\"declarations\":[\"colset INT = int;\"],\"top\":\"M\",\"modules\":[{\"name\":\"M\",\"places\":[],\"transitions\":[],\"arcs\":[]}]}",
+            "not yet",
+        ),
+        (
+            "{\"declarations\":[\"colset INT = int;\"],\"top\":\"M\",\"modules\":[{\"name\":\"M\",\"places\":[],\"transitions\":[],\"arcs\":[]}]}",
+            "not yet",
+        ),
+        (
+            "{\"version\":1,\"declarations\":[\"colset INT = int;\"],\"top\":\"N\",\"modules\":[{\"name\":\"M\",\"places\":[],\"transitions\":[],\"arcs\":[]}]}",
+            "not yet",
+        ),
+        (
+            "{\"version\":1,\"declarations\":[\"colset INT = int;\"],\"top\":\"M\",\"modules\":[]}",
+            "not yet",
+        ),
+        (
+            "{\"version\":1,\"declarations\":[\"colset INT = int;\"],\"top\":\"M\",\"modules\":[{\"name\":\"M\",\"places\":[],\"transitions\":[],\"arcs\":[]},{\"name\":\"N\",\"places\":[],\"transitions\":[],\"arcs\":[]}]}",
+            "not yet",
+        ),
+        (
+            "{\"version\":1,\"declarations\":[\"colset INT = int;\"],\"top\":\"M\",\"modules\":[{\"name\":\"M\",\"places\":[],\"transitions\":[],\"arcs\":[]}],\"phases\":[]}",
+            "not yet",
+        ),
+        (
+            "{\"version\":1,\"declarations\":[\"colset INT = int;\"],\"top\":\"M\",\"modules\":[{\"name\":\"M\",\"places\":[],\"transitions\":[],\"arcs\":[],\"subs\":[]}]}",
+            "not yet",
+        ),
+        (
+            "{\"version\":1,\"declarations\":[\"colset INT = int;\"],\"top\":\"M\",\"modules\":[{\"name\":\"M\",\"places\":[],\"transitions\":[]}]}",
+            "not yet",
+        ),
         ("[]", "not yet"),
         ("null", "not yet"),
         ("", "not json"),
@@ -228,12 +357,18 @@ fn roots(rt: HostRuntime) -> Result<(), Fail> {
     for (text, expected) in table {
         assert_eq!(rt; outcome(rt.alloc(), text), expected, "{text}");
     }
-    assert!(rt; matches!(read_document(rt.alloc(), &[0x22, 0xFF, 0x22]), Err(DocError::NotJson)));
+    assert!(rt;
+        matches!(
+            read_document(rt.alloc(), &[0x22, 0xFF, 0x22]),
+            Err(DocError::NotJson)
+        )
+    );
     Ok(())
 }
 
 /// A token goes from the one place to the other.
-const N1: &str = "{\"version\":1,\"declarations\":[\"colset INT = int;\",\"var x : INT;\"],\"top\":\"Top\",\"modules\":[{\"name\":\"Top\",\"places\":[{\"name\":\"A\",\"colour\":\"INT\",\"initial\":\"3`7\"},{\"name\":\"B\",\"colour\":\"INT\"}],\"transitions\":[{\"name\":\"t\"}],\"arcs\":[{\"place\":\"A\",\"transition\":\"t\",\"to\":\"transition\",\"expr\":\"x\"},{\"place\":\"B\",\"transition\":\"t\",\"to\":\"place\",\"expr\":\"x\"}]}]}";
+const N1: &str =
+    "{\"version\":1,\"declarations\":[\"colset INT = int;\",\"var x : INT;\"],\"top\":\"Top\",\"modules\":[{\"name\":\"Top\",\"places\":[{\"name\":\"A\",\"colour\":\"INT\",\"initial\":\"3`7\"},{\"name\":\"B\",\"colour\":\"INT\"}],\"transitions\":[{\"name\":\"t\"}],\"arcs\":[{\"place\":\"A\",\"transition\":\"t\",\"to\":\"transition\",\"expr\":\"x\"},{\"place\":\"B\",\"transition\":\"t\",\"to\":\"place\",\"expr\":\"x\"}]}]}";
 
 #[test]
 fn a_net_and_its_marking(rt: HostRuntime) -> Result<(), Fail> {
