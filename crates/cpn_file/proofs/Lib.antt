@@ -7,7 +7,7 @@ pub mod Lists
 pub mod Bound
 pub mod Numbered
 pub mod Marked
-pub mod Tests
+pub mod Passing
 pub mod Served
 pub mod Sounding
 pub mod WellMade

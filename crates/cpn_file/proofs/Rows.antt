@@ -1,13 +1,15 @@
--- Worked documents, as JSON values.
+-- Worked texts, and a worked document as a JSON value.
 use Rattle.std.proofs.Common.{◌≡◌, ℕ, pos, true, false, List, [], ◌∷◌, ◌++◌, Some, None, refl}
 use Rattle.std.specs.Prelude.{codes, Option}
 use Rattle.serde_json.specs.Data.{Data, number, unsigned, string, array, object, Items, no_items, item, Members, no_members, member}
 use Rattle.cpn_definitions.specs.Value.{int}
-use Rattle.cpn_definitions.specs.Net.{literal, variable, one, literal_pattern, variable_pattern, PlainArc}
+use Rattle.cpn_definitions.specs.Marking.{PlainToken}
+use Rattle.cpn_definitions.specs.Net.{variable, one, variable_pattern}
 use Rattle.cpn_definitions.specs.Sound.{int_colour}
-use Rattle.cpn_file.specs.Texts.{is_name, number_in, variable_in, initial_in, is_variable_name, is_reserved, count_in}
-use Rattle.cpn_file.specs.Document.{document_in, variables_in}
-use Rattle.cpn_file.specs.Loading.{loaded_in, loaded_from, transition_with, transitions_from}
+use Rattle.cpn_file.specs.Parts.{each_in}
+use Rattle.cpn_file.specs.Texts.{is_name, name_in, number_in, variable_in, initial_in, is_variable_name, is_reserved, count_in}
+use Rattle.cpn_file.specs.Document.{variables_in, place_in, transition_in, way_in, inscription_in, arc_in, apart, arcs_among, module_in, document_in}
+use Rattle.cpn_file.specs.Loading.{variables_on, transition_with, transitions_from, loaded_from, loaded_in}
 
 a_name : is_name (codes "A b-1") ≡ true
 unfolding is_name
@@ -44,3 +46,49 @@ three_sevens = refl
 none_at_all : initial_in (codes "0`7") ≡ None
 unfolding initial_in count_in number_in
 none_at_all = refl
+
+-- ---- a whole document: the places A, with three tokens 7, and B, and a transition t that moves a token
+
+abbrev an_arc : List ℕ → List ℕ → Data
+an_arc place to = object (member (codes "expr") (string (codes "x")) (member (codes "place") (string place) (member (codes "to") (string to) (member (codes "transition") (string (codes "t")) no_members))))
+
+abbrev place_a : Data
+place_a = object (member (codes "colour") (string (codes "INT")) (member (codes "initial") (string (codes "3`7")) (member (codes "name") (string (codes "A")) no_members)))
+
+abbrev place_b : Data
+place_b = object (member (codes "colour") (string (codes "INT")) (member (codes "name") (string (codes "B")) no_members))
+
+abbrev transition_t : Data
+transition_t = object (member (codes "name") (string (codes "t")) no_members)
+
+abbrev module_top : Data
+module_top =
+    object (member (codes "arcs") (array (item (an_arc (codes "A") (codes "transition")) (item (an_arc (codes "B") (codes "place")) no_items)))
+    (member (codes "name") (string (codes "Top")) (member (codes "places") (array (item place_a (item place_b no_items))) (member (codes "transitions") (array (item transition_t no_items)) no_members))))
+
+abbrev first_net : Data
+first_net =
+    object (member (codes "declarations") (array (item (string (codes "colset INT = int;")) (item (string (codes "var x : INT;")) no_items)))
+    (member (codes "modules") (array (item module_top no_items)) (member (codes "top") (string (codes "Top")) (member (codes "version") (number (unsigned 1)) no_members))))
+
+-- a token 7 of an untimed place
+abbrev seven : PlainToken
+seven = record { value = int (pos 7); stamp = 0 }
+
+first_net_is_read : loaded_in first_net ≡ Some (record {
+  net = record {
+    places = record { name = codes "Top/A"; colour = int_colour } ∷ record { name = codes "Top/B"; colour = int_colour } ∷ [];
+    transitions = record {
+      name = codes "Top/t";
+      guard = [];
+      delay = None;
+      inputs = record { place = 0; colour = int_colour; expr = one (variable 0); terms = record { count = 1; pattern = variable_pattern 0 } ∷ [] } ∷ [];
+      outputs = record { place = 1; colour = int_colour; expr = one (variable 0); terms = [] } ∷ [];
+      vars = 0 ∷ [];
+    } ∷ [];
+    variables = record { name = codes "x"; colour = int_colour } ∷ [];
+  };
+  initial = (seven ∷ seven ∷ seven ∷ []) ∷ [] ∷ [];
+})
+unfolding loaded_in document_in variables_in each_in variable_in is_variable_name is_reserved module_in name_in is_name place_in transition_in initial_in count_in number_in arcs_among apart arc_in way_in inscription_in loaded_from transitions_from transition_with variables_on
+first_net_is_read = refl

@@ -20,7 +20,7 @@ use Rattle.cpn_file.specs.declared.arcs.Arc.{Arc}
 use Rattle.cpn_file.specs.declared.arcs.Inscription.{Inscription}
 use Rattle.cpn_file.specs.declared.arcs.Inscription.TheVariants.{Number, Variable}
 use Rattle.cpn_file.proofs.Digits.{digits_small}
-use Rattle.cpn_file.proofs.Tests.{both, steps, passed}
+use Rattle.cpn_file.proofs.Passing.{both, steps, passed}
 
 -- each item that is read passes a test
 pub each_passes : {A : Type 0} (read : Data → Option A) (test : A → Bool) → ((d : Data) (x : A) → read d ≡ Some x → test x ≡ true) → (ds : Items) (xs : List A) → each_in read ds ≡ Some xs → list_all test xs ≡ true

@@ -16,7 +16,7 @@ use Rattle.cpn_file.specs.Loading.{input_of, output_of, is_input, is_output, arc
 use Rattle.cpn_file.specs.declared.arcs.Arc.{Arc}
 use Rattle.cpn_file.specs.declared.arcs.Inscription.{Inscription}
 use Rattle.cpn_file.specs.declared.arcs.Inscription.TheVariants.{Number, Variable}
-use Rattle.cpn_file.proofs.Tests.{both, steps, passed, all_both, all_weaker, all_kept, below, increasing, among, or_true}
+use Rattle.cpn_file.proofs.Passing.{both, steps, passed, all_both, all_weaker, all_kept, below, increasing, among, or_true}
 use Rattle.cpn_file.proofs.Served.{is_served_inscription, is_served_arc}
 
 -- ---- the variables of arcs stand on them

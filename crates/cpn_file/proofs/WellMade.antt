@@ -22,7 +22,7 @@ use Rattle.cpn_file.specs.Loading.{PlainLoaded, initial_tokens, place_of, variab
 use Rattle.cpn_file.specs.WellLoaded.{IsWellLoaded, has_few_tokens}
 use Rattle.cpn_file.specs.declared.initials.Initial.{Initial}
 use Rattle.cpn_file.specs.declared.arcs.Arc.{Arc}
-use Rattle.cpn_file.proofs.Tests.{both, steps, all_weaker, all_both}
+use Rattle.cpn_file.proofs.Passing.{both, steps, all_weaker, all_both}
 use Rattle.cpn_file.proofs.Served.{each_passes, is_served_arc, is_served_initial, arc_served, place_served}
 use Rattle.cpn_file.proofs.Sounding.{transitions_sound}
 

@@ -92,7 +92,12 @@ fn arc_of(
     let way = way_of(text_of(value, "to")?)?;
     let inscription = inscription_of(variables, text_of(value, "expr")?)?;
     check_keys(value, 4)?;
-    Ok(Arc { place, transition, way, inscription })
+    Ok(Arc {
+        place,
+        transition,
+        way,
+        inscription,
+    })
 }
 
 fn arcs_of(
@@ -128,5 +133,11 @@ pub(crate) fn arcs_among(
     let transition_names = numbered(alloc, transition_texts.as_slice())?;
     let variable_texts = texts_of(alloc, variables)?;
     let variable_names = numbered(alloc, variable_texts.as_slice())?;
-    arcs_of(alloc, list, &place_names, &transition_names, &variable_names)
+    arcs_of(
+        alloc,
+        list,
+        &place_names,
+        &transition_names,
+        &variable_names,
+    )
 }

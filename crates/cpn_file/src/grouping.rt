@@ -17,7 +17,11 @@ fn empty_groups(alloc: Global, count: usize) -> Result<Vec<Vec<Arc>>, AllocError
 }
 
 /// For each of so many transitions, by its number, the arcs that are its own, in order.
-pub(crate) fn grouped(alloc: Global, arcs: &[Arc], count: usize) -> Result<Vec<Vec<Arc>>, AllocError>
+pub(crate) fn grouped(
+    alloc: Global,
+    arcs: &[Arc],
+    count: usize,
+) -> Result<Vec<Vec<Arc>>, AllocError>
     ensures { IfOk result (λ groups. HoldsArcs groups.items count arcs.now) }
 {
     let mut groups = empty_groups(alloc, count)?;

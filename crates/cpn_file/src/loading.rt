@@ -32,7 +32,10 @@ fn net_places(alloc: Global, top: &str, places: &[PlacePart]) -> Result<Vec<Plac
     let mut made = Vec::with_capacity(alloc, places.len())?;
     for place in places {
         let name = flattened(alloc, top, place.name.as_str())?;
-        made.push(Place { name, colour: int_colour() })?;
+        made.push(Place {
+            name,
+            colour: int_colour(),
+        })?;
     }
     Ok(made)
 }
@@ -43,7 +46,10 @@ fn net_variables(alloc: Global, names: &[String]) -> Result<Vec<Variable>, Alloc
     let mut made = Vec::with_capacity(alloc, names.len())?;
     for name in names {
         let name = String::from_str(alloc, name.as_str())?;
-        made.push(Variable { name, colour: int_colour() })?;
+        made.push(Variable {
+            name,
+            colour: int_colour(),
+        })?;
     }
     Ok(made)
 }
@@ -67,5 +73,12 @@ pub(crate) fn loaded_of(alloc: Global, document: &Document) -> Result<Loaded, Do
     let places = net_places(alloc, top.name.as_str(), top.places.as_slice())?;
     let variables = net_variables(alloc, document.variables.as_slice())?;
     let initial = marked(alloc, top.places.as_slice())?;
-    Ok(Loaded { net: Net { places, transitions, variables }, initial })
+    Ok(Loaded {
+        net: Net {
+            places,
+            transitions,
+            variables,
+        },
+        initial,
+    })
 }

@@ -56,14 +56,23 @@ fn module_of(alloc: Global, value: &Value, variables: &[String]) -> Result<Modul
     )?;
     check_keys(value, 4)?;
     let name = String::from_str(alloc, name)?;
-    Ok(Module { name, places, transitions, arcs })
+    Ok(Module {
+        name,
+        places,
+        transitions,
+        arcs,
+    })
 }
 
 /// The one item of a list.
 fn only(list: &[Value]) -> Result<&Value, DocError>
     ensures { Gives (λ item. view item.now) result (only_item (items_view list.now)) }
 {
-    if list.len() == 1 { Ok(&list[0]) } else { Err(DocError::NotYet) }
+    if list.len() == 1 {
+        Ok(&list[0])
+    } else {
+        Err(DocError::NotYet)
+    }
 }
 
 /// The document that a JSON value is.

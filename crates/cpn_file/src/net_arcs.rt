@@ -15,7 +15,10 @@ pub(crate) fn int_colour() -> Colour
     ensures { colour_view result ≡ integers }
 {
     Colour {
-        shape: Shape::Int { low: i64::MIN, high: i64::MAX },
+        shape: Shape::Int {
+            low: i64::MIN,
+            high: i64::MAX,
+        },
         timed: false,
     }
 }
@@ -42,13 +45,19 @@ fn input_of(alloc: Global, arc: Arc) -> Result<PlaceArc, AllocError>
     ensures { IfOk result (λ input. arc_view input ≡ input_in arc) }
 {
     let mut terms = Vec::with_capacity(alloc, 1)?;
-    terms.push(BindingTerm { count: 1, pattern: pattern_of(arc.inscription) })?;
+    terms.push(BindingTerm {
+        count: 1,
+        pattern: pattern_of(arc.inscription),
+    })?;
     let inscription = ArcExpr {
         colour: int_colour(),
         expr: MExpr::One(expr_of(arc.inscription)),
         terms,
     };
-    Ok(PlaceArc { place: arc.place, inscription })
+    Ok(PlaceArc {
+        place: arc.place,
+        inscription,
+    })
 }
 
 fn output_of(alloc: Global, arc: Arc) -> PlaceArc
@@ -59,7 +68,10 @@ fn output_of(alloc: Global, arc: Arc) -> PlaceArc
         expr: MExpr::One(expr_of(arc.inscription)),
         terms: Vec::new(alloc),
     };
-    PlaceArc { place: arc.place, inscription }
+    PlaceArc {
+        place: arc.place,
+        inscription,
+    }
 }
 
 /// The input arcs among arcs, in order.

@@ -29,7 +29,7 @@ pub(crate) fn list_of<'v>(value: &'v Value, key: &str) -> Result<&'v [Value], Do
 }
 
 /// The whole number, from 0 to 2^64 - 1, at a key.
-pub(crate) fn number_of<'v>(value: &'v Value, key: &str) -> Result<u64, DocError>
+pub(crate) fn number_of(value: &Value, key: &str) -> Result<u64, DocError>
     ensures { Gives (λ n. n) result (number_at key.now (view value.now)) }
 {
     match value.get(key).and_then(Value::as_u64) {

@@ -30,7 +30,11 @@ pub(crate) fn name_of<'v>(value: &'v Value, key: &str) -> Result<&'v str, DocErr
     ensures { Gives (λ name. name.now) result (name_at key.now (view value.now)) }
 {
     let text = text_of(value, key)?;
-    if is_name(text) { Ok(text) } else { Err(DocError::NotYet) }
+    if is_name(text) {
+        Ok(text)
+    } else {
+        Err(DocError::NotYet)
+    }
 }
 
 /// The initial marking at a key, or none where the key is missing.
@@ -94,7 +98,10 @@ pub(crate) fn transitions_of(alloc: Global, list: &[Value]) -> Result<Vec<String
 }
 
 /// The names of the places as texts.
-pub(crate) fn names_of<'n>(alloc: Global, places: &'n [PlacePart]) -> Result<Vec<&'n str>, AllocError>
+pub(crate) fn names_of<'n>(
+    alloc: Global,
+    places: &'n [PlacePart],
+) -> Result<Vec<&'n str>, AllocError>
     ensures { IfOk result (λ texts. texts_of texts.items ≡ place_names (places_view places.now)) }
 {
     let mut texts = Vec::with_capacity(alloc, places.len())?;

@@ -73,7 +73,10 @@ pub(crate) fn is_name(text: &str) -> bool
     if bytes.is_empty() {
         return false;
     }
-    is_letter(bytes[0]) && are_name_bytes(bytes) && bytes[bytes.len() - 1] != b' ' && bytes.len() <= 64
+    is_letter(bytes[0])
+        && are_name_bytes(bytes)
+        && bytes[bytes.len() - 1] != b' '
+        && bytes.len() <= 64
 }
 
 /// The number that a text of 1 to 18 digits is.
@@ -93,10 +96,10 @@ pub(crate) fn number_of(text: &str) -> Option<u64>
 }
 
 const RESERVED: [&str; 40] = [
-    "colset", "var", "val", "fun", "with", "product", "list", "union", "timed", "unit", "bool", "int",
-    "string", "if", "then", "else", "case", "of", "let", "in", "end", "foldl", "over", "from", "do",
-    "andalso", "orelse", "not", "div", "mod", "true", "false", "empty", "time", "hd", "tl", "length",
-    "rev", "mem", "size",
+    "colset", "var", "val", "fun", "with", "product", "list", "union", "timed", "unit", "bool",
+    "int", "string", "if", "then", "else", "case", "of", "let", "in", "end", "foldl", "over",
+    "from", "do", "andalso", "orelse", "not", "div", "mod", "true", "false", "empty", "time", "hd",
+    "tl", "length", "rev", "mem", "size",
 ];
 
 /// Whether a text is a reserved word or a function declared in advance.
@@ -137,7 +140,11 @@ pub(crate) fn variable_of(text: &str) -> Option<&str>
 {
     let rest = after("var ", text)?;
     let name = before(" : INT;", rest)?;
-    if is_variable_name(name) { Some(name) } else { None }
+    if is_variable_name(name) {
+        Some(name)
+    } else {
+        None
+    }
 }
 
 #[tactic(auto, unfolding(crate::specs::Texts::count_in))]
@@ -145,7 +152,11 @@ fn count_of(text: &str) -> Option<u64>
     ensures { result ≡ count_in text.now }
 {
     let count = number_of(text)?;
-    if text.as_bytes()[0] == b'0' || count > 65536 { None } else { Some(count) }
+    if text.as_bytes()[0] == b'0' || count > 65536 {
+        None
+    } else {
+        Some(count)
+    }
 }
 
 /// What stands before the first backtick of a text, and what stands after it.
@@ -164,7 +175,10 @@ pub(crate) fn initial_of(text: &str) -> Option<Initial>
         Some((front, back)) => {
             let value = number_of(back)?;
             let count = count_of(front)?;
-            Some(Initial { count, value: value as i64 })
+            Some(Initial {
+                count,
+                value: value as i64,
+            })
         },
         None => None,
     }

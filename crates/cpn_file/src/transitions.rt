@@ -88,8 +88,17 @@ fn transition_with(
         return Err(DocError::NotYet);
     }
     let vars = variables_on(alloc, count, inputs.as_slice(), outputs.as_slice())?;
-    let guard = Guard { conjuncts: Vec::new(alloc) };
-    Ok(Transition { name, guard, delay: None, inputs, outputs, vars })
+    let guard = Guard {
+        conjuncts: Vec::new(alloc),
+    };
+    Ok(Transition {
+        name,
+        guard,
+        delay: None,
+        inputs,
+        outputs,
+        vars,
+    })
 }
 
 fn transitions_with(

@@ -13,8 +13,8 @@ returns-in_err-arc_of c =
     let p = err_from_is_err_and c.from_residual.result c.from_residual.ensures.1 in
     let read = arc_in (texts_of c.args.places.now.keys) (texts_of c.args.transitions.now.keys) (texts_of c.args.variables.now.keys) in
     rw (p.1, p.2) (fails_through c.in_err-arc_of.field-0.0 (read (view c.value-item.result)) (each_in read (items_view c.args.list.now))
-        (λ none. each_fails read c.args.list.now c.loop-value.value-index c.value-item.result (omega arith) c.value-item.is c.loop-value.arcs.items c.loop-value.invariant none)
-        c.in_err-arc_of.ensures)
+    (λ none. each_fails read c.args.list.now c.loop-value.value-index c.value-item.result (omega arith) c.value-item.is c.loop-value.arcs.items c.loop-value.invariant none)
+    c.in_err-arc_of.ensures)
 
 pub loop-value-preserved : goal.loop-value-preserved
 loop-value-preserved c =

@@ -15,8 +15,8 @@ pub returns-in_err-place_of : goal.returns-in_err-place_of
 returns-in_err-place_of c =
     let p = err_from_is_err_and c.from_residual.result c.from_residual.ensures.1 in
     rw (p.1, p.2) (fails_through c.in_err-place_of.field-0.0 (place_in (view c.value-item.result)) (each_in place_in (items_view c.args.list.now))
-        (λ none. each_fails place_in c.args.list.now c.loop-value.value-index c.value-item.result (omega arith) c.value-item.is (places_view c.loop-value.places.items) c.loop-value.invariant none)
-        c.in_err-place_of.ensures)
+    (λ none. each_fails place_in c.args.list.now c.loop-value.value-index c.value-item.result (omega arith) c.value-item.is (places_view c.loop-value.places.items) c.loop-value.invariant none)
+    c.in_err-place_of.ensures)
 
 pub loop-value-preserved : goal.loop-value-preserved
 loop-value-preserved c =

@@ -16,8 +16,8 @@ returns-in_err-transition_with c = λ arcs h.
     let own : c.as_slice.result.now ≡ arcs_of arcs c.loop-number.number = c.as_slice.ensures.value ∙ ap (λ v. v.items) c.index-groups-number.is ∙ h.each c.loop-number.number c.index-groups-number.result (omega arith) in
     let name : string_bytes c.in_ok-name.name ≡ flattened c.args.top.now (string_bytes c.index-names-number.result) = c.in_ok-name.ensures ∙ ap (flattened c.args.top.now) c.as_str.ensures.value in
     rw (p.1, p.2) (fails_through c.in_err-transition_with.field-0.0 (transition_with c.args.count (flattened c.args.top.now (string_bytes c.index-names-number.result)) (arcs_of arcs c.loop-number.number)) (transitions_from c.args.count c.args.top.now arcs 0 (strings_of c.args.names.now))
-        (λ none. sym (c.loop-number.invariant arcs h) ∙ made_none c.args.count c.args.top.now arcs c.args.names.now c.loop-number.number c.index-names-number.result (omega arith) c.index-names-number.is (map transition_view c.loop-number.transitions.items) none)
-        (rw (← name, ← own) c.in_err-transition_with.ensures))
+    (λ none. sym (c.loop-number.invariant arcs h) ∙ made_none c.args.count c.args.top.now arcs c.args.names.now c.loop-number.number c.index-names-number.result (omega arith) c.index-names-number.is (map transition_view c.loop-number.transitions.items) none)
+    (rw (← name, ← own) c.in_err-transition_with.ensures))
 
 pub loop-number-preserved : goal.loop-number-preserved
 loop-number-preserved c = λ arcs h.

@@ -16,11 +16,11 @@ returns-then-stands_on-2 c =
 pub loop-variable-preserved : goal.loop-variable-preserved
 loop-variable-preserved c =
     elim c.if-stands_on.branch [
-      then-stands_on+in_ok-push w ↦
-        let h : stands_on (arcs_view c.args.inputs.now) c.loop-variable.variable ≡ true = cc in
-        rw (w.vars-is, w.in_ok-push.ensures.items) (bound_input (arcs_view c.args.inputs.now) (arcs_view c.args.outputs.now) c.args.count c.loop-variable.variable (omega arith) c.loop-variable.vars.items h ∙ c.loop-variable.invariant)
-    | else-stands_on+else-stands_on-2 w ↦
-        let h : stands_on (arcs_view c.args.inputs.now) c.loop-variable.variable ≡ false = cc in
-        let k : stands_on (arcs_view c.args.outputs.now) c.loop-variable.variable ≡ false = cc in
-        rw w.vars-is (bound_neither (arcs_view c.args.inputs.now) (arcs_view c.args.outputs.now) c.args.count c.loop-variable.variable (omega arith) c.loop-variable.vars.items h k ∙ c.loop-variable.invariant)
+      | then-stands_on+in_ok-push w ↦
+          let h : stands_on (arcs_view c.args.inputs.now) c.loop-variable.variable ≡ true = cc in
+          rw (w.vars-is, w.in_ok-push.ensures.items) (bound_input (arcs_view c.args.inputs.now) (arcs_view c.args.outputs.now) c.args.count c.loop-variable.variable (omega arith) c.loop-variable.vars.items h ∙ c.loop-variable.invariant)
+      | else-stands_on+else-stands_on-2 w ↦
+          let h : stands_on (arcs_view c.args.inputs.now) c.loop-variable.variable ≡ false = cc in
+          let k : stands_on (arcs_view c.args.outputs.now) c.loop-variable.variable ≡ false = cc in
+          rw w.vars-is (bound_neither (arcs_view c.args.inputs.now) (arcs_view c.args.outputs.now) c.args.count c.loop-variable.variable (omega arith) c.loop-variable.vars.items h k ∙ c.loop-variable.invariant)
     ]

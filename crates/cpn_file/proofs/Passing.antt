@@ -77,6 +77,6 @@ pub among : (p : ℕ → Bool) (x : ℕ) → p x ≡ true → (n a : ℕ) → a 
 among p x h zero a low high = absurd (omega arith)
 among p x h (suc n) a low high =
     elim (eq-or-lt_of_le low) [
-      inl e ↦ rw (e, h, nat_eq_equiv.refl x) refl
-    | inr lt ↦ among_case x a (filter p (range_with_len (a + 1) n)) (p a) (among p x h n (a + 1) (omega arith) (omega arith))
+      | inl e ↦ rw (e, h, nat_eq_equiv.refl x) refl
+      | inr lt ↦ among_case x a (filter p (range_with_len (a + 1) n)) (p a) (among p x h n (a + 1) (omega arith) (omega arith))
     ]
