@@ -8,7 +8,7 @@ use Rattle.cpn_book.proofs.runs.run.Given as goal
 
 abbrev pub invariant-rounds : goal.invariant-rounds
 invariant-rounds l = record {
-    running : IsRunning (setup_view l.setup) l.progress;
-    enabled : Enabled (net_view l.setup.net.value) l.progress.marking l.setup.clock (map entry_view l.entries.items);
-    count : length l.progress.occurrences.items ≡ l._number
-  }
+  running : IsRunning (setup_view l.setup) l.progress;
+  enabled : Enabled (net_view l.setup.net.value) l.progress.marking l.setup.clock (map entry_view l.entries.items);
+  count : length l.progress.occurrences.items ≡ l._number;
+}

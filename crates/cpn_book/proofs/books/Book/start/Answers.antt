@@ -4,5 +4,5 @@ use Rattle.cpn_book.proofs.books.Book.start.Goals as goal
 
 pub invariant_of-result : goal.invariant_of-result
 invariant_of-result c = record {
-    playable = is_playable (setup_view c.args.setup) c.requires.sound c.requires.marking c.requires.clock c.requires.until c.requires.seats
-  }
+  playable = is_playable (setup_view c.args.setup) c.requires.sound c.requires.marking c.requires.clock c.requires.until c.requires.seats;
+}
