@@ -10,6 +10,8 @@ mod options;
 mod refusals;
 mod simulation;
 mod statuses;
+#[cfg(test)]
+mod tests;
 mod words;
 
 use cpn_io::{Stdin, Stdout};
