@@ -34,7 +34,9 @@ pub enum Shape {
 /// A colour set: the shape of its values, and whether its tokens carry time stamps.
 #[derive(Drop)]
 pub struct Colour {
+    /// The shape of its values.
     pub shape: Shape,
+    /// Whether its tokens carry time stamps.
     pub timed: bool,
 }
 
@@ -216,4 +218,67 @@ fn copy_constructors(constructors: &Vec<Option<Shape>>) -> Result<Vec<Option<Sha
         }
     }
     Ok(copies)
+}
+
+#[cfg(test)]
+mod tests {
+    use super::*;
+    use crate::texts::Text;
+    use std::alloc::Global;
+    use std::test::Fail;
+
+    fn admitted(shape: Shape, value: &Value) -> Result<bool, Memory> {
+        let colour = Colour { shape, timed: true };
+        Ok(colour.copy()?.admits(value))
+    }
+
+    fn text(alloc: Global, bytes: &[u8]) -> Result<Value, Memory> {
+        let mut text = Text::new(alloc);
+        text.push(bytes)?;
+        Ok(Value::Text(text))
+    }
+
+    #[test]
+    fn a_colour_set_admits_its_values(rt: HostRuntime) -> Result<(), Fail> {
+        let alloc = rt.alloc();
+        for (number, want) in [(-1, false), (0, true), (9, true), (10, false)] {
+            assert_eq!(rt;
+                admitted(Shape::Int { low: 0, high: 9 }, &Value::Int(number))?,
+                want
+            );
+        }
+        assert!(rt; admitted(Shape::Unit, &Value::Unit)?);
+        assert!(rt; !admitted(Shape::Bool, &Value::Unit)?);
+        assert!(rt; admitted(Shape::Enum(0, 3), &Value::Enum(2))?);
+        assert!(rt; !admitted(Shape::Enum(0, 3), &Value::Enum(3))?);
+        assert!(rt; admitted(Shape::Text, &text(alloc, b"a ~")?)?);
+        assert!(rt; !admitted(Shape::Text, &text(alloc, b"a\n")?)?);
+        Ok(())
+    }
+
+    #[test]
+    fn a_colour_set_admits_values_of_its_parts(rt: HostRuntime) -> Result<(), Fail> {
+        let alloc = rt.alloc();
+        let pair = Value::Tuple(vec![in alloc; Value::Unit, Value::Bool(true)]?);
+        assert!(rt;
+            admitted(
+                Shape::Tuple(vec![in alloc; Shape::Unit, Shape::Bool]?),
+                &pair
+            )?
+        );
+        assert!(rt; !admitted(Shape::Tuple(vec![in alloc; Shape::Unit]?), &pair)?);
+        let list = Value::List(vec![in alloc; Value::Bool(false), Value::Unit]?);
+        assert!(rt; !admitted(Shape::List(Box::new(alloc, Shape::Bool)?), &list)?);
+        let applied = Value::Con(1, Some(Box::new(alloc, Value::Bool(true))?));
+        for (value, want) in [
+            (Value::Con(0, None), true),
+            (Value::Con(1, None), false),
+            (applied, true),
+            (Value::Con(2, None), false),
+        ] {
+            let union = Shape::Union(4, vec![in alloc; None, Some(Shape::Bool)]?);
+            assert_eq!(rt; admitted(union, &value)?, want);
+        }
+        Ok(())
+    }
 }

@@ -1,5 +1,5 @@
 // Markings: the tokens of each place of a net.
-ghost use Rattle.std.specs.Prelude.{◌≡◌, ◌<◌, [], length, replicate, count_by, slice_index_or, slice_set, IfOk, OnOk, OnErr};
+ghost use Rattle.std.specs.Prelude.{◌≡◌, ◌<◌, [], length, replicate, count_by, slice_index_or, slice_set, ◌↔◌, IsSome, IfSome, IfOk, OnOk, OnErr};
 ghost use Rattle.cpn_definitions.specs.Marking.{token_at, add_token, without_token, is_taken_by, AreSorted};
 ghost use Rattle.cpn_core.specs.Views.{value_view};
 ghost use Rattle.cpn_core.specs.Tokens.{tokens_view};
@@ -33,6 +33,7 @@ impl PlainMarking {
     /// The marking of so many places without tokens.
     pub fn new(alloc: Global, places: usize) -> Result<PlainMarking, Memory>
         ensures empty { IfOk result (λ marking. marking ≡ replicate places []) }
+        ensures places { IfOk result (λ marking. length marking ≡ places) }
     {
         let mut held = Vec::with_capacity(alloc, places)?;
         for _place in 0..places {
@@ -58,11 +59,23 @@ impl PlainMarking {
         held.tokens()
     }
 
+    /// The tokens of the place at a position, in order; `None` past the last place.
+    pub fn get(&self, position: usize) -> Option<&[Token]>
+        ensures present { IsSome result ↔ (position < length self.now) }
+        ensures items { IfSome result (λ tokens. tokens_view tokens.now ≡ slice_index_or self.now position []) }
+    {
+        match self.places.get(position) {
+            Some(held) => Some(held.tokens()),
+            None => None,
+        }
+    }
+
     /// Adds a token of the value with the time stamp to a place. After `Memory` the marking is as it was.
     pub fn add(&mut self, place: u32, value: Value, stamp: u64) -> Result<(), Memory>
         requires in_range { place < length self.old }
         ensures added { OnOk result (self.new ≡ slice_set self.old place (add_token (token_at (value_view value) stamp) (slice_index_or self.old place []))) }
         ensures unchanged { OnErr result (self.new ≡ self.old) }
+        ensures places { length self.new ≡ length self.old }
     {
         let held = &mut self.places[place as usize];
         held.add(value, stamp)
@@ -73,6 +86,7 @@ impl PlainMarking {
     pub fn take(&mut self, place: u32, value: &Value, latest: u64)
         requires in_range { place < length self.old }
         ensures taken { self.new ≡ slice_set self.old place (without_token (value_view value.now) latest (slice_index_or self.old place [])) }
+        ensures places { length self.new ≡ length self.old }
     {
         let held = &mut self.places[place as usize];
         held.take(value, latest);
@@ -98,5 +112,35 @@ impl PlainMarking {
             places.push(place.copy()?)?;
         }
         Ok(PlainMarking { places })
+    }
+}
+
+#[cfg(test)]
+mod tests {
+    use super::*;
+    use std::test::Fail;
+
+    #[test]
+    fn the_latest_stamp_is_taken(rt: HostRuntime) -> Result<(), Fail> {
+        let mut marking = PlainMarking::new(rt.alloc(), 2)?;
+        marking.add(1, Value::Int(7), 4)?;
+        marking.add(1, Value::Int(8), 2)?;
+        marking.add(1, Value::Int(7), 1)?;
+        marking.add(1, Value::Int(6), 9)?;
+        let copy = marking.copy()?;
+        assert_eq!(rt; marking.len(), 2);
+        for (latest, count) in [(0, 0), (1, 1), (3, 1), (4, 2)] {
+            assert_eq!(rt; marking.count(1, &Value::Int(7), latest), count);
+        }
+        marking.take(1, &Value::Int(7), 0);
+        marking.take(1, &Value::Int(7), 4);
+        let mut left = Vec::new(rt.alloc());
+        for token in marking.tokens(1) {
+            left.push(token.stamp)?;
+        }
+        assert_eq!(rt; left.as_slice(), [9, 1, 2].as_slice());
+        assert_eq!(rt; marking.tokens(0).len(), 0);
+        assert_eq!(rt; copy.tokens(1).len(), 4);
+        Ok(())
     }
 }

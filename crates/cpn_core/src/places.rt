@@ -16,7 +16,9 @@ use std::marker::Model;
 /// A token: its value and its time stamp. A token of an untimed place has stamp 0.
 #[derive(Drop)]
 pub struct Token {
+    /// The value, one of the place's colour set.
     pub value: Value,
+    /// The model time from which on the token may be used.
     pub stamp: u64,
 }
 

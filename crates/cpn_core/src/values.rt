@@ -119,3 +119,31 @@ fn nodes_in_all(values: &Values) -> u64
     }
     sum
 }
+
+#[cfg(test)]
+mod tests {
+    use super::*;
+    use std::test::Fail;
+
+    #[test]
+    fn nodes_are_counted_and_copied(rt: HostRuntime) -> Result<(), Fail> {
+        let alloc = rt.alloc();
+        let mut name = Text::new(alloc);
+        name.push(b"abc")?;
+        let items = vec![in alloc; Value::Int(7), Value::Text(name)]?;
+        let argument = Box::new(alloc, Value::Tuple(items))?;
+        let list = vec![in alloc; Value::Con(1, Some(argument)), Value::Con(0, None)]?;
+        let value = Value::List(list);
+        let cases = [
+            (Value::Unit, 1),
+            (Value::Bool(true), 1),
+            (Value::Enum(4), 1),
+            (value.copy()?, 9),
+        ];
+        for (case, nodes) in cases {
+            assert_eq!(rt; case.nodes(), nodes);
+        }
+        assert!(rt; value.copy()? == value);
+        Ok(())
+    }
+}

@@ -6,6 +6,10 @@ pub mod Sorting
 pub mod Stamps
 pub mod Searching
 pub mod Rows
+pub mod Rising
+pub mod Assignments
+pub mod SearchLaws
+pub mod AllTransitions
 pub mod Listing
 pub mod Ending
 pub mod SoundOutputs

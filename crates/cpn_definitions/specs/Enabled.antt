@@ -9,6 +9,7 @@ use Rattle.std.specs.Cmp.Lexicographic.{slice_cmp}
 use Rattle.cpn_definitions.specs.Order.{value_cmp}
 use Rattle.cpn_definitions.specs.Marking.{Marking}
 use Rattle.cpn_definitions.specs.Net.{PlainNet}
+use Rattle.cpn_definitions.specs.Meaning.{PlainBinding}
 use Rattle.cpn_definitions.specs.Occurrence.{PlainElement, covered}
 
 -- An enabled element and its earliest time.
@@ -36,6 +37,21 @@ pub record IsEarliest (n : PlainNet) (m : Marking) (clock : ℕ) (x : PlainEntry
 pub record Enabled (n : PlainNet) (m : Marking) (clock : ℕ) (entries : List PlainEntry) : Type 0 where
   pub in_order : IsIncreasing entries
   pub exact : (x : PlainEntry) → Contains entries x ↔ IsEarliest n m clock x
+
+-- A binding of one transition that is covered at some time, and the least such time.
+pub record PlainFound : Type 0 where
+  pub binding : PlainBinding
+  pub earliest : ℕ
+
+-- the entries of a transition with these bindings
+abbrev pub entries_of : ℕ → List PlainFound → List PlainEntry
+entries_of t found = map (λ f. record { earliest = f.earliest; element = record { transition = t; binding = f.binding } }) found
+
+-- Enabled of one transition: the list has each of its bindings that is covered at some time once, in order,
+-- with the least such time; and it has no other.
+pub record EnabledOf (n : PlainNet) (m : Marking) (t : ℕ) (found : List PlainFound) : Type 0 where
+  pub in_order : IsIncreasing (entries_of t found)
+  pub exact : (x : PlainEntry) → Contains (entries_of t found) x ↔ ((x.element.transition ≡ t) × IsEarliest n m 0 x)
 
 -- Ready: the enabled elements that are covered at the clock.
 abbrev pub ready : ℕ → List PlainEntry → List PlainEntry

@@ -1,2 +1,16 @@
-//! The report of a run, as text.
+//! The report of a run, as text: one line after another, from the run's opening to its total.
+//!
+//! The crate only prints. It decides nothing about a run, reads nothing from outside, and writes to
+//! nothing but the text that it returns.
 #![tactic(auto)]
+
+mod elements;
+mod groups;
+mod integers;
+mod lines;
+mod places;
+mod reports;
+#[cfg(test)]
+mod tests;
+
+pub use reports::report;

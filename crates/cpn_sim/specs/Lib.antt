@@ -1,2 +1,4 @@
 pub mod Options
 pub mod OptionsView
+pub mod Reported
+pub mod Causes

@@ -1,5 +1,5 @@
 -- Going back from the place, each token of the value is one that may be taken, and past them none is.
-use Rattle.std.proofs.Common.{◌≡◌, ◌+◌, ◌-◌, ◌<◌, ◌≤◌, length, arith, sym, ◌∙◌}
+use Rattle.std.proofs.Common.{arith, sym, ◌∙◌}
 use Rattle.cpn_core.specs.Views.{value_view}
 use Rattle.cpn_core.proofs.Placing.{counted_before, counted_back, counted_out}
 use Rattle.cpn_core.proofs.places.count_to_take.Goals as goal

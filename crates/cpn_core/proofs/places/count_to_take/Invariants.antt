@@ -1,5 +1,5 @@
 -- The tokens below `first` that may be taken, and those counted, are all that may be taken.
-use Rattle.std.proofs.Common.{◌≡◌, ◌+◌, ◌-◌, ◌≤◌, length, take, count_by}
+use Rattle.std.proofs.Common.{◌≡◌, ◌+◌, ◌-◌, ◌≤◌, take, count_by}
 use Rattle.cpn_definitions.specs.Marking.{is_taken_by}
 use Rattle.cpn_core.specs.Views.{value_view}
 use Rattle.cpn_core.specs.Tokens.{tokens_view}

@@ -1,5 +1,5 @@
 -- Each half that is left out is wholly before or wholly after the token.
-use Rattle.std.proofs.Common.{◌≡◌, ◌+◌, ◌-◌, ◌/◌, ◌<◌, ◌≤◌, length, arith, sym, ◌∙◌}
+use Rattle.std.proofs.Common.{◌+◌, ◌-◌, ◌/◌, arith, sym, ◌∙◌}
 use Rattle.cpn_definitions.specs.Marking.{token_at}
 use Rattle.cpn_core.specs.Views.{value_view}
 use Rattle.cpn_core.proofs.Placing.{none_until, each_from}

@@ -1,5 +1,5 @@
 -- The token comes before none of those below `low`, and before each from `high` on.
-use Rattle.std.proofs.Common.{◌≡◌, ◌-◌, ◌≤◌, length}
+use Rattle.std.proofs.Common.{◌-◌, ◌≤◌, length}
 use Rattle.std.specs.List.{AllWithin}
 use Rattle.cpn_definitions.specs.Marking.{token_at, Precedes, DoesNotPrecede}
 use Rattle.cpn_core.specs.Views.{value_view}

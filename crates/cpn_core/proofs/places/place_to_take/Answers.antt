@@ -1,5 +1,5 @@
 -- The last token ahead of the place is the one to take, if it has the value.
-use Rattle.std.proofs.Common.{◌≡◌, ◌-◌, ◌<◌, ◌≤◌, length, arith, sym, ◌∙◌}
+use Rattle.std.proofs.Common.{arith, sym, ◌∙◌}
 use Rattle.cpn_core.specs.Views.{value_view}
 use Rattle.cpn_core.proofs.Placing.{last_is_taken, last_is_other, none_is_before}
 use Rattle.cpn_core.proofs.places.place_to_take.Goals as goal

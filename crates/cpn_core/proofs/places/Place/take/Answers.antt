@@ -1,5 +1,5 @@
 -- The token that is found is removed, and the tokens stay sorted.
-use Rattle.std.proofs.Common.{◌≡◌, ◌<◌, length, remove, sym, ap, subst, ◌∙◌, arith, List}
+use Rattle.std.proofs.Common.{◌≡◌, remove, sym, subst, ◌∙◌, List}
 use Rattle.cpn_definitions.specs.Marking.{without_token, AreSorted}
 use Rattle.cpn_definitions.proofs.Sorting.{without_token_sorted}
 use Rattle.cpn_core.specs.declared.places.Token.{Token}

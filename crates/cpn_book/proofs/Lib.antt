@@ -1,0 +1,4 @@
+pub mod Soonest
+pub mod RoundDone
+pub mod Starting
+pub mod Finishing

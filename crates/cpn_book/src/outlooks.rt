@@ -1,0 +1,50 @@
+//! What is enabled in a marking at a clock.
+
+ghost use Rattle.std.specs.Prelude.{◌≡◌, Some, length, map};
+ghost use Rattle.cpn_definitions.specs.Enabled.{ready, next_time, or_sooner};
+ghost use Rattle.cpn_core.specs.Occurrences.{entry_view};
+
+use cpn_core::{Entry, Outlook};
+
+/// The number of the ready entries, and the next time.
+pub fn outlook(entries: &[Entry], clock: u64) -> Outlook
+    ensures ready { result.ready ≡ length (ready clock (map entry_view entries.now)) }
+    ensures next { result.next ≡ next_time (map entry_view entries.now) }
+{
+    Outlook {
+        ready: ready_count(entries, clock),
+        next: next_time(entries),
+    }
+}
+
+fn ready_count(entries: &[Entry], clock: u64) -> u64
+    ensures { result ≡ length (ready clock (map entry_view entries.now)) }
+{
+    let mut count = 0u64;
+    for entry in entries {
+        if entry.earliest == clock {
+            count += 1;
+        }
+    }
+    count
+}
+
+fn next_time(entries: &[Entry]) -> Option<u64>
+    ensures { result ≡ next_time (map entry_view entries.now) }
+{
+    let mut next = None;
+    for entry in entries {
+        next = sooner(next, entry.earliest);
+    }
+    next
+}
+
+/// The sooner of a time that may be missing and a time.
+fn sooner(time: Option<u64>, other: u64) -> Option<u64>
+    ensures { result ≡ Some (or_sooner other time) }
+{
+    match time {
+        None => Some(other),
+        Some(time) => Some(other.min(time)),
+    }
+}

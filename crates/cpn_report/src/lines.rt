@@ -1,0 +1,149 @@
+// The lines of a report that hold numbers and fixed words alone.
+ghost use Rattle.std.specs.Prelude.{◌≡◌, ◌++◌, map, OnOk};
+ghost use Rattle.std.specs.List.{flat_map};
+ghost use Rattle.std.specs.String.{string_bytes};
+ghost use Rattle.cpn_report.specs.Report.{report_line, run_line, time_text, event_text, schedule_line, cause_text, end_line, occurrences_line, clock_line, ready_line, next_line, total_line};
+ghost use Rattle.cpn_definitions.specs.Net.{PlainNet};
+ghost use Rattle.cpn_core.specs.Nets.{net_view};
+ghost use Rattle.cpn_core.specs.Occurrences.{event_view, end_view};
+ghost use Rattle.cpn_core.specs.Finished.{outlook_view};
+
+use cpn_core::{End, Event, Finished, Memory, Outlook};
+use std::fmt::Write;
+
+/// Appends the first line of each report.
+#[tactic(auto, unfolding(crate::specs::Report::report_line))]
+pub(crate) fn push_report_line(out: &mut String) -> Result<(), Memory>
+    ensures written { OnOk result (string_bytes out.new ≡ string_bytes out.old ++ report_line) }
+{
+    out.push_str("report 1\n")?;
+    Ok(())
+}
+
+/// Appends the first line of the run with this number, which starts from the initial marking at the
+/// clock, with the outlook there.
+#[tactic(auto, unfolding(crate::specs::Report::run_line))]
+pub(crate) fn push_run_line(
+    out: &mut String,
+    number: u64,
+    clock: u64,
+    opening: &Outlook,
+) -> Result<(), Memory>
+    ensures written { OnOk result (string_bytes out.new ≡ string_bytes out.old ++ run_line number clock (outlook_view opening.now)) }
+{
+    let ready = opening.ready;
+    write!(out, "run {number} initial {clock} ready {ready} next ")?;
+    push_time(out, opening.next)?;
+    out.push_str("\n")?;
+    Ok(())
+}
+
+/// Appends a time that may be missing.
+pub(crate) fn push_time(out: &mut String, time: Option<u64>) -> Result<(), Memory>
+    ensures written { OnOk result (string_bytes out.new ≡ string_bytes out.old ++ time_text time) }
+{
+    match time {
+        None => out.push_str("none")?,
+        Some(time) => write!(out, "{time}")?,
+    }
+    Ok(())
+}
+
+/// Appends the line of the run's journal.
+#[tactic(auto, unfolding(crate::specs::Report::schedule_line))]
+pub(crate) fn push_schedule_line(out: &mut String, journal: &[Event]) -> Result<(), Memory>
+    ensures written { OnOk result (string_bytes out.new ≡ string_bytes out.old ++ schedule_line (map event_view journal.now)) }
+{
+    out.push_str("schedule")?;
+    push_events(out, journal)?;
+    out.push_str("\n")?;
+    Ok(())
+}
+
+/// Appends the events, each with a space before it.
+fn push_events(out: &mut String, journal: &[Event]) -> Result<(), Memory>
+    ensures written { OnOk result (string_bytes out.new ≡ string_bytes out.old ++ flat_map event_text (map event_view journal.now)) }
+{
+    for event in journal {
+        push_event(out, *event)?;
+    }
+    Ok(())
+}
+
+/// Appends an event, with a space before it.
+fn push_event(out: &mut String, event: Event) -> Result<(), Memory>
+    ensures written { OnOk result (string_bytes out.new ≡ string_bytes out.old ++ event_text (event_view event)) }
+{
+    match event {
+        Event::Claim { seat: _, number } => write!(out, " c{number}")?,
+        Event::Done { seat: _, number } => write!(out, " d{number}")?,
+    }
+    Ok(())
+}
+
+/// Appends the line of the cause of the run's end.
+#[tactic(auto, unfolding(crate::specs::Report::end_line))]
+pub(crate) fn push_end_line(out: &mut String, finished: &Finished) -> Result<(), Memory>
+    ensures written { OnOk result (string_bytes out.new ≡ string_bytes out.old ++ end_line (net_view finished.now.net.value) (end_view finished.now.cause)) }
+{
+    let name = cause_name(finished.cause);
+    write!(out, "end {name}\n")?;
+    Ok(())
+}
+
+/// The name of the cause of a run's end, which is the same for each net.
+fn cause_name(cause: End) -> &'static str
+    ensures name { (n : PlainNet) → result.now ≡ cause_text n (end_view cause) }
+{
+    match cause {
+        End::Steps => "steps",
+        End::Dead => "dead",
+    }
+}
+
+/// Appends the line of the number of occurrences.
+#[tactic(auto, unfolding(crate::specs::Report::occurrences_line))]
+pub(crate) fn push_occurrences_line(out: &mut String, count: u64) -> Result<(), Memory>
+    ensures written { OnOk result (string_bytes out.new ≡ string_bytes out.old ++ occurrences_line count) }
+{
+    write!(out, "occurrences {count}\n")?;
+    Ok(())
+}
+
+/// Appends the line of the last clock.
+#[tactic(auto, unfolding(crate::specs::Report::clock_line))]
+pub(crate) fn push_clock_line(out: &mut String, clock: u64) -> Result<(), Memory>
+    ensures written { OnOk result (string_bytes out.new ≡ string_bytes out.old ++ clock_line clock) }
+{
+    write!(out, "clock {clock}\n")?;
+    Ok(())
+}
+
+/// Appends the line of the number of ready elements.
+#[tactic(auto, unfolding(crate::specs::Report::ready_line))]
+pub(crate) fn push_ready_line(out: &mut String, count: u64) -> Result<(), Memory>
+    ensures written { OnOk result (string_bytes out.new ≡ string_bytes out.old ++ ready_line count) }
+{
+    write!(out, "ready {count}\n")?;
+    Ok(())
+}
+
+/// Appends the line of the next time.
+#[tactic(auto, unfolding(crate::specs::Report::next_line))]
+pub(crate) fn push_next_line(out: &mut String, time: Option<u64>) -> Result<(), Memory>
+    ensures written { OnOk result (string_bytes out.new ≡ string_bytes out.old ++ next_line time) }
+{
+    out.push_str("next ")?;
+    push_time(out, time)?;
+    out.push_str("\n")?;
+    Ok(())
+}
+
+/// Appends the line of the number of occurrences in all runs.
+#[tactic(auto, unfolding(crate::specs::Report::total_line))]
+pub(crate) fn push_total_line(out: &mut String, count: u64) -> Result<(), Memory>
+    ensures written { OnOk result (string_bytes out.new ≡ string_bytes out.old ++ total_line count) }
+{
+    write!(out, "total {count}\n")?;
+    Ok(())
+}

@@ -1,0 +1,9 @@
+-- The entries are the enabled elements of the transitions so far.
+use Rattle.std.proofs.Common.{map}
+use Rattle.cpn_definitions.proofs.AllTransitions.{EnabledBelow}
+use Rattle.cpn_core.specs.Nets.{net_view}
+use Rattle.cpn_core.specs.Occurrences.{entry_view}
+use Rattle.cpn_search.proofs.searching.enabled.Given as goal
+
+abbrev pub invariant-loop-t : goal.invariant-loop-t
+invariant-loop-t l = EnabledBelow (net_view l.net) l.fn.marking l.clock l.t (map entry_view l.entries.items)

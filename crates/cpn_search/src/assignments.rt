@@ -1,0 +1,92 @@
+// The bindings that a search tries: each variable in declaration order with each of its candidates.
+ghost use Rattle.std.specs.Prelude.{◌≡◌, ℕ, ◌+◌, ◌<◌, ◌++◌, nat_lt, true, [], ◌∷◌, length, map, OnOk, IfOk};
+ghost use Rattle.std.specs.List.{list_all, list_any, flat_map};
+ghost use Rattle.cpn_definitions.specs.Sound.{is_bound_by};
+ghost use Rattle.cpn_definitions.proofs.Assignments.{extended, candidates as candidate_values, assignments as assigned, binding_cmp, AreInOrder};
+ghost use Rattle.cpn_definitions.proofs.Rising.{Rises};
+ghost use Rattle.cpn_core.specs.Views.{value_view};
+ghost use Rattle.cpn_core.specs.Nets.{arc_view, net_view};
+ghost use Rattle.cpn_search.specs.Known.{IsKnown};
+
+use crate::candidates::candidates;
+use cpn_core::{Binding, Memory, Net, PlainMarking, Transition, Value};
+use std::alloc::Global;
+
+/// A copy of the binding with one more variable.
+fn bound_more(binding: &Binding, variable: u32, value: &Value) -> Result<Binding, Memory>
+    ensures bound { IfOk result (λ longer. longer ≡ binding.now ++ (variable, value_view value.now) ∷ []) }
+{
+    let mut longer = binding.copy()?;
+    longer.bind(variable, value.copy()?)?;
+    Ok(longer)
+}
+
+/// Appends the copies of the binding with each of the values for one more variable.
+fn push_extended(
+    bindings: &mut Vec<Binding>,
+    binding: &Binding,
+    variable: u32,
+    values: &[Value],
+) -> Result<(), Memory>
+    ensures appended { OnOk result (bindings.new.items ≡ bindings.old.items ++ extended variable (map value_view values.now) binding.now) }
+{
+    for value in values {
+        bindings.push(bound_more(binding, variable, value)?)?;
+    }
+    Ok(())
+}
+
+/// The bindings with each of the values for one more variable, binding by binding.
+fn extended_by(
+    alloc: Global,
+    bindings: &[Binding],
+    variable: u32,
+    values: &[Value],
+) -> Result<Vec<Binding>, Memory>
+    ensures extended { IfOk result (λ longer. longer.items ≡ flat_map (extended variable (map value_view values.now)) bindings.now) }
+{
+    let mut longer = Vec::new(alloc);
+    for binding in bindings {
+        push_extended(&mut longer, binding, variable, values)?;
+    }
+    Ok(longer)
+}
+
+/// The bindings with each candidate of one more variable of the transition, binding by binding.
+fn with_candidates(
+    alloc: Global,
+    net: &Net,
+    marking: &PlainMarking,
+    transition: &Transition,
+    bindings: Vec<Binding>,
+    variable: u32,
+) -> Result<Vec<Binding>, Memory>
+    requires known { IsKnown net.now marking.now transition.now }
+    requires declared { variable < length net.now.variables.items }
+    requires bound { list_any (λ arc. is_bound_by variable (arc_view arc).expr) transition.now.inputs.items ≡ true }
+    ensures extended { IfOk result (λ longer. longer.items ≡ flat_map (extended variable (candidate_values (net_view net.now) marking.now (map arc_view transition.now.inputs.items) variable)) bindings.items) }
+    ensures in_order { IfOk result (λ longer. (k : ℕ) → AreInOrder k bindings.items → AreInOrder (k + 1) longer.items) }
+{
+    let values = candidates(alloc, net, marking, transition.inputs.as_slice(), variable)?;
+    let longer = extended_by(alloc, bindings.as_slice(), variable, values.as_slice())?;
+    Ok(longer)
+}
+
+/// The bindings of a transition's variables, each with one of its candidates, in order.
+pub fn assignments(
+    alloc: Global,
+    net: &Net,
+    marking: &PlainMarking,
+    transition: &Transition,
+) -> Result<Vec<Binding>, Memory>
+    requires known { IsKnown net.now marking.now transition.now }
+    ensures assigned { IfOk result (λ bindings. bindings.items ≡ assigned (candidate_values (net_view net.now) marking.now (map arc_view transition.now.inputs.items)) transition.now.vars.items ([] ∷ [])) }
+    ensures in_order { IfOk result (λ bindings. Rises binding_cmp bindings.items) }
+{
+    let mut bindings = Vec::new(alloc);
+    bindings.push(Binding::new(alloc))?;
+    for variable in &transition.vars {
+        bindings = with_candidates(alloc, net, marking, transition, bindings, *variable)?;
+    }
+    Ok(bindings)
+}

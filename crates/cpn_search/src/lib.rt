@@ -1,0 +1,16 @@
+//! The search for the enabled bindings of a net.
+//!
+//! From the tokens of a marking it finds each binding of a transition that is covered at some time, once,
+//! in order, with the least such time; and from those of all transitions the enabled elements. It changes
+//! no marking, keeps nothing between two searches, and takes no value from anywhere but the tokens.
+#![tactic(auto)]
+
+mod assignments;
+mod candidates;
+mod covering;
+mod searching;
+#[cfg(test)]
+mod tests;
+
+pub use covering::is_covered;
+pub use searching::{enabled, enabled_of};

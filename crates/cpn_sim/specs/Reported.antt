@@ -1,0 +1,37 @@
+-- The report that a run of a document gives.
+use Rattle.std.specs.Prelude.{◌≡◌, ℕ, ◌^◌, List, Option, Some}
+use Rattle.cpn_definitions.specs.State.{PlainSetup}
+use Rattle.cpn_definitions.specs.Run.{PlainOutcome, IsRun, IsLegalRun, Outlook, HasOutlook}
+use Rattle.cpn_file.specs.Loading.{PlainLoaded}
+use Rattle.cpn_file.specs.Reads.{Reads}
+use Rattle.cpn_report.specs.Report.{report_text}
+use Rattle.cpn_sim.specs.Options.{PlainOptions, options_from}
+
+-- what the one run of a loaded net starts from: the initial marking at clock 0, with one seat
+abbrev pub setup_from : PlainLoaded → PlainOptions → PlainSetup
+setup_from loaded options = record { net = loaded.net; start = loaded.initial; clock = 0; limits = record { steps = options.steps; until = 2 ^ 62; seats = 1 }; seed = options.seed }
+
+-- The text is the report of a run of the loaded net: the run's journal leads to a state that ends by the
+-- cause, its occurrences are a legal occurrence sequence from the initial marking to the printed one, and
+-- what is printed as ready and next, at the start and at the end, is that of the enabled elements.
+pub record IsReportOf (loaded : PlainLoaded) (options : PlainOptions) (report : List ℕ) : Type 0 where
+  pub run : PlainOutcome
+  pub is_run : IsRun (setup_from loaded options) run
+  pub is_legal : IsLegalRun (setup_from loaded options) run
+  pub opening : Outlook
+  pub opening_is : HasOutlook (setup_from loaded options) loaded.initial 0 opening
+  pub closing : Outlook
+  pub closing_is : HasOutlook (setup_from loaded options) run.marking run.clock closing
+  pub text_is : report ≡ report_text loaded.net 0 opening run closing
+
+-- The text is the report of a run of the net that the bytes are read as.
+pub record IsReportUnder (bytes : List ℕ) (options : PlainOptions) (report : List ℕ) : Type 0 where
+  pub loaded : PlainLoaded
+  pub reads : Reads bytes loaded
+  pub is_report : IsReportOf loaded options report
+
+-- The text is the report of a run of the net that the bytes are read as, under the options of the words.
+pub record IsReport (bytes : List ℕ) (words : List (List ℕ)) (report : List ℕ) : Type 0 where
+  pub options : PlainOptions
+  pub words_are : options_from words ≡ Some options
+  pub is_report : IsReportUnder bytes options report

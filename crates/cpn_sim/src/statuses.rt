@@ -1,0 +1,20 @@
+//! How a call of the program ends.
+
+/// How a call of the program ends; its number is the exit status.
+#[derive(Clone, Copy, Debug, PartialEq, Eq)]
+pub enum Status {
+    /// The whole report was written.
+    Done = 0,
+    /// The words are not of the form that is read.
+    BadWords = 1,
+    /// The source had a fault.
+    ReadFault = 2,
+    /// The document is no JSON value, or none that is served yet.
+    BadDocument = 3,
+    /// The sink had a fault.
+    WriteFault = 7,
+    /// Memory ran out.
+    Memory = 8,
+    /// The document has more than 16,777,216 bytes.
+    TooLong = 9,
+}
