@@ -4,7 +4,7 @@ use Rattle.std.specs.Ordering.{is_lt}
 use Rattle.std.proofs.lemmas.Cmp.{tied_itself}
 use Rattle.std.proofs.lemmas.List.{get_or-set_same, set-set, set-get_or, take_more, map-append, length-map, length-take-le}
 use Rattle.std.proofs.Math.Seq.{set-append_seam}
-use Rattle.cpn_definitions.specs.Marking.{PlainToken, Tokens, Marking, token_cmp, add_token}
+use Rattle.cpn_definitions.specs.Marking.{PlainToken, Tokens, Marking, add_token}
 use Rattle.std.specs.Prelude.{Some, None}
 use Rattle.cpn_file.specs.Loading.{initial_tokens}
 use Rattle.cpn_file.specs.Views.{places_view}

@@ -1,6 +1,6 @@
 -- Lists of names: where a name stands, and when none is there twice.
-use Rattle.std.proofs.Common.{◌≡◌, ℕ, suc, ◌+◌, ◌<◌, Bool, true, false, not, ◌&&◌, ◌||◌, List, [], ◌∷◌, ◌++◌, length, map, take, drop, get_or, refl, sym, ap, ap₂, ◌∙◌, cond, arith, if◌then◌else◌}
-use Rattle.std.specs.Prelude.{Option, Some, None, option_map}
+use Rattle.std.proofs.Common.{◌≡◌, ℕ, ◌+◌, ◌<◌, Bool, true, false, not, ◌&&◌, ◌||◌, List, [], ◌∷◌, ◌++◌, length, take, drop, get_or, refl, sym, ap, ◌∙◌, cond, if◌then◌else◌}
+use Rattle.std.specs.Prelude.{Some, None}
 use Rattle.std.specs.Borrow.{Bor}
 use Rattle.std.specs.List.{list_any, position, position_or_len}
 use Rattle.std.specs.Str.{bytes_eq}

@@ -1,7 +1,7 @@
 -- Worked texts, and a worked document as a JSON value.
-use Rattle.std.proofs.Common.{◌≡◌, ℕ, pos, true, false, List, [], ◌∷◌, ◌++◌, Some, None, refl}
-use Rattle.std.specs.Prelude.{codes, Option}
-use Rattle.serde_json.specs.Data.{Data, number, unsigned, string, array, object, Items, no_items, item, Members, no_members, member}
+use Rattle.std.proofs.Common.{◌≡◌, ℕ, pos, true, false, List, [], ◌∷◌, Some, None, refl}
+use Rattle.std.specs.Prelude.{codes}
+use Rattle.serde_json.specs.Data.{Data, number, unsigned, string, array, object, no_items, item, no_members, member}
 use Rattle.cpn_definitions.specs.Value.{int}
 use Rattle.cpn_definitions.specs.Marking.{PlainToken}
 use Rattle.cpn_definitions.specs.Net.{variable, one, variable_pattern}

@@ -1,12 +1,12 @@
 -- What `strip_prefix` and `strip_suffix` give, in the words of the definitions.
-use Rattle.std.proofs.Common.{◌≡◌, ℕ, List, length, Option, Some, None, refl, arith, ◌+◌, [], drop, ◌<◌, sym, ap, subst, true, false, ◌∙◌, take, ◌-◌}
+use Rattle.std.proofs.Common.{◌≡◌, ℕ, List, length, Option, Some, None, refl, arith, [], sym, ap, subst, true, false, ◌-◌}
 use Rattle.std.specs.Prelude.{MatchOption, option_map}
 use Rattle.std.proofs.Math.ListN.{drop_of_length-le}
 use Rattle.std.specs.Borrow.{Bor}
 use Rattle.std.specs.Str.{IsCharBoundary}
 use Rattle.std.specs.Str.Pattern.{FindsTextPrefix, FindsTextSuffix, StripsPrefix, StripsSuffix}
 use Rattle.std.proofs.lemmas.Str.Pattern.{starts_text, ends_text, IsSplitOnceResult, split_once_first}
-use Rattle.std.specs.List.{before_first, after_first, position_or_len}
+use Rattle.std.specs.List.{before_first, after_first}
 use Rattle.cpn_file.specs.Texts.{after_front, before_end, is_backtick}
 
 pub front_taken : (p s : List ℕ) (r : Option (Bor (List ℕ))) → MatchOption r (FindsTextPrefix p s None) (λ x. StripsPrefix (FindsTextPrefix p) s x.now) → option_map (λ x. x.now) r ≡ after_front p s

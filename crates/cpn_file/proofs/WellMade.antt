@@ -1,20 +1,19 @@
 -- Each document that is read gives a sound net, and a marking of its places.
-use Rattle.std.proofs.Common.{◌≡◌, ℕ, zero, suc, ◌+◌, ◌<◌, ◌≤◌, Bool, true, false, ◌&&◌, List, [], ◌∷◌, length, map, replicate, refl, sym, ap, ◌∙◌, subst, arith}
-use Rattle.std.specs.Prelude.{Option, Some, None, option_and_then, nat_le, ◌==◌, codes, if◌then◌else◌}
+use Rattle.std.proofs.Common.{◌≡◌, ℕ, zero, suc, Bool, true, false, ◌&&◌, List, [], ◌∷◌, length, map, replicate, refl, sym, ap, subst}
+use Rattle.std.specs.Prelude.{Option, Some, None, nat_le, ◌==◌, codes, if◌then◌else◌}
 use Rattle.std.specs.List.{list_all}
 use Rattle.std.specs.Str.{bytes_eq}
 use Rattle.std.specs.Ordering.{is_gt}
 use Rattle.std.proofs.lemmas.Bool.{and_parts}
 use Rattle.std.proofs.lemmas.Cmp.{tied_itself}
 use Rattle.std.proofs.lemmas.List.{length-map, length-replicate}
-use Rattle.std.proofs.lemmas.List.Folds.{list_all-map}
 use Rattle.std.proofs.lemmas.Option.{same_Some}
 use Rattle.serde_json.specs.Data.{Data, Items}
 use Rattle.cpn_definitions.specs.Value.{int}
 use Rattle.cpn_definitions.specs.Colour.{admits}
-use Rattle.cpn_definitions.specs.Marking.{PlainToken, Tokens, AreSorted, MayPrecede, token_cmp, token_at}
-use Rattle.cpn_definitions.specs.Net.{Coloured, PlainNet, PlainTransition}
-use Rattle.cpn_definitions.specs.Sound.{int_colour, is_int_colour, is_sound, is_sound_transition, has_sound_arcs, may_hold, IsMarking}
+use Rattle.cpn_definitions.specs.Marking.{PlainToken, AreSorted, MayPrecede, token_at}
+use Rattle.cpn_definitions.specs.Net.{PlainNet, PlainTransition}
+use Rattle.cpn_definitions.specs.Sound.{int_colour, is_int_colour, is_sound_transition, has_sound_arcs, may_hold, IsMarking}
 use Rattle.cpn_definitions.proofs.Comparing.{token_cmp_total}
 use Rattle.cpn_file.specs.Parts.{when, each_in, list_at, text_at, number_at, has_keys, only}
 use Rattle.cpn_file.specs.Document.{PlainPlace, PlainModule, PlainDocument, place_names, name_at, place_in, transition_in, arc_in, apart, are_distinct, arcs_among, variables_in, module_in, document_in}
@@ -22,7 +21,7 @@ use Rattle.cpn_file.specs.Loading.{PlainLoaded, initial_tokens, place_of, variab
 use Rattle.cpn_file.specs.WellLoaded.{IsWellLoaded, has_few_tokens}
 use Rattle.cpn_file.specs.declared.initials.Initial.{Initial}
 use Rattle.cpn_file.specs.declared.arcs.Arc.{Arc}
-use Rattle.cpn_file.proofs.Passing.{both, steps, all_weaker, all_both}
+use Rattle.cpn_file.proofs.Passing.{both, steps, all_weaker}
 use Rattle.cpn_file.proofs.Served.{each_passes, is_served_arc, is_served_initial, arc_served, place_served}
 use Rattle.cpn_file.proofs.Sounding.{transitions_sound}
 

@@ -1,14 +1,14 @@
 -- The net and the initial marking of a document. Source: own choice; arcs and markings are those of Jensen
 -- and Kristensen, chapter 4.
-use Rattle.std.specs.Prelude.{ℕ, zero, suc, ◌+◌, ◌==◌, Bool, true, false, if◌then◌else◌, nat_le, List, [], ◌∷◌, ◌++◌, length, map, replicate, Option, Some, None, option_map, option_and_then, codes}
+use Rattle.std.specs.Prelude.{ℕ, suc, ◌+◌, ◌==◌, Bool, true, false, if◌then◌else◌, nat_le, List, [], ◌∷◌, ◌++◌, length, map, replicate, Option, Some, None, option_and_then, codes}
 use Rattle.std.specs.List.{filter, list_any, list_all, range_with_len}
 use Rattle.serde_json.specs.Data.{Data}
 use Rattle.cpn_definitions.specs.Value.{int}
 use Rattle.cpn_definitions.specs.Marking.{Tokens, Marking}
-use Rattle.cpn_definitions.specs.Net.{PlainExpr, literal, variable, PlainMultiset, one, PlainPattern, literal_pattern, variable_pattern, BindingTerm, PlainArc, PlainTransition, Coloured, PlainNet}
+use Rattle.cpn_definitions.specs.Net.{PlainExpr, literal, variable, one, PlainPattern, literal_pattern, variable_pattern, PlainArc, PlainTransition, Coloured, PlainNet}
 use Rattle.cpn_definitions.specs.Sound.{int_colour, is_bound_by}
 use Rattle.cpn_file.specs.Parts.{◌>>=◌, when}
-use Rattle.cpn_file.specs.Document.{PlainPlace, PlainModule, PlainDocument, document_in}
+use Rattle.cpn_file.specs.Document.{PlainPlace, PlainDocument, document_in}
 use Rattle.cpn_file.specs.declared.initials.Initial.{Initial}
 use Rattle.cpn_file.specs.declared.arcs.Arc.{Arc}
 use Rattle.cpn_file.specs.declared.arcs.Way.{Way}

@@ -1,7 +1,7 @@
 -- What holds of each net and initial marking that a document is read as.
-use Rattle.std.specs.Prelude.{◌≡◌, ℕ, Bool, true, nat_le, List, length}
+use Rattle.std.specs.Prelude.{◌≡◌, Bool, true, nat_le, length}
 use Rattle.std.specs.List.{list_all}
-use Rattle.cpn_definitions.specs.Marking.{Tokens, Marking}
+use Rattle.cpn_definitions.specs.Marking.{Marking}
 use Rattle.cpn_definitions.specs.Sound.{is_sound, IsMarking}
 use Rattle.cpn_file.specs.Loading.{PlainLoaded}
 

@@ -1,5 +1,5 @@
 -- Each item is read as the next one of the list, or refused with it.
-use Rattle.std.proofs.Common.{◌∙◌, [], ◌∷◌, arith}
+use Rattle.std.proofs.Common.{◌∙◌, arith}
 use Rattle.std.proofs.lemmas.Result.{err_from_is_err_and}
 use Rattle.serde_json.specs.View.{view, items_view}
 use Rattle.cpn_file.specs.Parts.{each_in}

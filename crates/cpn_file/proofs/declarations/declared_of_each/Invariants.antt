@@ -4,7 +4,6 @@ use Rattle.serde_json.specs.View.{items_view}
 use Rattle.cpn_file.specs.Parts.{each_in}
 use Rattle.cpn_file.specs.Document.{declared_in}
 use Rattle.cpn_file.specs.Names.{strings_of}
-use Rattle.cpn_file.specs.Views.{places_view}
 use Rattle.cpn_file.proofs.Lists.{with_front}
 use Rattle.cpn_file.proofs.declarations.declared_of_each.Given as goal
 

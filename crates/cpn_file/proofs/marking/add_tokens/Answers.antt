@@ -1,6 +1,4 @@
 -- The tokens of one value stand one beside another.
-use Rattle.std.proofs.Common.{◌≡◌, ◌∙◌, ◌<◌, length, arith, rules}
-use Rattle.std.proofs.lemmas.List.{length-set}
 use Rattle.cpn_definitions.specs.Value.{int}
 use Rattle.cpn_definitions.specs.Marking.{token_at}
 use Rattle.cpn_file.proofs.Marked.{none_added, one_added}

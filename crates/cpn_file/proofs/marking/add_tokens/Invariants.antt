@@ -1,5 +1,5 @@
 -- So many tokens were added.
-use Rattle.std.proofs.Common.{◌≡◌, length, replicate, set}
+use Rattle.std.proofs.Common.{◌≡◌, replicate, set}
 use Rattle.cpn_definitions.specs.Value.{int}
 use Rattle.cpn_definitions.specs.Marking.{token_at}
 use Rattle.cpn_file.proofs.marking.add_tokens.Given as goal

@@ -1,6 +1,5 @@
 -- The next place gets the tokens of its initial marking, or none.
-use Rattle.std.proofs.Common.{◌≡◌, ◌∙◌, sym, arith, set, Some}
-use Rattle.cpn_file.specs.Loading.{initial_tokens}
+use Rattle.std.proofs.Common.{◌≡◌, arith}
 use Rattle.cpn_file.proofs.Marked.{marked_more, marked_less}
 use Rattle.cpn_file.proofs.marking.marked.Goals as goal
 use Rattle.cpn_file.proofs.marking.marked.Goals.{in-Some+in-Ok+in_ok-add_tokens-in-Ok, in_default}

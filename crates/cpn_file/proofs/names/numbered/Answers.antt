@@ -1,6 +1,5 @@
 -- A name that was not added stands before; one that was added is none of those before it.
-use Rattle.std.proofs.Common.{◌≡◌, ◌<◌, ◌∙◌, length, arith, take, []}
-use Rattle.cpn_file.specs.Names.{texts_of}
+use Rattle.std.proofs.Common.{◌≡◌, arith, take, []}
 use Rattle.std.proofs.lemmas.List.{take_all}
 use Rattle.cpn_file.proofs.NameLists.{refused, stays_apart, keeps_more, apart_whole}
 use Rattle.cpn_file.proofs.names.numbered.Goals as goal

@@ -1,12 +1,10 @@
 -- Each item is read as the next one of the list, or refused with it.
 use Rattle.std.proofs.Common.{◌∙◌, [], ◌∷◌, arith}
 use Rattle.std.proofs.lemmas.Result.{err_from_is_err_and}
-use Rattle.std.specs.Prelude.{string_bytes}
 use Rattle.std.proofs.lemmas.List.{map-append}
 use Rattle.serde_json.specs.View.{view, items_view}
 use Rattle.cpn_file.specs.Parts.{each_in}
 use Rattle.cpn_file.specs.Document.{place_in}
-use Rattle.cpn_file.specs.Names.{strings_of}
 use Rattle.cpn_file.specs.Views.{place_view, places_view}
 use Rattle.cpn_file.proofs.Lists.{each_more, each_fails, each_done, fails_through}
 use Rattle.cpn_file.proofs.places.places_of.Goals as goal

@@ -3,7 +3,6 @@ use Rattle.std.proofs.Common.{◌≡◌, drop}
 use Rattle.serde_json.specs.View.{items_view}
 use Rattle.cpn_file.specs.Parts.{each_in}
 use Rattle.cpn_file.specs.Document.{place_in}
-use Rattle.cpn_file.specs.Names.{strings_of}
 use Rattle.cpn_file.specs.Views.{places_view}
 use Rattle.cpn_file.proofs.Lists.{with_front}
 use Rattle.cpn_file.proofs.places.places_of.Given as goal

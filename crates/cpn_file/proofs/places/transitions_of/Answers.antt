@@ -7,7 +7,6 @@ use Rattle.serde_json.specs.View.{view, items_view}
 use Rattle.cpn_file.specs.Parts.{each_in}
 use Rattle.cpn_file.specs.Document.{transition_in}
 use Rattle.cpn_file.specs.Names.{strings_of}
-use Rattle.cpn_file.specs.Views.{place_view, places_view}
 use Rattle.cpn_file.proofs.Lists.{each_more, each_fails, each_done, fails_through}
 use Rattle.cpn_file.proofs.places.transitions_of.Goals as goal
 

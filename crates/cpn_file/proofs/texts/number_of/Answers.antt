@@ -1,8 +1,8 @@
 -- A text of 1 to 18 digits is what `parse` reads, and below 10 ^ 18.
-use Rattle.std.proofs.Common.{◌≡◌, ◌<◌, ◌≤◌, true, length, arith, rules}
+use Rattle.std.proofs.Common.{◌≡◌, ◌<◌, true, length, rules}
 use Rattle.std.specs.List.{list_all}
 use Rattle.std.specs.Str.Parse.{digits_value}
-use Rattle.cpn_file.specs.Texts.{is_digit, number_in}
+use Rattle.cpn_file.specs.Texts.{is_digit}
 use Rattle.cpn_file.proofs.Digits.{digits_small, parsed}
 use Rattle.cpn_file.proofs.texts.number_of.Goals as goal
 

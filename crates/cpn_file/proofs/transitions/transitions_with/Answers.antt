@@ -1,8 +1,8 @@
 -- Each name is made the next transition, with its own of the arcs.
-use Rattle.std.proofs.Common.{◌≡◌, ◌∙◌, [], ◌∷◌, map, length, List, sym, ap, arith}
+use Rattle.std.proofs.Common.{◌≡◌, ◌∙◌, [], ◌∷◌, map, sym, ap, arith}
 use Rattle.std.proofs.lemmas.Result.{err_from_is_err_and}
 use Rattle.std.proofs.lemmas.List.{map-append}
-use Rattle.std.specs.Prelude.{Some, None, string_bytes}
+use Rattle.std.specs.Prelude.{Some, string_bytes}
 use Rattle.cpn_core.specs.Nets.{transition_view}
 use Rattle.cpn_file.specs.Loading.{flattened, arcs_of, transition_with, transitions_from}
 use Rattle.cpn_file.specs.Names.{strings_of}
