@@ -1,8 +1,9 @@
 -- Why there is no report, and the line that says so. Source: own choice.
-use Rattle.std.specs.Prelude.{◌≡◌, ℕ, ◌<◌, List, [], length, codes, Option, None, IfSome}
+use Rattle.std.specs.Prelude.{◌≡◌, ℕ, ◌<◌, ◌≤◌, ◌⊎◌, List, [], length, codes, Option, None, IfSome}
 use Rattle.cpn_file.specs.Reads.{IsNotJson, IsNotYet}
 use Rattle.cpn_io.specs.Outside.{Rose}
 use Rattle.cpn_sim.specs.Options.{options_from}
+use Rattle.cpn_sim.specs.Reported.{IsReport}
 use Rattle.cpn_sim.specs.declared.refusals.Refusal.{Refusal}
 use Rattle.cpn_sim.specs.declared.refusals.Refusal.TheVariants as refusals
 use Rattle.cpn_sim.specs.declared.statuses.Status.{Status}
@@ -14,8 +15,8 @@ abbrev pub HasCause : Refusal → List (List ℕ) → Option (List ℕ) → ℕ 
 HasCause refusals.Words words left before now = options_from words ≡ None
 HasCause refusals.Read words left before now = Rose before now
 HasCause refusals.Long words left before now = IfSome left (λ bytes. 16777216 < length bytes)
-HasCause refusals.NotJson words left before now = IfSome left IsNotJson
-HasCause refusals.NotYet words left before now = IfSome left IsNotYet
+HasCause refusals.NotJson words left before now = IfSome left (λ bytes. (length bytes ≤ 16777216) × IsNotJson bytes)
+HasCause refusals.NotYet words left before now = IfSome left (λ bytes. (length bytes ≤ 16777216) × IsNotYet bytes)
 HasCause refusals.Memory words left before now = Unit {0}
 
 -- the causes that lie in the document
@@ -44,3 +45,13 @@ status_of refusals.Long = statuses.TooLong
 status_of refusals.NotJson = statuses.BadDocument
 status_of refusals.NotYet = statuses.BadDocument
 status_of refusals.Memory = statuses.Memory
+
+-- The text that is to be written: the report of a run of the document, or the line of a refusal that has its
+-- cause.
+abbrev pub IsToBeWritten : List (List ℕ) → Option (List ℕ) → ℕ → ℕ → List ℕ → Type 0
+IsToBeWritten words left before now text =
+    IfSome left (λ bytes. IsReport bytes words text) ⊎ ((refusal : Refusal) × HasCause refusal words left before now × (text ≡ error_line refusal))
+
+-- The status is the wanted one, but for want of memory and for faults of the source and of the sink.
+abbrev pub IsOrExcused : Status → Status → Type 0 → Type 0 → Type 0
+IsOrExcused status wanted read write = (status ≡ wanted) ⊎ ((status ≡ statuses.Memory) ⊎ (read ⊎ write))

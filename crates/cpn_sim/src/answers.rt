@@ -1,6 +1,6 @@
 //! From the words and the source to the report, or to the reason why there is none.
 
-ghost use Rattle.std.specs.Prelude.{◌≡◌, ◌≤◌, true, [], Some, map, string_bytes, IfOk, IfErr, OnOk, IfSome};
+ghost use Rattle.std.specs.Prelude.{◌≡◌, ◌≤◌, [], length, Some, None, Err, map, string_bytes, IfOk, IfErr, OnOk, IfSome};
 ghost use Rattle.cpn_definitions.specs.Run.{IsRun, IsLegalRun, HasOutlook};
 ghost use Rattle.cpn_core.specs.Finished.{setup_of, outcome_of, outlook_view};
 ghost use Rattle.cpn_file.specs.Loads.{loaded_view};
@@ -26,6 +26,8 @@ use std::sync::Arc;
 pub fn answer<S: Source>(alloc: Global, words: &[String], source: &mut S) -> Result<String, Refusal>
     ensures report { IfOk result (λ text. IfSome (S.left source.old) (λ bytes. IsReport bytes (map string_bytes words.now) (string_bytes text))) }
     ensures end { OnOk result (IfSome (S.left source.old) (λ _. S.left source.new ≡ Some [])) }
+    ensures short { OnOk result (IfSome (S.left source.old) (λ bytes. length bytes ≤ 16777216)) }
+    ensures words { options_from (map string_bytes words.now) ≡ None → result ≡ Err Refusal.Words }
     ensures cause { IfErr result (λ refusal. HasCause refusal (map string_bytes words.now) (S.left source.old) (S.faults source.old) (S.faults source.new)) }
 {
     let Some(options) = options_from(words) else {

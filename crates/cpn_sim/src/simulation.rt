@@ -7,7 +7,7 @@ ghost use Rattle.cpn_file.specs.Reads.{Reads, IsNotJson, IsNotYet};
 ghost use Rattle.cpn_io.specs.Outside.{Rose, AppendsProperPrefix};
 ghost use Rattle.cpn_sim.specs.Options.{PlainOptions, options_from};
 ghost use Rattle.cpn_sim.specs.Reported.{IsReport};
-ghost use Rattle.cpn_sim.specs.Causes.{error_line, status_of};
+ghost use Rattle.cpn_sim.specs.Causes.{error_line, status_of, IsToBeWritten, IsOrExcused};
 
 use crate::answers::answer;
 use crate::refusals::{Refusal, line_of, status_of};
@@ -42,7 +42,22 @@ pub fn simulate<S: Source, K: Sink>(
     ensures read_line { result ≡ Status.ReadFault → Appends (K.held sink.old) (K.held sink.new) (error_line Refusal.Read) }
     ensures long_line { result ≡ Status.TooLong → Appends (K.held sink.old) (K.held sink.new) (error_line Refusal.Long) }
     ensures memory { result ≡ Status.Memory → K.held sink.new ≡ K.held sink.old }
-    ensures write_part { result ≡ Status.WriteFault → (text : List ℕ) × AppendsProperPrefix (K.held sink.old) (K.held sink.new) text }
+    ensures write_part { result ≡ Status.WriteFault → (text : List ℕ)
+        × IsToBeWritten (map string_bytes words.now) (S.left source.old) (S.faults source.old) (S.faults source.new) text
+        × AppendsProperPrefix (K.held sink.old) (K.held sink.new) text }
+
+    // Where there is a cause, its status comes, but for faults of source and sink and want of memory.
+    ensures bad_words { options_from (map string_bytes words.now) ≡ None
+        → (result ≡ Status.BadWords) ⊎ Rose (K.faults sink.old) (K.faults sink.new) }
+    ensures too_long { (options : PlainOptions) → options_from (map string_bytes words.now) ≡ Some options
+        → (bytes : List ℕ) → S.left source.old ≡ Some bytes → 16777216 < length bytes
+        → (result ≡ Status.TooLong) ⊎ ((result ≡ Status.Memory)
+        ⊎ (Rose (S.faults source.old) (S.faults source.new) ⊎ Rose (K.faults sink.old) (K.faults sink.new))) }
+    ensures bad_document { (options : PlainOptions) → options_from (map string_bytes words.now) ≡ Some options
+        → (bytes : List ℕ) → S.left source.old ≡ Some bytes → length bytes ≤ 16777216
+        → (IsNotJson bytes ⊎ IsNotYet bytes)
+        → (result ≡ Status.BadDocument) ⊎ ((result ≡ Status.Memory)
+        ⊎ (Rose (S.faults source.old) (S.faults source.new) ⊎ Rose (K.faults sink.old) (K.faults sink.new))) }
 
     // Good input is never refused.
     ensures complete { (options : PlainOptions) → options_from (map string_bytes words.now) ≡ Some options

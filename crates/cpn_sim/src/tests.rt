@@ -20,6 +20,13 @@ const TWO_TRANSITIONS: &str =
 const TWO_BINDINGS: &str =
     r#"{"version":1,"declarations":["colset INT = int;","var x : INT;"],"top":"Top","modules":[{"name":"Top","places":[{"name":"A","colour":"INT","initial":"1`5"},{"name":"S","colour":"INT","initial":"1`8"},{"name":"G","colour":"INT"}],"transitions":[{"name":"t"},{"name":"p"}],"arcs":[{"place":"A","transition":"t","to":"transition","expr":"x"},{"place":"G","transition":"t","to":"transition","expr":"0"},{"place":"S","transition":"p","to":"transition","expr":"x"},{"place":"A","transition":"p","to":"place","expr":"x"},{"place":"G","transition":"p","to":"place","expr":"0"}]}]}"#;
 
+// The name A as an escape; a version twice, of which the last counts.
+const ESCAPED: &str =
+    r#"{"version":1,"declarations":["colset INT = int;","var x : INT;"],"top":"Top","modules":[{"name":"Top","places":[{"name":"\u0041","colour":"INT","initial":"1`7"}],"transitions":[],"arcs":[]}]}"#;
+
+const REPEATED: &str =
+    r#"{"version":2,"version":1,"declarations":["colset INT = int;","var x : INT;"],"top":"Top","modules":[{"name":"Top","places":[{"name":"A","colour":"INT","initial":"1`7"}],"transitions":[],"arcs":[]}]}"#;
+
 const GUARDED: &str =
     r#"{"version":1,"declarations":["colset INT = int;","var x : INT;"],"top":"Top","modules":[{"name":"Top","places":[{"name":"A","colour":"INT","initial":"1`0 ++ 1`3"}],"transitions":[{"name":"t","guard":"10 div x > 1"}],"arcs":[{"place":"A","transition":"t","to":"transition","expr":"x"}]}]}"#;
 
@@ -195,12 +202,18 @@ fn documents_are_refused(rt: HostRuntime) -> Result<(), Fail> {
     assert!(rt; THREE_TOKENS.len() == 340);
     let not_json = "error document 1 not_json\n";
     let not_yet = "error document 7 not_yet\n";
-    let cases: [(&[u8], &str); 6] = [
+    let cases: [(&[u8], &str); 12] = [
         (b"", not_json),
         (b"{", not_json),
         (half, not_json),
         (all_but_one, not_json),
+        (b"\xef\xbb\xbf{}", not_json),
+        (b"{\"\xff\":1}", not_json),
+        (b"{}\0", not_json),
+        (b"{\"version\":1e400}", not_json),
         (b"[]", not_yet),
+        (b"{\"version\":1.0}", not_yet),
+        (b"{\"version\":-0}", not_yet),
         (GUARDED.as_bytes(), not_yet),
     ];
     for (document, line) in cases {
@@ -209,6 +222,55 @@ fn documents_are_refused(rt: HostRuntime) -> Result<(), Fail> {
         let (status, written) = outcome(rt.alloc(), &call)?;
         assert!(rt; status == Status::BadDocument, "of {document:?}");
         assert!(rt; written.as_slice() == line.as_bytes(), "of {document:?}");
+    }
+    Ok(())
+}
+
+// Brackets to this depth, closed or not.
+fn nested(alloc: Global, depth: usize, closed: bool) -> Result<Vec<u8>, Fail> {
+    let mut bytes = Vec::new(alloc);
+    for _ in 0..depth {
+        bytes.push(b'[')?;
+    }
+    if closed {
+        for _ in 0..depth {
+            bytes.push(b']')?;
+        }
+    }
+    Ok(bytes)
+}
+
+#[test]
+fn brackets_are_refused(rt: HostRuntime) -> Result<(), Fail> {
+    let words = ["--seed", "0", "--steps", "10"];
+    let not_json = "error document 1 not_json\n";
+    let not_yet = "error document 7 not_yet\n";
+    for (depth, closed, line) in [
+        (127, true, not_yet),
+        (128, true, not_json),
+        (200, true, not_json),
+        (1000, false, not_json),
+    ] {
+        let bytes = nested(rt.alloc(), depth, closed)?;
+        let mut call = Call::new(&words, "");
+        call.document = bytes.as_slice();
+        let (status, written) = outcome(rt.alloc(), &call)?;
+        assert!(rt; status == Status::BadDocument, "of {depth}");
+        assert!(rt; written.as_slice() == line.as_bytes(), "of {depth}");
+    }
+    Ok(())
+}
+
+#[test]
+fn escapes_and_repeated_keys_are_read(rt: HostRuntime) -> Result<(), Fail> {
+    let words = ["--seed", "0", "--steps", "1000"];
+    for document in [ESCAPED, REPEATED] {
+        let (status, written) = outcome(rt.alloc(), &Call::new(&words, document))?;
+        assert!(rt; status == Status::Done, "of {document}");
+        assert!(rt;
+            written.as_slice() == NO_TRANSITION_REPORT.as_bytes(),
+            "of {document}"
+        );
     }
     Ok(())
 }
