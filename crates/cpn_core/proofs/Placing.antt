@@ -15,16 +15,16 @@ use Rattle.cpn_core.specs.Tokens.{token_view, tokens_view}
 -- ---- one token, and a row of them
 
 -- the token at an index, seen as a plain token
-entry : (ks : List Token) (m : ℕ) (k : Token) → m < length ks → k ≡ get_or ks m k → token_view k ≡ get_or (tokens_view ks) m (token_view k)
+pub entry : (ks : List Token) (m : ℕ) (k : Token) → m < length ks → k ≡ get_or ks m k → token_view k ≡ get_or (tokens_view ks) m (token_view k)
 entry ks m k lt e = ap token_view e ∙ sym (get_or-map token_view ks m k (token_view k) lt)
 
 as_many : (ks : List Token) → length ks ≡ length (tokens_view ks)
 as_many ks = sym (length-map ks token_view)
 
-within : (ks : List Token) (m : ℕ) → m < length ks → m < length (tokens_view ks)
+pub within : (ks : List Token) (m : ℕ) → m < length ks → m < length (tokens_view ks)
 within ks m lt = subst (λ n. m < n) (as_many ks) lt
 
-up_to : (ks : List Token) (m : ℕ) → m ≤ length ks → m ≤ length (tokens_view ks)
+pub up_to : (ks : List Token) (m : ℕ) → m ≤ length ks → m ≤ length (tokens_view ks)
 up_to ks m le = subst (λ n. m ≤ n) (as_many ks) le
 
 view_insert : (ks : List Token) (i : ℕ) (k : Token) → tokens_view (insert ks i k) ≡ insert (tokens_view ks) i (token_view k)
