@@ -1,11 +1,13 @@
 -- Tokens of a place that are found by comparing, added, taken and counted, seen as plain tokens.
-use Rattle.std.proofs.Common.{◌≡◌, ℕ, suc, ◌+◌, ◌-◌, ◌<◌, ◌≤◌, true, false, List, ◌∷◌, ◌++◌, length, get_or, take, drop, insert, remove, count_by, sym, ap, ap₂, subst, ◌∙◌, arith}
+use Rattle.std.proofs.Common.{◌≡◌, ℕ, zero, suc, ◌+◌, ◌-◌, ◌<◌, ◌≤◌, Bool, true, false, List, [], ◌∷◌, ◌++◌, length, get_or, take, drop, insert, remove, count_by, sym, ap, ap₂, subst, ◌∙◌, arith, is_gt}
 use Rattle.std.specs.List.{AllWithin}
+use Rattle.std.specs.List.Sorted.{IsPartitionPoint, IsPartitionedBy}
 use Rattle.std.proofs.lemmas.List.{map-append, length-map, take-map, drop-map, get_or-map}
 use Rattle.cpn_definitions.specs.Value.{PlainValue}
-use Rattle.cpn_definitions.specs.Order.{same_value}
-use Rattle.cpn_definitions.specs.Marking.{PlainToken, token_at, add_token, without_token, is_taken_by, AreSorted, Precedes, DoesNotPrecede, IsPlaceOf}
-use Rattle.cpn_definitions.proofs.Searching.{precedes_none_until, precedes_from, added_at, taken_here, other_here, none_here, counted_at_place, counted_one, counted_none}
+use Rattle.cpn_definitions.specs.Order.{value_cmp, same_value}
+use Rattle.cpn_definitions.specs.Marking.{PlainToken, token_at, token_cmp, add_token, without_token, is_taken_by, AreSorted, Precedes, DoesNotPrecede, IsPlaceOf}
+use Rattle.cpn_definitions.proofs.Comparing.{value_not_above}
+use Rattle.cpn_definitions.proofs.Searching.{IsStartOf, sorted_places, precedes_none_until, precedes_from, added_at, taken_here, other_here, none_here, start_first, counted_between}
 use Rattle.cpn_core.specs.declared.places.Token.{Token}
 use Rattle.cpn_core.specs.Views.{value_view}
 use Rattle.cpn_core.specs.Tokens.{token_view, tokens_view}
@@ -13,16 +15,16 @@ use Rattle.cpn_core.specs.Tokens.{token_view, tokens_view}
 -- ---- one token, and a row of them
 
 -- the token at an index, seen as a plain token
-entry : (ks : List Token) (m : ℕ) (k : Token) → m < length ks → k ≡ get_or ks m k → token_view k ≡ get_or (tokens_view ks) m (token_view k)
+pub entry : (ks : List Token) (m : ℕ) (k : Token) → m < length ks → k ≡ get_or ks m k → token_view k ≡ get_or (tokens_view ks) m (token_view k)
 entry ks m k lt e = ap token_view e ∙ sym (get_or-map token_view ks m k (token_view k) lt)
 
 as_many : (ks : List Token) → length ks ≡ length (tokens_view ks)
 as_many ks = sym (length-map ks token_view)
 
-within : (ks : List Token) (m : ℕ) → m < length ks → m < length (tokens_view ks)
+pub within : (ks : List Token) (m : ℕ) → m < length ks → m < length (tokens_view ks)
 within ks m lt = subst (λ n. m < n) (as_many ks) lt
 
-up_to : (ks : List Token) (m : ℕ) → m ≤ length ks → m ≤ length (tokens_view ks)
+pub up_to : (ks : List Token) (m : ℕ) → m ≤ length ks → m ≤ length (tokens_view ks)
 up_to ks m le = subst (λ n. m ≤ n) (as_many ks) le
 
 view_insert : (ks : List Token) (i : ℕ) (k : Token) → tokens_view (insert ks i k) ≡ insert (tokens_view ks) i (token_view k)
@@ -38,6 +40,34 @@ none_until t ks m k sorted lt e h = precedes_none_until t (tokens_view ks) m (to
 
 pub each_from : (t : PlainToken) (ks : List Token) (m : ℕ) (k : Token) → AreSorted (tokens_view ks) → m < length ks → k ≡ get_or ks m k → Precedes t (token_view k) → AllWithin (Precedes t) (tokens_view ks) m (length (tokens_view ks))
 each_from t ks m k sorted lt e h = precedes_from t (tokens_view ks) m (token_view k) sorted (within ks m lt) (entry ks m k lt e) h
+
+-- ---- dividing by a test of values
+
+-- a test that passes at each value that is not above one where it passes divides sorted tokens
+pub divides : (p : PlainValue → Bool) (ks : List Token) → ((v w : PlainValue) → is_gt (value_cmp v w) ≡ false → p w ≡ true → p v ≡ true) → AreSorted (tokens_view ks) → IsPartitionedBy (λ k. p (value_view k.value)) ks
+divides p ks down sorted i j d le lt is =
+    let a : Token = get_or ks i d in
+    let b : Token = get_or ks j d in
+    let ordered : is_gt (token_cmp (get_or (tokens_view ks) i (token_view d)) (get_or (tokens_view ks) j (token_view d))) ≡ false = sorted_places (tokens_view ks) i j (token_view d) sorted le (within ks j lt) in
+    let seen : token_cmp (token_view a) (token_view b) ≡ token_cmp (get_or (tokens_view ks) i (token_view d)) (get_or (tokens_view ks) j (token_view d)) =
+    ap₂ token_cmp (sym (get_or-map token_view ks i d (token_view d) (omega arith))) (sym (get_or-map token_view ks j d (token_view d) lt)) in
+    down (value_view a.value) (value_view b.value) (value_not_above (token_view a) (token_view b) (ap is_gt seen ∙ ordered)) is
+
+-- what holds of a token at an index holds of it as a plain token
+seen_at : (P : PlainToken → Type 0) (ks : List Token) (j : ℕ) (d : PlainToken) → j < length ks → ((e : Token) → P (token_view (get_or ks j e))) → P (get_or (tokens_view ks) j d)
+seen_at P [] j d lt h = let no : ⊥ = omega arith in absurd no
+seen_at P (k ∷ ks) zero d lt h = h k
+seen_at P (k ∷ ks) (suc j) d lt h = seen_at P ks j d (omega arith) h
+
+-- the place where tokens are divided, seen as plain tokens
+pub divided_at
+    : (p : PlainValue → Bool) (ks : List Token) (i : ℕ) → i ≤ length ks
+    → IsPartitionPoint (λ k. p (value_view k.value) ≡ true) (λ k. p (value_view k.value) ≡ false) ks i
+    → IsPartitionPoint (λ k. p k.value ≡ true) (λ k. p k.value ≡ false) (tokens_view ks) i
+divided_at p ks i le at = (
+  λ j d low lt. seen_at (λ k. p k.value ≡ true) ks j d (omega arith) (λ e. at.0 j e low lt),
+  λ j d low lt. let short : j < length ks = subst (λ n. j < n) (sym (as_many ks)) lt in seen_at (λ k. p k.value ≡ false) ks j d short (λ e. at.1 j e low short),
+)
 
 -- ---- adding
 
@@ -69,28 +99,8 @@ module _ (v : PlainValue) (t : ℕ) (ks : List Token) where
 
   -- ---- counting
 
-  pub counted_before : (place : ℕ) → place ≤ length ks → IsPlaceOf (token_at v t) (tokens_view ks) place → count_by (is_taken_by v t) (take place (tokens_view ks)) ≡ count_by (is_taken_by v t) (tokens_view ks)
-  counted_before place le found = counted_at_place v t (tokens_view ks) place (up_to ks place le) found
+  pub starts_ahead : (first place : ℕ) → first ≤ length ks → IsStartOf v (tokens_view ks) first → IsPlaceOf (token_at v t) (tokens_view ks) place → first ≤ place
+  starts_ahead first place short start found = start_first v t (tokens_view ks) first place (up_to ks first short) start found
 
-  at_most : (place i : ℕ) (k : Token) → i < place → place ≤ length ks → IsPlaceOf (token_at v t) (tokens_view ks) place → k ≡ get_or ks i k → DoesNotPrecede (token_at v t) (token_view k)
-  at_most place i k lt le found e =
-      let short : i < length ks = omega arith in
-      subst (DoesNotPrecede (token_at v t)) (sym (entry ks i k short e)) (found.0 i (token_view k) (omega arith) lt)
-
-  pub counted_back
-      : (place first : ℕ) (k : Token) → 0 < first → first ≤ place → place ≤ length ks → IsPlaceOf (token_at v t) (tokens_view ks) place → k ≡ get_or ks (first - 1) k → same_value v (value_view k.value) ≡ true
-      → count_by (is_taken_by v t) (take first (tokens_view ks)) ≡ count_by (is_taken_by v t) (take (first - 1) (tokens_view ks)) + 1
-  counted_back place first k some le short found e same =
-      let lt : first - 1 < length ks = omega arith in
-      let is : first - 1 + 1 ≡ first = omega arith in
-      subst (λ n. count_by (is_taken_by v t) (take n (tokens_view ks)) ≡ count_by (is_taken_by v t) (take (first - 1) (tokens_view ks)) + 1) is
-      (counted_one v t (tokens_view ks) (first - 1) (token_view k) (within ks (first - 1) lt) (entry ks (first - 1) k lt e) (at_most place (first - 1) k (omega arith) short found e) same)
-
-  pub counted_out
-      : (place first : ℕ) (k : Token) → AreSorted (tokens_view ks) → 0 < first → first ≤ place → place ≤ length ks → IsPlaceOf (token_at v t) (tokens_view ks) place → k ≡ get_or ks (first - 1) k → same_value v (value_view k.value) ≡ false
-      → count_by (is_taken_by v t) (take first (tokens_view ks)) ≡ 0
-  counted_out place first k sorted some le short found e other =
-      let lt : first - 1 < length ks = omega arith in
-      let is : first - 1 + 1 ≡ first = omega arith in
-      subst (λ n. count_by (is_taken_by v t) (take n (tokens_view ks)) ≡ 0) is
-      (counted_none v t (tokens_view ks) (first - 1) (token_view k) sorted (within ks (first - 1) lt) (entry ks (first - 1) k lt e) (at_most place (first - 1) k (omega arith) short found e) other)
+  pub counted : (first place : ℕ) → first ≤ length ks → place ≤ length ks → IsStartOf v (tokens_view ks) first → IsPlaceOf (token_at v t) (tokens_view ks) place → place - first ≡ count_by (is_taken_by v t) (tokens_view ks)
+  counted first place short within start found = counted_between v t (tokens_view ks) first place (up_to ks first short) start found (up_to ks place within)

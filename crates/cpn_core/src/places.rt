@@ -2,8 +2,9 @@
 ghost use Rattle.std.specs.Prelude.{◌≡◌, ◌+◌, ◌<◌, ◌≤◌, List, [], length, count_by, map, MatchOption, IfOk, OnOk, OnErr};
 ghost use Rattle.std.specs.List.{remove};
 ghost use Rattle.std.specs.Ordering.{is_lt};
-ghost use Rattle.cpn_definitions.specs.Order.{same_value};
+ghost use Rattle.cpn_definitions.specs.Order.{same_value, before};
 ghost use Rattle.cpn_definitions.specs.Marking.{token_at, token_cmp, add_token, without_token, is_taken_by, AreSorted, IsPlaceOf};
+ghost use Rattle.cpn_definitions.proofs.Searching.{IsStartOf};
 ghost use Rattle.cpn_core.specs.Views.{value_view};
 ghost use Rattle.cpn_core.specs.Tokens.{token_view, tokens_view};
 
@@ -149,20 +150,29 @@ fn place_to_take(tokens: &[Token], value: &Value, latest: u64) -> Option<usize>
     }
 }
 
-// How many tokens of the value have a stamp that is not above `latest`: those just ahead of its place.
+// Whether the token's value comes before the value.
+fn is_below(token: &Token, value: &Value) -> bool
+    ensures { result ≡ before (value_view token.now.value) (value_view value.now) }
+{
+    token.value < *value
+}
+
+// Where the tokens of the value begin among sorted tokens, after those of each value before it.
+fn start_of_value(tokens: &[Token], value: &Value) -> usize
+    requires sorted { AreSorted (tokens_view tokens.now) }
+    ensures within { result ≤ length tokens.now }
+    ensures start { IsStartOf (value_view value.now) (tokens_view tokens.now) result }
+{
+    tokens.partition_point(|token| is_below(token, value))
+}
+
+// How many tokens of the value have a stamp that is not above `latest`: those from its first token to its place.
 fn count_to_take(tokens: &[Token], value: &Value, latest: u64) -> usize
     requires sorted { AreSorted (tokens_view tokens.now) }
     ensures number { result ≡ count_by (is_taken_by (value_view value.now) latest) (tokens_view tokens.now) }
 {
+    let first = start_of_value(tokens, value);
     let place = place_for(tokens, value, latest);
-    let mut first = place;
-    while first > 0 {
-        let before = first - 1;
-        if !has_value(&tokens[before], value) {
-            return place - first;
-        }
-        first = before;
-    }
     place - first
 }
 

@@ -14,7 +14,7 @@ use Rattle.cpn_definitions.specs.Net.{PlainArc, PlainNet, variable_at}
 use Rattle.cpn_definitions.specs.Meaning.{PlainBinding}
 use Rattle.cpn_definitions.specs.Occurrence.{tokens_at}
 use Rattle.cpn_definitions.specs.Sound.{is_bound_by}
-use Rattle.cpn_definitions.proofs.Comparing.{value_cmp_total, value_same, value_itself, same_value_true, then_then, then_equal}
+use Rattle.cpn_definitions.proofs.Comparing.{value_cmp_total, value_same, value_itself, same_value_true, value_not_above, then_then, then_equal}
 use Rattle.cpn_definitions.proofs.Rising.{IsIn, Rises, in_map, in_flat_map, each_in, each_mapped, each_implied, each_flat, rises_mapped, rises_flat}
 
 -- ---- what is tried
@@ -67,14 +67,6 @@ NoneBelow v ks = AllByRecursion (λ (k : PlainToken). is_gt (value_cmp v k.value
 
 not_above_itself : (v : PlainValue) → is_gt (value_cmp v v) ≡ false
 not_above_itself v = ap is_gt (value_itself v)
-
-value_not_above : (k l : PlainToken) → is_gt (token_cmp k l) ≡ false → is_gt (value_cmp k.value l.value) ≡ false
-value_not_above k l h = split (value_cmp k.value l.value) _ h
-  where
-    split : (o p : Ordering) → is_gt (ordering_then o p) ≡ false → is_gt o ≡ false
-    split Less p g = refl
-    split Equal p g = refl
-    split Greater p g = g
 
 none_below : (k : PlainToken) (ks : Tokens) → MayPrecede k ks → AreSorted ks → NoneBelow k.value ks
 none_below k [] before sorted = tt

@@ -1,6 +1,6 @@
 -- The order of values is a total order, and two values are equal in it exactly where they are the same.
 -- A value has a code, a row of integers, whose order xs rows is the order of values.
-use Rattle.std.proofs.Common.{◌≡◌, ℕ, ℤ, pos, Bool, true, false, List, [], ◌∷◌, refl, sym, ap, ap₂, ◌∙◌, arith, Ordering, Less, Equal, Greater, nat_cmp, int_cmp, is_eq}
+use Rattle.std.proofs.Common.{◌≡◌, ℕ, ℤ, pos, Bool, true, false, List, [], ◌∷◌, refl, sym, ap, ap₂, ◌∙◌, arith, Ordering, Less, Equal, Greater, nat_cmp, int_cmp, is_eq, is_gt}
 use Rattle.std.specs.Ordering.{ordering_then, ordering_reverse, bool_cmp, on}
 use Rattle.std.specs.Cmp.{IsTotalOrder}
 use Rattle.std.specs.Cmp.Lexicographic.{slice_cmp}
@@ -169,3 +169,12 @@ token_cmp_total = then_total (on_total (λ (t : PlainToken). t.value) value_cmp_
 pub token_same : (t u : PlainToken) → token_cmp t u ≡ Equal → t ≡ u
 token_same t u h =
     ap₂ (λ v s. record { value = v; stamp = s }) (value_same t.value u.value (then_first _ _ h)) (nat_same t.stamp u.stamp (then_second (value_cmp t.value u.value) _ h))
+
+-- where a token is not above another, its value is not above the other's
+pub value_not_above : (k l : PlainToken) → is_gt (token_cmp k l) ≡ false → is_gt (value_cmp k.value l.value) ≡ false
+value_not_above k l h = split (value_cmp k.value l.value) _ h
+  where
+    split : (o p : Ordering) → is_gt (ordering_then o p) ≡ false → is_gt o ≡ false
+    split Less p g = refl
+    split Equal p g = refl
+    split Greater p g = g

@@ -8,6 +8,7 @@ pub mod Searching
 pub mod Rows
 pub mod Rising
 pub mod Assignments
+pub mod Stretches
 pub mod SearchLaws
 pub mod AllTransitions
 pub mod Listing

@@ -1,8 +1,9 @@
 -- Where a token stands among sorted tokens, found by comparing it with some of them, and what is added, taken
 -- and counted there.
-use Rattle.std.proofs.Common.{◌≡◌, ℕ, zero, suc, ◌+◌, ◌<◌, ◌≤◌, Bool, true, false, cond, ◌&&◌, nat_le, [], ◌∷◌, length, get_or, take, insert, remove, count_by, refl, sym, ap, subst, ◌∙◌, arith, true≢false, Ordering, Less, Equal, Greater, nat_cmp, is_eq, is_lt, is_gt, leb-true}
+use Rattle.std.proofs.Common.{◌≡◌, ℕ, zero, suc, ◌+◌, ◌-◌, ◌<◌, ◌≤◌, Bool, true, false, cond, ◌&&◌, nat_le, [], ◌∷◌, length, get_or, take, insert, remove, count_by, refl, sym, ap, subst, ◌∙◌, arith, true≢false, Ordering, Less, Equal, Greater, nat_cmp, is_eq, is_lt, is_gt, leb-true}
 use Rattle.std.specs.Ordering.{ordering_then, ordering_reverse}
 use Rattle.std.specs.List.{list_any, AllWithin}
+use Rattle.std.specs.List.Sorted.{IsPartitionPoint}
 use Rattle.std.proofs.lemmas.Bool.{cond-true, cond-false, or_parts, and_from}
 use Rattle.std.proofs.lemmas.Bool.Decides.{nat_tests}
 use Rattle.std.proofs.lemmas.Cmp.{upto, tied_itself}
@@ -10,9 +11,9 @@ use Rattle.std.proofs.lemmas.List.{get_or_default}
 use Rattle.std.proofs.lemmas.List.Folds.{list_any_none, list_any_at}
 use Rattle.std.proofs.lemmas.List.Sums.{sum_by-cons, count_by_more_yes, count_by_more_no}
 use Rattle.cpn_definitions.specs.Value.{PlainValue}
-use Rattle.cpn_definitions.specs.Order.{value_cmp, same_value}
+use Rattle.cpn_definitions.specs.Order.{value_cmp, same_value, before}
 use Rattle.cpn_definitions.specs.Marking.{PlainToken, Tokens, token_at, token_cmp, add_token, without_token, is_taken_by, AreSorted, Precedes, DoesNotPrecede, IsPlaceOf}
-use Rattle.cpn_definitions.proofs.Comparing.{token_cmp_total, value_itself, same_value_true}
+use Rattle.cpn_definitions.proofs.Comparing.{value_cmp_total, token_cmp_total, value_itself, same_value_true}
 
 -- ---- sorted tokens, by their places
 
@@ -167,7 +168,7 @@ other_here v t ks i k sorted lt found e other = none_taken v t ks (list_any_none
         by_place true le = subst (λ u. is_taken_by v t u ≡ false) (get_or_default ks j k d g) (other_until v t ks i k sorted lt e below other j (leb-true j i le))
         by_place false gt = later_not_taken v t (get_or ks j d) (found.1 j d (grind (arith, nat_tests)) g)
 
--- ---- counting back from the place found
+-- ---- counting up to the place found
 
 count_cons : (p : PlainToken → Bool) (x : PlainToken) (xs : Tokens) → count_by p (x ∷ xs) ≡ cond (p x) 1 0 + count_by p xs
 count_cons p x xs = sum_by-cons (λ y. cond (p y) 1 0) x xs
@@ -190,17 +191,81 @@ count_front p (x ∷ xs) (suc i) le h =
 pub counted_at_place : (v : PlainValue) (t : ℕ) (ks : Tokens) (i : ℕ) → i ≤ length ks → IsPlaceOf (token_at v t) ks i → count_by (is_taken_by v t) (take i ks) ≡ count_by (is_taken_by v t) ks
 counted_at_place v t ks i le found = count_front (is_taken_by v t) ks i le (λ j d g lt. later_not_taken v t (get_or ks j d) (found.1 j d g lt))
 
--- one more of the value, going back
-pub counted_one : (v : PlainValue) (t : ℕ) (ks : Tokens) (i : ℕ) (k : PlainToken) → i < length ks → k ≡ get_or ks i k → DoesNotPrecede (token_at v t) k → same_value v k.value ≡ true → count_by (is_taken_by v t) (take (i + 1) ks) ≡ count_by (is_taken_by v t) (take i ks) + 1
-counted_one v t ks i k lt e h same = count_by_more_yes (is_taken_by v t) ks i k lt (subst (λ u. is_taken_by v t u ≡ true) e (earlier_taken v t k h same))
+-- where the tokens of a value begin among sorted tokens: those ahead of the place have a value before it, and none from
+-- the place on has
+abbrev pub IsStartOf : PlainValue → Tokens → ℕ → Type 0
+IsStartOf v ks = IsPartitionPoint (λ k. before k.value v ≡ true) (λ k. before k.value v ≡ false) ks
 
--- none of the value at another value or before it
-pub counted_none : (v : PlainValue) (t : ℕ) (ks : Tokens) (i : ℕ) (k : PlainToken) → AreSorted ks → i < length ks → k ≡ get_or ks i k → DoesNotPrecede (token_at v t) k → same_value v k.value ≡ false → count_by (is_taken_by v t) (take (i + 1) ks) ≡ 0
-counted_none v t ks i k sorted lt e h other = up_to (i + 1) (omega arith)
+value_turned : (v w : PlainValue) → is_gt (value_cmp v w) ≡ before w v
+value_turned v w = ap is_gt (value_cmp_total.antisymm v w) ∙ turn_lt (value_cmp w v)
+
+-- a value that is not above one before a third is before the third
+pub before_too : (z v w : PlainValue) → is_gt (value_cmp v w) ≡ false → before w z ≡ true → before v z ≡ true
+before_too z v w h is = by_test (before v z) refl
   where
-    up_to : (m : ℕ) → m ≤ i + 1 → count_by (is_taken_by v t) (take m ks) ≡ 0
-    up_to zero le = refl
-    up_to (suc m) le =
-        let next : m + 1 ≡ suc m = omega arith in
-        subst (λ n. count_by (is_taken_by v t) (take n ks) ≡ 0) next
-        (count_by_more_no (is_taken_by v t) ks m k (omega arith) (other_until v t ks i k sorted lt e h other m (omega arith)) ∙ up_to m (omega arith))
+    by_test : (b : Bool) → before v z ≡ b → before v z ≡ true
+    by_test true e = e
+    by_test false e = absurd (true≢false (sym is ∙ sym (value_turned z w) ∙ upto value_cmp_total z v w (value_turned z v ∙ e) h))
+
+-- a token of a value before this one is not taken
+below_not_taken : (v : PlainValue) (t : ℕ) (u : PlainToken) → before u.value v ≡ true → is_taken_by v t u ≡ false
+below_not_taken v t u h = ap (λ b. b && nat_le u.stamp t) (ap is_eq (value_cmp_total.antisymm v u.value) ∙ apart (value_cmp u.value v) h)
+  where
+    apart : (o : Ordering) → is_lt o ≡ true → is_eq (ordering_reverse o) ≡ false
+    apart Less h = refl
+    apart Equal h = cc
+    apart Greater h = cc
+
+-- one that has no value before this one, and is not after the threshold's place, is
+between_taken : (v : PlainValue) (t : ℕ) (u : PlainToken) → before u.value v ≡ false → DoesNotPrecede (token_at v t) u → is_taken_by v t u ≡ true
+between_taken v t u h g = earlier_taken v t u g (tied (value_cmp v u.value) (nat_cmp t u.stamp) (value_turned v u.value ∙ h) g)
+  where
+    tied : (o p : Ordering) → is_gt o ≡ false → is_lt (ordering_then o p) ≡ false → is_eq o ≡ true
+    tied Less p x y = cc
+    tied Equal p x y = refl
+    tied Greater p x y = cc
+
+module _ (v : PlainValue) (t : ℕ) (ks : Tokens) (first place : ℕ) (short : first ≤ length ks) (start : IsStartOf v ks first) (found : IsPlaceOf (token_at v t) ks place) where
+  -- the place found is not ahead of the first token of the value
+  pub start_first : first ≤ place
+  start_first = by_test (nat_le first place) refl
+    where
+      apart : (o p : Ordering) → is_gt o ≡ true → is_lt (ordering_then o p) ≡ true → ⊥
+      apart Less p x y = true≢false (sym x)
+      apart Equal p x y = true≢false (sym x)
+      apart Greater p x y = true≢false (sym y)
+
+      clash : place < first → (u : PlainToken) → u ≡ get_or ks place (token_at v t) → ⊥
+      clash lt u e =
+          let lower : before u.value v ≡ true = subst (λ k. before k.value v ≡ true) (sym e) (start.0 place (token_at v t) (omega arith) lt) in
+          let later : Precedes (token_at v t) u = subst (Precedes (token_at v t)) (sym e) (found.1 place (token_at v t) (omega arith) (omega arith)) in
+          apart (value_cmp v u.value) (nat_cmp t u.stamp) (value_turned v u.value ∙ lower) later
+
+      by_test : (b : Bool) → nat_le first place ≡ b → first ≤ place
+      by_test true e = leb-true first place e
+      by_test false e = absurd (clash (grind (arith, nat_tests)) (get_or ks place (token_at v t)) refl)
+
+  none_ahead : (m : ℕ) → m ≤ first → count_by (is_taken_by v t) (take m ks) ≡ 0
+  none_ahead zero le = refl
+  none_ahead (suc m) le =
+      let next : m + 1 ≡ suc m = omega arith in
+      subst (λ n. count_by (is_taken_by v t) (take n ks) ≡ 0) next
+      (count_by_more_no (is_taken_by v t) ks m (token_at v t) (omega arith) (below_not_taken v t (get_or ks m (token_at v t)) (start.0 m (token_at v t) (omega arith) (omega arith))) ∙ none_ahead m (omega arith))
+
+  each_between : (n : ℕ) → first + n ≤ place → place ≤ length ks → count_by (is_taken_by v t) (take (first + n) ks) ≡ n
+  each_between zero le within =
+      let none : first ≡ first + zero = omega arith in
+      subst (λ m. count_by (is_taken_by v t) (take m ks) ≡ 0) none (none_ahead first (omega arith))
+  each_between (suc n) le within =
+      let next : first + n + 1 ≡ first + suc n = omega arith in
+      let one : n + 1 ≡ suc n = omega arith in
+      let taken : is_taken_by v t (get_or ks (first + n) (token_at v t)) ≡ true =
+      between_taken v t (get_or ks (first + n) (token_at v t)) (start.1 (first + n) (token_at v t) (omega arith) (omega arith)) (found.0 (first + n) (token_at v t) (omega arith) (omega arith)) in
+      subst (λ m. count_by (is_taken_by v t) (take m ks) ≡ suc n) next
+      (count_by_more_yes (is_taken_by v t) ks (first + n) (token_at v t) (omega arith) taken ∙ ap (λ (m : ℕ). m + 1) (each_between n (omega arith) within) ∙ one)
+
+  -- those that may be taken are the tokens from the first of the value to the place found
+  pub counted_between : place ≤ length ks → place - first ≡ count_by (is_taken_by v t) ks
+  counted_between within =
+      let all : first + (place - first) ≡ place = let le = start_first in omega (arith, le) in
+      sym (subst (λ m. count_by (is_taken_by v t) (take m ks) ≡ place - first) all (each_between (place - first) (let le = start_first in omega (arith, le)) within)) ∙ counted_at_place v t ks place within found

@@ -6,3 +6,4 @@ pub mod InOrder
 pub mod Steps
 pub mod Sounds
 pub mod Finding
+pub mod Jumping

@@ -1,16 +1,17 @@
 // The values that a search tries for a variable: those of the tokens on the place of the first input arc
 // that binds it, each once and in order, that its colour set admits and that stand on the place of each
 // other arc that binds it.
-ghost use Rattle.std.specs.Prelude.{◌≡◌, ◌<◌, ◌+◌, nat_lt, true, [], map, length, slice_index_or, drop, IfOk};
+ghost use Rattle.std.specs.Prelude.{◌≡◌, ◌<◌, ◌≤◌, nat_lt, true, [], map, length, slice_index_or, IfOk};
 ghost use Rattle.std.specs.List.{list_all, list_any};
 ghost use Rattle.cpn_definitions.specs.Order.{value_cmp};
 ghost use Rattle.cpn_definitions.specs.Marking.{AreSorted};
 ghost use Rattle.cpn_definitions.specs.Sound.{is_bound_by};
 ghost use Rattle.cpn_definitions.proofs.Rising.{Rises};
-ghost use Rattle.cpn_definitions.proofs.Assignments.{is_last_of, has_value, stands_where_bound as stands_at_each, first_place as first_place_of, is_candidate as is_candidate_value, candidates as candidate_values, values_passing};
+ghost use Rattle.cpn_definitions.proofs.Assignments.{has_value, stands_where_bound as stands_at_each, first_place as first_place_of, is_candidate as is_candidate_value, candidates as candidate_values, values_passing};
+ghost use Rattle.cpn_definitions.proofs.Stretches.{is_at_most, IsEndOf};
 ghost use Rattle.cpn_core.specs.Views.{value_view};
 ghost use Rattle.cpn_core.specs.Nets.{arc_view, net_view};
-ghost use Rattle.cpn_core.specs.Tokens.{token_view, tokens_view};
+ghost use Rattle.cpn_core.specs.Tokens.{tokens_view};
 
 use cpn_core::{Expr, MExpr, Memory, Net, PlaceArc, PlainMarking, Token, Value};
 use std::alloc::Global;
@@ -80,19 +81,24 @@ fn is_candidate(
     declared.colour.admits(value) && stands_where_bound(marking, arcs, variable, value)
 }
 
-/// Whether the token at the index is the last one of its value among sorted tokens.
-fn is_last_of_value(tokens: &[Token], index: usize) -> bool
-    requires in_range { index < length tokens.now }
-    ensures exact { (token : Token) → result ≡ is_last_of (token_view (slice_index_or tokens.now index token)) (tokens_view (drop (index + 1) tokens.now)) }
+/// Whether the token's value does not come after the value.
+fn is_up_to(token: &Token, value: &Value) -> bool
+    ensures exact { result ≡ is_at_most (value_view token.now.value) (value_view value.now) }
 {
-    let next = index + 1;
-    if next == tokens.len() {
-        return true;
-    }
-    tokens[index].value != tokens[next].value
+    token.value <= *value
+}
+
+/// Where the tokens of the value end among sorted tokens, ahead of those of each value after it.
+fn end_of_value(tokens: &[Token], value: &Value) -> usize
+    requires sorted { AreSorted (tokens_view tokens.now) }
+    ensures within { result ≤ length tokens.now }
+    ensures end { IsEndOf (value_view value.now) (tokens_view tokens.now) result }
+{
+    tokens.partition_point(|token| is_up_to(token, value))
 }
 
 /// The values of the tokens that are candidates for the variable, each once, in order.
+#[tactic(auto, using(crate::proofs::Jumping::with_value, crate::proofs::Jumping::without_value))]
 fn values_among(
     alloc: Global,
     net: &Net,
@@ -108,11 +114,14 @@ fn values_among(
     ensures values { IfOk result (λ values. map value_view values.items ≡ values_passing (is_candidate_value (net_view net.now) marking.now (map arc_view arcs.now) variable) (tokens_view tokens.now)) }
 {
     let mut values = Vec::new(alloc);
-    for i in 0..tokens.len() {
-        let value = &tokens[i].value;
-        if is_last_of_value(tokens, i) && is_candidate(net, marking, arcs, variable, value) {
+    let mut start = 0;
+    while start < tokens.len() {
+        let value = &tokens[start].value;
+        let end = end_of_value(tokens, value);
+        if is_candidate(net, marking, arcs, variable, value) {
             values.push(value.copy()?)?;
         }
+        start = end;
     }
     Ok(values)
 }
