@@ -5,7 +5,7 @@ use Rattle.cpn_definitions.specs.Marking.{Marking}
 use Rattle.cpn_definitions.specs.Enabled.{PlainEntry, Enabled}
 use Rattle.cpn_definitions.specs.Sound.{is_sound}
 use Rattle.cpn_definitions.specs.State.{PlainSetup, PlainEnd, dead, steps_made}
-use Rattle.cpn_definitions.specs.Run.{PlainOutcome, IsRun}
+use Rattle.cpn_definitions.specs.Run.{PlainFinished, IsRun}
 use Rattle.cpn_definitions.proofs.Listing.{none_is_dead}
 use Rattle.cpn_definitions.proofs.Ending.{IsOver, ended}
 use Rattle.cpn_core.specs.Occurrences.{occurrence_view, event_view}
@@ -13,7 +13,7 @@ use Rattle.cpn_book.specs.Progress.{IsRunning}
 use Rattle.cpn_book.specs.declared.progresses.Progress.{Progress}
 
 -- what the progress shows, with the cause of the end
-abbrev pub shown : PlainSetup → Progress → PlainEnd → PlainOutcome
+abbrev pub shown : PlainSetup → Progress → PlainEnd → PlainFinished
 shown setup p cause = record { journal = map event_view p.journal.items; occurrences = map occurrence_view p.occurrences.items; marking = p.marking; clock = setup.clock; cause = cause }
 
 -- the limit of claims is reached

@@ -1,7 +1,7 @@
 -- The plain nets that the nets of the program stand for.
 use Rattle.std.specs.Prelude.{List, map, Option, Some, None, string_bytes}
 use Rattle.std.specs.Option.{option_map}
-use Rattle.cpn_definitions.specs.Net.{PlainExpr, literal, variable, PlainMultiset, one, PlainPattern, literal_pattern, variable_pattern, PlainArc, PlainTransition, Coloured, PlainNet}
+use Rattle.cpn_definitions.specs.Net.{PlainExpr, literal, variable, ArcInscription, one, PlainPattern, literal_pattern, variable_pattern, PlainArc, PlainTransition, Coloured, PlainNet}
 use Rattle.cpn_definitions.specs.Net as plain
 use Rattle.cpn_core.specs.declared.nets.Expr.{Expr}
 use Rattle.cpn_core.specs.declared.nets.Expr.TheVariants as exprs
@@ -22,7 +22,7 @@ abbrev pub expr_view : Expr → PlainExpr
 expr_view (exprs.Lit v) = literal (value_view v)
 expr_view (exprs.Var x) = variable x
 
-abbrev pub multiset_view : MExpr → PlainMultiset
+abbrev pub multiset_view : MExpr → ArcInscription
 multiset_view (multisets.One e) = one (expr_view e)
 
 abbrev pub pattern_view : Pat → PlainPattern

@@ -1,6 +1,6 @@
 // Markings: the tokens of each place of a net.
 ghost use Rattle.std.specs.Prelude.{◌≡◌, ◌<◌, [], length, replicate, count_by, slice_index_or, slice_set, ◌↔◌, IsSome, IfSome, IfOk, OnOk, OnErr};
-ghost use Rattle.cpn_definitions.specs.Marking.{token_at, add_token, without_token, is_taken_by, AreSorted};
+ghost use Rattle.cpn_definitions.specs.Marking.{token_at, add_token, without_token, is_taken_by, AreSorted, stamps, without_latest};
 ghost use Rattle.cpn_core.specs.Views.{value_view};
 ghost use Rattle.cpn_core.specs.Tokens.{tokens_view};
 
@@ -86,6 +86,8 @@ impl PlainMarking {
     pub fn take(&mut self, place: u32, value: &Value, latest: u64)
         requires in_range { place < length self.old }
         ensures taken { self.new ≡ slice_set self.old place (without_token (value_view value.now) latest (slice_index_or self.old place [])) }
+        // The timed subtraction: the value's stamps there lose their largest one that is not above `latest`.
+        ensures stamps { stamps (value_view value.now) (slice_index_or self.new place []) ≡ without_latest latest (stamps (value_view value.now) (slice_index_or self.old place [])) }
         ensures places { length self.new ≡ length self.old }
     {
         let held = &mut self.places[place as usize];

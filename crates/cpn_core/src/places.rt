@@ -75,6 +75,7 @@ impl Place {
     // Takes the latest token of the value whose stamp is not above `latest`, if there is one.
     pub fn take(&mut self, value: &Value, latest: u64)
         ensures taken { self.new ≡ without_token (value_view value.now) latest self.old }
+        ensures sorted { AreSorted self.old }
     {
         if let Some(at) = place_to_take(self.tokens.as_slice(), value, latest) {
             drop(self.tokens.remove(at));

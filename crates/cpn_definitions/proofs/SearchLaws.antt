@@ -9,7 +9,7 @@ use Rattle.cpn_definitions.specs.Value.{PlainValue}
 use Rattle.cpn_definitions.specs.Order.{same_value}
 use Rattle.cpn_definitions.specs.Colour.{PlainColour, admits}
 use Rattle.cpn_definitions.specs.Marking.{Tokens, Marking, stamps, covers, is_taken_by}
-use Rattle.cpn_definitions.specs.Net.{PlainExpr, literal, variable, PlainMultiset, one, PlainArc, PlainTransition, PlainNet, no_transition, variable_at, transition_at}
+use Rattle.cpn_definitions.specs.Net.{PlainExpr, literal, variable, ArcInscription, one, PlainArc, PlainTransition, PlainNet, no_transition, variable_at, transition_at}
 use Rattle.cpn_definitions.specs.Meaning.{PlainBinding, Outcome, gives, faults, no_meaning, not_in_colour, gives_and, bound_value, given, meaning, in_colour, PlainTerm, terms_of, gather, ◌>>=◌}
 use Rattle.cpn_definitions.specs.Occurrence.{PlainElement, Needed, tokens_at, binds, needed_by, needs_of, threshold, same_need, thresholds, are_covered, covered}
 use Rattle.cpn_definitions.specs.Enabled.{PlainEntry, PlainFound, element_cmp, IsIncreasing, IsEarliest, entries_of, EnabledOf}
@@ -215,7 +215,7 @@ expr_needs b arc e v ys is gives_it =
 bound_needs : (b : PlainBinding) (arc : PlainArc) (x : ℕ) (v : PlainValue) (ys : List Needed) → is_bound_by x arc.expr ≡ true → bound_value x b ≡ Some v → needed_by b arc ≡ gives ys → IsIn (token_of arc v) ys
 bound_needs b arc x v ys by is gives_it = by_expr arc.expr by gives_it
   where
-    by_expr : (e : PlainMultiset) → is_bound_by x e ≡ true → needed_by b (record arc { expr = e }) ≡ gives ys → IsIn (token_of arc v) ys
+    by_expr : (e : ArcInscription) → is_bound_by x e ≡ true → needed_by b (record arc { expr = e }) ≡ gives ys → IsIn (token_of arc v) ys
     by_expr (one (literal w)) by' g = cc
     by_expr (one (variable y)) by' g =
         let named : meaning (variable y) b 0 ≡ gives v = ap (λ z. given (bound_value z b)) (sym (number_same x y by')) ∙ ap given is in

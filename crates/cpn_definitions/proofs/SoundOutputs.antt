@@ -9,7 +9,7 @@ use Rattle.std.proofs.lemmas.Bool.{and_parts}
 use Rattle.cpn_definitions.specs.Value.{PlainValue}
 use Rattle.cpn_definitions.specs.Colour.{PlainShape, unit_shape, boolean_shape, int_shape, text_shape, constant_shape, tuple_shape, union_shape, list_shape, PlainColour, has_shape, admits}
 use Rattle.cpn_definitions.specs.Marking.{Marking}
-use Rattle.cpn_definitions.specs.Net.{PlainExpr, literal, variable, PlainMultiset, one, PlainArc, PlainTransition, PlainNet, Coloured, nothing, no_transition, variable_at, transition_at}
+use Rattle.cpn_definitions.specs.Net.{PlainExpr, literal, variable, ArcInscription, one, PlainArc, PlainTransition, PlainNet, Coloured, nothing, no_transition, variable_at, transition_at}
 use Rattle.cpn_definitions.specs.Meaning.{PlainBinding, Outcome, gives, faults, no_meaning, ◌>>=◌, bound_value, given, meaning, PlainTerm, in_colour, terms_of, gather}
 use Rattle.cpn_definitions.specs.Occurrence.{PlainElement, Made, binds, covered, made_by, outputs_of, transition_delay}
 use Rattle.cpn_definitions.specs.Sound.{is_sound, is_sound_but_arcs, is_int_colour, is_int_shape, int_colour, least_int, greatest_int, is_sound_expr, is_sound_arc, is_sound_transition, has_no_guard, are_increasing, is_bound_by}
@@ -98,7 +98,7 @@ bound_admitted n (y ∷ ys) (pair ∷ pairs) x binds_them among =
     ⊎_elim (λ yes. bound_here n pair pairs x yes admitted) (λ not_here. bound_later n pair pairs x not_here (bound_admitted n ys pairs x rest (or_second (x == pair.0) _ not_here either))) (either_way (x == pair.0))
 
 -- an inscription of a sound arc has its one term under a binding of the variables
-pub sound_expr_gives : (n : PlainNet) (xs : List ℕ) (b : PlainBinding) (colour : PlainColour) (e : PlainMultiset) (time : ℕ)
+pub sound_expr_gives : (n : PlainNet) (xs : List ℕ) (b : PlainBinding) (colour : PlainColour) (e : ArcInscription) (time : ℕ)
     → binds n xs b ≡ true → list_all (λ x. nat_lt x (length n.variables)) xs ≡ true → list_all (λ x. is_int_colour x.colour) n.variables ≡ true
     → is_int_colour colour ≡ true → is_sound_expr xs e ≡ true → Gives (terms_of e colour b time)
 sound_expr_gives n xs b colour (one (literal v)) time binds_them small ints colour_is sound =

@@ -16,8 +16,9 @@ pub record TimedElement : Type 0 where
   pub time : ℕ
 
 -- Legal: from a marking at a clock, the elements may occur in this order at their times, and lead to the
--- last marking and clock. Each occurs at the least time at which any element is covered; the last clock is
--- the time of the last occurrence, or the least time from it.
+-- last marking and clock. Each occurs at the least time, not before that of the one before it (of the first:
+-- not before the clock), at which any element is covered. The last clock is the time of the last occurrence
+-- (the clock, where there is none), or the least time from it.
 abbrev pub Legal : PlainNet → Marking → ℕ → List TimedElement → Marking → ℕ → Type 0
 Legal n m clock [] last end = (last ≡ m) × ((end ≡ clock) ⊎ LeastTime n m clock end)
 Legal n m clock (o ∷ os) last end =

@@ -89,8 +89,9 @@ less ss (t ∷ ts) = less (without_latest t ss) ts
 abbrev pub is_taken_by : PlainValue → ℕ → PlainToken → Bool
 is_taken_by v t token = same_value v token.value && nat_le token.stamp t
 
--- The tokens of a place without the one of the value whose stamp is the largest not above the
--- threshold: the stamps of the value lose their largest one that is not above it, and all else stays.
+-- The sorted tokens of a place without the one of the value whose stamp is the largest not above the
+-- threshold; unchanged where there is none. The stamps of the value lose their largest one that is not above
+-- the threshold, and all else stays.
 abbrev pub without_token : PlainValue → ℕ → Tokens → Tokens
 without_token v t [] = []
 without_token v t (k ∷ ks) = if list_any (is_taken_by v t) ks then k ∷ without_token v t ks else (if is_taken_by v t k then ks else k ∷ ks)

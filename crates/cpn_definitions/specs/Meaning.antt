@@ -3,7 +3,7 @@
 use Rattle.std.specs.Prelude.{ℕ, ◌^◌, ◌==◌, pos, negsuc, Bool, true, false, if◌then◌else◌, nat_le, List, [], ◌∷◌, ◌++◌, Option, Some, None}
 use Rattle.cpn_definitions.specs.Value.{PlainValue, unit, boolean, int, constant, text, tuple, bare, applied, list}
 use Rattle.cpn_definitions.specs.Colour.{PlainColour, admits}
-use Rattle.cpn_definitions.specs.Net.{PlainExpr, literal, variable, PlainMultiset, one, PlainArc}
+use Rattle.cpn_definitions.specs.Net.{PlainExpr, literal, variable, ArcInscription, one, PlainArc}
 
 -- A binding: the number and the value of each variable of a transition, in declaration order.
 abbrev pub PlainBinding : Type 0
@@ -64,7 +64,7 @@ abbrev pub in_colour : PlainColour → PlainValue → Outcome PlainValue
 in_colour colour v = if admits colour v then gives v else faults not_in_colour
 
 -- The terms of a multiset inscription of a place of a colour set, in order, or the first fault.
-abbrev pub terms_of : PlainMultiset → PlainColour → PlainBinding → ℕ → Outcome (List PlainTerm)
+abbrev pub terms_of : ArcInscription → PlainColour → PlainBinding → ℕ → Outcome (List PlainTerm)
 terms_of (one e) colour b time = do
   v ← meaning e b time
   token ← in_colour colour v
@@ -78,7 +78,7 @@ gather f (arc ∷ arcs) = do
   ys ← gather f arcs
   gives (xs ++ ys)
 
--- whether a meaning is the truth value true
+-- whether a value is the truth value true
 abbrev pub is_true : PlainValue → Bool
 is_true unit = false
 is_true (boolean b) = b

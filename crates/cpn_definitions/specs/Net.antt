@@ -11,8 +11,8 @@ pub data PlainExpr : Type 0 where
   variable : ℕ → PlainExpr
 
 -- An inscription of an arc, whose value is a multiset: one token of the value of an inscription.
-pub data PlainMultiset : Type 0 where
-  one : PlainExpr → PlainMultiset
+pub data ArcInscription : Type 0 where
+  one : PlainExpr → ArcInscription
 
 -- The pattern of a binding term: a literal, or a variable that the term binds.
 pub data PlainPattern : Type 0 where
@@ -29,7 +29,7 @@ pub record BindingTerm : Type 0 where
 pub record PlainArc : Type 0 where
   pub place : ℕ
   pub colour : PlainColour
-  pub expr : PlainMultiset
+  pub expr : ArcInscription
   pub terms : List BindingTerm
 
 -- A transition: its name, the conjuncts of its guard, its delay where one is written, its input and

@@ -35,7 +35,7 @@ is_timed n p = (place_at n p).colour.timed
 abbrev pub tokens_at : Marking → ℕ → Tokens
 tokens_at m p = slice_index_or m p []
 
--- whether a binding gives the variables, in their order, values that their colour sets admit
+-- whether a binding gives the variables, in their order and no others, values that their colour sets admit
 abbrev pub binds : PlainNet → List ℕ → PlainBinding → Bool
 binds n [] [] = true
 binds n (x ∷ xs) (pair ∷ pairs) = (x == pair.0) && admits (variable_at n x).colour pair.1 && binds n xs pairs
@@ -72,8 +72,10 @@ thresholds n time need needs = map (threshold n time) (filter (same_need need) n
 abbrev pub are_covered : PlainNet → Marking → ℕ → List Needed → Bool
 are_covered n m time needs = list_all (λ need. covers (stamps need.value (tokens_at m need.place)) (thresholds n time need needs)) needs
 
--- Covered: the binding gives each variable of the transition an admitted value, the guard is true, each
--- input inscription has a value, and the needs are covered at the time.
+-- Covered: the transition is one of the net, the binding gives each of its variables an admitted value, the
+-- guard is true, each input inscription has a value, and the needs are covered at the time. In the book: the
+-- binding element is enabled at that time. No guard and no input inscription reads the time, so they are taken
+-- at time 0.
 unfoldable pub covered : PlainNet → Marking → ℕ → PlainElement → Bool
 covered n m time e =
     let t = transition_at n e.transition in

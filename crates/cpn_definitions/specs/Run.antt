@@ -8,7 +8,7 @@ use Rattle.cpn_definitions.specs.State.{PlainSetup, PlainEvent, PlainEnd, PlainS
 
 -- What a run shows when it has ended: its journal, its committed occurrences, its last marking and clock, and
 -- the cause of its end.
-pub record PlainOutcome : Type 0 where
+pub record PlainFinished : Type 0 where
   pub journal : List PlainEvent
   pub occurrences : List PlainOccurrence
   pub marking : Marking
@@ -17,7 +17,7 @@ pub record PlainOutcome : Type 0 where
 
 -- The journal leads to a state that ends by the cause; the occurrences are those that are committed there,
 -- and the marking and the clock are theirs.
-pub record IsRun (setup : PlainSetup) (run : PlainOutcome) : Type 0 where
+pub record IsRun (setup : PlainSetup) (run : PlainFinished) : Type 0 where
   pub state : PlainState
   pub reached : IsState setup run.journal state
   pub ends : EndsBy setup state run.cause
@@ -26,7 +26,7 @@ pub record IsRun (setup : PlainSetup) (run : PlainOutcome) : Type 0 where
   pub clock_is : run.clock ≡ state.clock
 
 -- The occurrences are a legal occurrence sequence from the start to the last marking and clock.
-abbrev pub IsLegalRun : PlainSetup → PlainOutcome → Type 0
+abbrev pub IsLegalRun : PlainSetup → PlainFinished → Type 0
 IsLegalRun setup run = Legal setup.net setup.start setup.clock (map timed run.occurrences) run.marking run.clock
 
 -- The number of the ready elements of a marking at a clock, and the next time.

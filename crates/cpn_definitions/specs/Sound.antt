@@ -7,7 +7,7 @@ use Rattle.cpn_definitions.specs.Value.{PlainValue}
 use Rattle.cpn_definitions.specs.Colour.{PlainShape, unit_shape, boolean_shape, int_shape, text_shape, constant_shape, tuple_shape, union_shape, list_shape, PlainColour, admits}
 use Rattle.cpn_definitions.specs.Order.{same_value}
 use Rattle.cpn_definitions.specs.Marking.{PlainToken, Tokens, Marking, AreSorted}
-use Rattle.cpn_definitions.specs.Net.{PlainExpr, literal, variable, PlainMultiset, one, PlainPattern, literal_pattern, variable_pattern, BindingTerm, PlainArc, PlainTransition, Coloured, PlainNet}
+use Rattle.cpn_definitions.specs.Net.{PlainExpr, literal, variable, ArcInscription, one, PlainPattern, literal_pattern, variable_pattern, BindingTerm, PlainArc, PlainTransition, Coloured, PlainNet}
 
 -- the least and the greatest integer of 64 bits
 abbrev pub least_int : ℤ
@@ -34,7 +34,7 @@ abbrev pub is_int_colour : PlainColour → Bool
 is_int_colour colour = is_int_shape colour.shape && not colour.timed
 
 -- whether an inscription is an integer, or a variable among these
-abbrev pub is_sound_expr : List ℕ → PlainMultiset → Bool
+abbrev pub is_sound_expr : List ℕ → ArcInscription → Bool
 is_sound_expr vars (one (literal v)) = admits int_colour v
 is_sound_expr vars (one (variable x)) = list_any (λ y. x == y) vars
 
@@ -50,7 +50,7 @@ is_pattern_of (variable x) (literal_pattern w) = false
 is_pattern_of (variable x) (variable_pattern y) = x == y
 
 -- whether the terms are just the binding terms of the inscription: the one, with the count 1
-abbrev pub has_terms : PlainMultiset → List BindingTerm → Bool
+abbrev pub has_terms : ArcInscription → List BindingTerm → Bool
 has_terms (one e) [] = false
 has_terms (one e) (term ∷ []) = (term.count == 1) && is_pattern_of e term.pattern
 has_terms (one e) (term ∷ other ∷ terms) = false
@@ -60,7 +60,7 @@ abbrev pub has_sound_arcs : PlainTransition → Bool
 has_sound_arcs t = nat_le (length t.inputs + length t.outputs) 64 && list_all (λ arc. has_terms arc.expr arc.terms) t.inputs
 
 -- whether the variable is the inscription of the arc
-abbrev pub is_bound_by : ℕ → PlainMultiset → Bool
+abbrev pub is_bound_by : ℕ → ArcInscription → Bool
 is_bound_by x (one (literal v)) = false
 is_bound_by x (one (variable y)) = x == y
 

@@ -2,7 +2,7 @@
 use Rattle.std.proofs.Common.{◌≡◌, ℕ, ◌+◌, Bool, cond, List, [], ◌∷◌, ◌++◌, Option, Some, None, refl, sym, ap, ◌∙◌, replicate}
 use Rattle.std.specs.List.{flat_map}
 use Rattle.cpn_definitions.specs.Value.{PlainValue}
-use Rattle.cpn_definitions.specs.Net.{PlainExpr, PlainMultiset, one, PlainArc, PlainNet}
+use Rattle.cpn_definitions.specs.Net.{PlainExpr, ArcInscription, one, PlainArc, PlainNet}
 use Rattle.cpn_definitions.specs.Meaning.{PlainBinding, Outcome, gives, faults, no_meaning, ◌>>=◌, PlainTerm, terms_of, meaning, in_colour}
 use Rattle.cpn_definitions.specs.Colour.{PlainColour}
 use Rattle.cpn_definitions.specs.Occurrence.{Needed, Made, is_timed, needed_by, made_by}
@@ -29,11 +29,11 @@ outcome_assoc (faults fault) f g = refl
 outcome_assoc no_meaning f g = refl
 
 -- the terms of an arc's multiset, if its one token has a value and if not
-pub terms_some : (e : PlainMultiset) (colour : PlainColour) (b : PlainBinding) (time : ℕ) (v : PlainValue) → one_value colour e b time ≡ Some v → terms_of e colour b time ≡ gives (one_term v)
+pub terms_some : (e : ArcInscription) (colour : PlainColour) (b : PlainBinding) (time : ℕ) (v : PlainValue) → one_value colour e b time ≡ Some v → terms_of e colour b time ≡ gives (one_term v)
 terms_some (one e) colour b time v is =
     sym (outcome_assoc (meaning e b time) (in_colour colour) (λ token. gives (one_term token))) ∙ outcome_some (meaning e b time >>= in_colour colour) (λ token. gives (one_term token)) v is
 
-pub terms_none : (e : PlainMultiset) (colour : PlainColour) (b : PlainBinding) (time : ℕ) → one_value colour e b time ≡ None → as_option (terms_of e colour b time) ≡ None
+pub terms_none : (e : ArcInscription) (colour : PlainColour) (b : PlainBinding) (time : ℕ) → one_value colour e b time ≡ None → as_option (terms_of e colour b time) ≡ None
 terms_none (one e) colour b time is =
     ap as_option (sym (outcome_assoc (meaning e b time) (in_colour colour) (λ token. gives (one_term token)))) ∙ outcome_none (meaning e b time >>= in_colour colour) (λ token. gives (one_term token)) is
 

@@ -5,7 +5,7 @@ use Rattle.std.specs.Option.{option_map}
 use Rattle.cpn_definitions.specs.Value.{PlainValue}
 use Rattle.cpn_definitions.specs.Meaning.{PlainBinding, Outcome, gives, faults, no_meaning, ◌>>=◌, meaning, in_colour}
 use Rattle.cpn_definitions.specs.Colour.{PlainColour}
-use Rattle.cpn_definitions.specs.Net.{PlainExpr, PlainMultiset, one, PlainArc}
+use Rattle.cpn_definitions.specs.Net.{PlainExpr, ArcInscription, one, PlainArc}
 use Rattle.cpn_core.specs.declared.values.Value.{Value}
 use Rattle.cpn_core.specs.Views.{value_view}
 
@@ -27,7 +27,7 @@ abbrev pub meaning_in : PlainColour → PlainExpr → PlainBinding → ℕ → O
 meaning_in colour e b time = as_option (meaning e b time >>= in_colour colour)
 
 -- the value of the one token of an arc, if the arc's colour set admits it
-abbrev pub one_value : PlainColour → PlainMultiset → PlainBinding → ℕ → Option PlainValue
+abbrev pub one_value : PlainColour → ArcInscription → PlainBinding → ℕ → Option PlainValue
 one_value colour (one e) b time = meaning_in colour e b time
 
 abbrev pub token_value : PlainArc → PlainBinding → ℕ → Option PlainValue

@@ -8,7 +8,7 @@ use Rattle.std.proofs.lemmas.List.Folds.{list_any-append, list_all-append, list_
 use Rattle.std.proofs.lemmas.Option.{cond_some, same_Some}
 use Rattle.cpn_definitions.specs.Value.{int}
 use Rattle.cpn_definitions.specs.Colour.{admits}
-use Rattle.cpn_definitions.specs.Net.{literal, variable, PlainMultiset, one, PlainArc, PlainTransition, PlainNet}
+use Rattle.cpn_definitions.specs.Net.{literal, variable, ArcInscription, one, PlainArc, PlainTransition, PlainNet}
 use Rattle.cpn_definitions.specs.Sound.{int_colour, is_int_colour, is_bound_by, is_sound_expr, is_sound_arc, is_sound_transition, has_terms, has_sound_arcs}
 use Rattle.cpn_definitions.proofs.Comparing.{same_value_refl}
 use Rattle.cpn_file.specs.Parts.{when}
@@ -22,14 +22,14 @@ use Rattle.cpn_file.proofs.Served.{is_served_inscription, is_served_arc}
 -- ---- the variables of arcs stand on them
 
 -- whether the variable of an inscription, if it is one, stands on an arc
-abbrev pub is_found : List PlainArc → PlainMultiset → Bool
+abbrev pub is_found : List PlainArc → ArcInscription → Bool
 is_found arcs (one (literal v)) = true
 is_found arcs (one (variable x)) = stands_on arcs x
 
 found_here : (front back : List PlainArc) (arc : PlainArc) → is_found (front ++ arc ∷ back) arc.expr ≡ true
 found_here front back arc = by arc.expr refl
   where
-    by : (e : PlainMultiset) → arc.expr ≡ e → is_found (front ++ arc ∷ back) e ≡ true
+    by : (e : ArcInscription) → arc.expr ≡ e → is_found (front ++ arc ∷ back) e ≡ true
     by (one (literal v)) p = refl
     by (one (variable x)) p = rw (list_any-append (λ b. is_bound_by x b.expr) front (arc ∷ back), p, nat_eq_equiv.refl x) (or_true (stands_on front x))
 
@@ -43,7 +43,7 @@ all_found front (arc ∷ back) =
 
 -- whether an arc of the net is at one of so many places, of the integers, and its inscription an integer or
 -- one of so many variables
-abbrev pub is_served_expr : ℕ → PlainMultiset → Bool
+abbrev pub is_served_expr : ℕ → ArcInscription → Bool
 is_served_expr variables (one (literal v)) = admits int_colour v
 is_served_expr variables (one (variable x)) = nat_lt x variables
 
@@ -96,7 +96,7 @@ module _ (n : PlainNet) (places count : ℕ) (same_places : length n.places ≡ 
         let a = and_parts (nat_lt arc.place places && is_int_colour arc.colour) (is_served_expr count arc.expr) h in
         rw same_places (both (nat_lt arc.place places && is_int_colour arc.colour) (is_sound_expr (filter (stands_on whole) (range_with_len 0 count)) arc.expr) a.0 (by arc.expr a.1 k))
       where
-        by : (e : PlainMultiset) → is_served_expr count e ≡ true → is_found whole e ≡ true → is_sound_expr (filter (stands_on whole) (range_with_len 0 count)) e ≡ true
+        by : (e : ArcInscription) → is_served_expr count e ≡ true → is_found whole e ≡ true → is_sound_expr (filter (stands_on whole) (range_with_len 0 count)) e ≡ true
         by (one (literal v)) h k = h
         by (one (variable x)) h k = (let lt : x < count = ltb-true x count h in among (stands_on whole) x k count 0 (omega arith) (omega arith))
 

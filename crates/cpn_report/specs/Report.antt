@@ -9,7 +9,7 @@ use Rattle.cpn_definitions.specs.Net.{Coloured, PlainNet, variable_at, transitio
 use Rattle.cpn_definitions.specs.Meaning.{PlainBinding, Fault, overflow, divide_by_zero, empty_list, no_case, not_in_colour, bad_coefficient, bad_delay, too_large}
 use Rattle.cpn_definitions.specs.Occurrence.{PlainElement}
 use Rattle.cpn_definitions.specs.State.{PlainEvent, claim_made, claim_completed, PlainEnd, dead, steps_made, fault_end, PlainOccurrence}
-use Rattle.cpn_definitions.specs.Run.{PlainOutcome, Outlook}
+use Rattle.cpn_definitions.specs.Run.{PlainFinished, Outlook}
 
 -- an integer, with ~ in front of a negative one
 abbrev pub int_text : ℤ → List ℕ
@@ -146,7 +146,7 @@ total_line count = codes "total " ++ decimal count ++ codes "\n"
 
 -- The lines of one run: what it starts from, its occurrences, its journal, its end, its last clock and
 -- marking, and what is ready and next then.
-unfoldable pub run_text : PlainNet → ℕ → ℕ → Outlook → PlainOutcome → Outlook → List ℕ
+unfoldable pub run_text : PlainNet → ℕ → ℕ → Outlook → PlainFinished → Outlook → List ℕ
 run_text n number clock opening outcome closing =
     run_line number clock opening
     ++ flat_map (occurrence_line n) outcome.occurrences
@@ -159,6 +159,6 @@ run_text n number clock opening outcome closing =
     ++ next_line closing.next
 
 -- Text: the report of one run.
-unfoldable pub report_text : PlainNet → ℕ → Outlook → PlainOutcome → Outlook → List ℕ
+unfoldable pub report_text : PlainNet → ℕ → Outlook → PlainFinished → Outlook → List ℕ
 report_text n clock opening outcome closing =
     report_line ++ run_text n 0 clock opening outcome closing ++ total_line (length outcome.occurrences)

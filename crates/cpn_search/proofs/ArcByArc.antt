@@ -8,7 +8,7 @@ use Rattle.cpn_definitions.specs.Value.{PlainValue}
 use Rattle.cpn_definitions.specs.Order.{same_value}
 use Rattle.cpn_definitions.specs.Colour.{admits}
 use Rattle.cpn_definitions.specs.Marking.{Marking, AreSorted, stamps, covers, is_taken_by}
-use Rattle.cpn_definitions.specs.Net.{PlainMultiset, one, PlainArc, PlainTransition, PlainNet, transition_at}
+use Rattle.cpn_definitions.specs.Net.{ArcInscription, one, PlainArc, PlainTransition, PlainNet, transition_at}
 use Rattle.cpn_definitions.specs.Meaning.{PlainBinding, Outcome, gives, faults, no_meaning, not_in_colour, gives_and, meaning, in_colour, PlainTerm, gather, ◌>>=◌}
 use Rattle.cpn_definitions.specs.Occurrence.{Needed, tokens_at, is_timed, needed_by, needs_of, threshold, same_need, thresholds, are_covered, binds, guard_holds, covered}
 use Rattle.cpn_definitions.proofs.Stamps.{covers_count}
@@ -59,7 +59,7 @@ need_is b arc = by_expr arc.expr
     by_meaning (faults fault) = refl
     by_meaning no_meaning = refl
 
-    by_expr : (e : PlainMultiset) → as_option (needed_by b (record arc { expr = e })) ≡ need_from arc (token_value (record arc { expr = e }) b 0)
+    by_expr : (e : ArcInscription) → as_option (needed_by b (record arc { expr = e })) ≡ need_from arc (token_value (record arc { expr = e }) b 0)
     by_expr (one e) = by_meaning (meaning e b 0)
 
 needs_are : (b : PlainBinding) (arcs : List PlainArc) → as_option (gather (needed_by b) arcs) ≡ needs_from b arcs

@@ -1,7 +1,7 @@
 -- The report that a run of a document gives.
 use Rattle.std.specs.Prelude.{◌≡◌, ℕ, ◌^◌, List, Option, Some}
 use Rattle.cpn_definitions.specs.State.{PlainSetup}
-use Rattle.cpn_definitions.specs.Run.{PlainOutcome, IsRun, IsLegalRun, Outlook, HasOutlook}
+use Rattle.cpn_definitions.specs.Run.{PlainFinished, IsRun, IsLegalRun, Outlook, HasOutlook}
 use Rattle.cpn_file.specs.Loading.{PlainLoaded}
 use Rattle.cpn_file.specs.Reads.{Reads}
 use Rattle.cpn_report.specs.Report.{report_text}
@@ -15,7 +15,7 @@ setup_from loaded options = record { net = loaded.net; start = loaded.initial; c
 -- cause, its occurrences are a legal occurrence sequence from the initial marking to the printed one, and
 -- what is printed as ready and next, at the start and at the end, is that of the enabled elements.
 pub record IsReportOf (loaded : PlainLoaded) (options : PlainOptions) (report : List ℕ) : Type 0 where
-  pub run : PlainOutcome
+  pub run : PlainFinished
   pub is_run : IsRun (setup_from loaded options) run
   pub is_legal : IsLegalRun (setup_from loaded options) run
   pub opening : Outlook

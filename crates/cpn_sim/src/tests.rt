@@ -42,33 +42,23 @@ const ENDLESS_LOOP_REPORT: &str =
 const THREE_STEPS_REPORT: &str =
     "report 1\nrun 0 initial 0 ready 1 next 0\nocc 0 @0 Top/t {x=7}\nocc 1 @0 Top/t {x=7}\nocc 2 @0 Top/t {x=7}\nschedule c0 d0 c1 d1 c2 d2\nend steps\noccurrences 3\nclock 0\nplace Top/A empty\nplace Top/B 3`7\nready 0\nnext none\ntotal 3\n";
 
-// A call of the program over memory.
-#[derive(Drop)]
-struct Call<'a> {
-    words: &'a [&'a str],
-    document: &'a [u8],
-    // The read call that fails, and how many bytes a read gives.
+// Which calls of the source and the sink fail, how many bytes a call moves, and the sink's room.
+#[derive(Clone, Copy)]
+struct Outside {
     failing_read: Option<u64>,
     read_piece: usize,
-    // The write call that fails, how many bytes a write takes, and for how many the sink has room.
     failing_write: Option<u64>,
     write_piece: usize,
     room: usize,
 }
 
-impl<'a> Call<'a> {
-    fn new(words: &'a [&'a str], document: &'a str) -> Call<'a> {
-        Call {
-            words,
-            document: document.as_bytes(),
-            failing_read: None,
-            read_piece: 4096,
-            failing_write: None,
-            write_piece: 4096,
-            room: 65536,
-        }
-    }
-}
+const HONEST: Outside = Outside {
+    failing_read: None,
+    read_piece: 4096,
+    failing_write: None,
+    write_piece: 4096,
+    room: 65536,
+};
 
 fn listed(alloc: Global, call: Option<u64>) -> Result<Vec<u64>, Fail> {
     let mut calls = Vec::new(alloc);
@@ -78,234 +68,304 @@ fn listed(alloc: Global, call: Option<u64>) -> Result<Vec<u64>, Fail> {
     Ok(calls)
 }
 
-fn owned(alloc: Global, words: &[&str]) -> Result<Vec<String>, Fail> {
-    let mut all = Vec::new(alloc);
-    for word in words {
-        all.push(String::from_str(alloc, word)?)?;
+// The words between single spaces.
+fn words_in(alloc: Global, text: &str) -> Result<Vec<String>, Fail> {
+    let mut words = Vec::new(alloc);
+    for word in text.split(' ') {
+        words.push(String::from_str(alloc, word)?)?;
     }
-    Ok(all)
+    Ok(words)
 }
 
-// The status of the call, and what the sink holds then.
-fn outcome(alloc: Global, call: &Call<'_>) -> Result<(Status, Vec<u8>), Fail> {
-    let words = owned(alloc, call.words)?;
-    let bytes = Vec::from_slice(alloc, call.document)?;
-    let piece = call.read_piece.max(1);
-    let mut source = BytesSource::new(bytes, listed(alloc, call.failing_read)?, piece);
-    let fails = listed(alloc, call.failing_write)?;
-    let mut sink = BytesSink::new(alloc, fails, call.write_piece.max(1), call.room)?;
+// The status of a call of the program over memory, and what the sink holds then.
+fn outcome(
+    alloc: Global,
+    words: &str,
+    document: &[u8],
+    outside: Outside,
+) -> Result<(Status, Vec<u8>), Fail> {
+    let words = words_in(alloc, words)?;
+    let bytes = Vec::from_slice(alloc, document)?;
+    let failing_reads = listed(alloc, outside.failing_read)?;
+    let mut source = BytesSource::new(bytes, failing_reads, outside.read_piece.max(1));
+    let failing_writes = listed(alloc, outside.failing_write)?;
+    let mut sink = BytesSink::new(
+        alloc,
+        failing_writes,
+        outside.write_piece.max(1),
+        outside.room,
+    )?;
     let status = simulate(alloc, words.as_slice(), &mut source, &mut sink);
     let written = Vec::from_slice(alloc, sink.bytes())?;
     Ok((status, written))
 }
 
+// Whether the call ends with the status and writes just the text.
+fn writes(
+    alloc: Global,
+    words: &str,
+    document: &[u8],
+    outside: Outside,
+    status: Status,
+    text: &str,
+) -> Result<bool, Fail> {
+    let (found, written) = outcome(alloc, words, document, outside)?;
+    Ok(found == status && written.as_slice() == text.as_bytes())
+}
+
+// Whether the run of the document under the words writes the report.
+fn reports(alloc: Global, words: &str, document: &str, report: &str) -> Result<bool, Fail> {
+    writes(
+        alloc,
+        words,
+        document.as_bytes(),
+        HONEST,
+        Status::Done,
+        report,
+    )
+}
+
 #[test]
 fn reports_are_byte_for_byte(rt: HostRuntime) -> Result<(), Fail> {
-    let ten = ["--seed", "0", "--steps", "10"];
-    let many = ["--seed", "0", "--steps", "1000"];
-    let one = ["--seed", "0", "--steps", "1"];
-    let three = ["--seed", "18446744073709551615", "--steps", "3"];
-    let twenty_digits = [
-        "--seed",
-        "00000000000000000000",
-        "--steps",
-        "00000000000000000010",
-    ];
-    let cases = [
-        (&ten, THREE_TOKENS, THREE_TOKENS_REPORT),
-        (&many, NO_TRANSITION, NO_TRANSITION_REPORT),
-        (&one, ENDLESS_LOOP, ENDLESS_LOOP_REPORT),
-        (&three, THREE_TOKENS, THREE_STEPS_REPORT),
-        (&twenty_digits, THREE_TOKENS, THREE_TOKENS_REPORT),
-    ];
-    for (words, document, report) in cases {
-        let (status, written) = outcome(rt.alloc(), &Call::new(words, document))?;
-        assert!(rt; status == Status::Done, "of {document}");
-        assert!(rt; written.as_slice() == report.as_bytes(), "of {document}");
+    let alloc = rt.alloc();
+    assert!(rt;
+        reports(
+            alloc,
+            "--seed 0 --steps 10",
+            THREE_TOKENS,
+            THREE_TOKENS_REPORT
+        )?
+    );
+    assert!(rt;
+        reports(
+            alloc,
+            "--seed 0 --steps 1000",
+            NO_TRANSITION,
+            NO_TRANSITION_REPORT
+        )?
+    );
+    assert!(rt;
+        reports(
+            alloc,
+            "--seed 0 --steps 1",
+            ENDLESS_LOOP,
+            ENDLESS_LOOP_REPORT
+        )?
+    );
+    let greatest = "--seed 18446744073709551615 --steps 3";
+    assert!(rt; reports(alloc, greatest, THREE_TOKENS, THREE_STEPS_REPORT)?);
+    let twenty_digits = "--seed 00000000000000000000 --steps 00000000000000000010";
+    assert!(rt; reports(alloc, twenty_digits, THREE_TOKENS, THREE_TOKENS_REPORT)?);
+    assert!(rt;
+        reports(
+            alloc,
+            "--seed 0 --steps 1000",
+            ESCAPED,
+            NO_TRANSITION_REPORT
+        )?
+    );
+    assert!(rt;
+        reports(
+            alloc,
+            "--seed 0 --steps 1000",
+            REPEATED,
+            NO_TRANSITION_REPORT
+        )?
+    );
+    Ok(())
+}
+
+// Each seed, and its first and second word modulo 2, worked out from the generator's definition.
+const SEEDS: [(u8, u8, u8); 10] = [
+    (0, 1, 1),
+    (1, 1, 1),
+    (2, 1, 1),
+    (3, 1, 0),
+    (4, 0, 0),
+    (5, 0, 1),
+    (6, 1, 0),
+    (7, 1, 1),
+    (8, 1, 1),
+    (9, 1, 0),
+];
+
+// Whether the report of so many steps under the seed has the line.
+fn tells(alloc: Global, seed: u8, steps: u8, document: &str, line: &str) -> Result<bool, Fail> {
+    let words = format!(in alloc; "--seed {seed} --steps {steps}")?;
+    let (_, written) = outcome(alloc, words.as_str(), document.as_bytes(), HONEST)?;
+    let text = String::from_utf8(written)?;
+    Ok(text.contains(line))
+}
+
+#[test]
+fn the_word_chooses_the_transition(rt: HostRuntime) -> Result<(), Fail> {
+    for (seed, first, _) in SEEDS {
+        let t0 = tells(
+            rt.alloc(),
+            seed,
+            1,
+            TWO_TRANSITIONS,
+            "\nocc 0 @0 Top/t0 {x=7}\n",
+        )?;
+        let t1 = tells(
+            rt.alloc(),
+            seed,
+            1,
+            TWO_TRANSITIONS,
+            "\nocc 0 @0 Top/t1 {x=7}\n",
+        )?;
+        assert_eq!(rt; t0, first == 0, "of seed {seed}");
+        assert_eq!(rt; t1, first == 1, "of seed {seed}");
     }
     Ok(())
 }
 
-// The first and the second word of each seed modulo 2, worked out from the generator's definition.
-const SEEDS: [(&str, u8, u8); 10] = [
-    ("0", 1, 1),
-    ("1", 1, 1),
-    ("2", 1, 1),
-    ("3", 1, 0),
-    ("4", 0, 0),
-    ("5", 0, 1),
-    ("6", 1, 0),
-    ("7", 1, 1),
-    ("8", 1, 1),
-    ("9", 1, 0),
-];
-
 #[test]
-fn the_word_chooses(rt: HostRuntime) -> Result<(), Fail> {
-    for (seed, first, second) in SEEDS {
-        let (_, written) = outcome(
+fn the_word_chooses_the_binding(rt: HostRuntime) -> Result<(), Fail> {
+    for (seed, _, second) in SEEDS {
+        let five = tells(
             rt.alloc(),
-            &Call::new(&["--seed", seed, "--steps", "1"], TWO_TRANSITIONS),
+            seed,
+            2,
+            TWO_BINDINGS,
+            "\nocc 1 @0 Top/t {x=5}\n",
         )?;
-        let text = String::from_utf8(written)?;
-        let wanted = if first == 0 {
-            "\nocc 0 @0 Top/t0 {x=7}\n"
-        } else {
-            "\nocc 0 @0 Top/t1 {x=7}\n"
-        };
-        assert!(rt; text.contains(wanted), "of seed {seed}");
-        let (_, written) = outcome(
+        let eight = tells(
             rt.alloc(),
-            &Call::new(&["--seed", seed, "--steps", "2"], TWO_BINDINGS),
+            seed,
+            2,
+            TWO_BINDINGS,
+            "\nocc 1 @0 Top/t {x=8}\n",
         )?;
-        let text = String::from_utf8(written)?;
-        let wanted = if second == 0 {
-            "\nocc 1 @0 Top/t {x=5}\n"
-        } else {
-            "\nocc 1 @0 Top/t {x=8}\n"
-        };
-        assert!(rt; text.contains(wanted), "of seed {seed}");
+        assert_eq!(rt; five, second == 0, "of seed {seed}");
+        assert_eq!(rt; eight, second == 1, "of seed {seed}");
     }
     Ok(())
+}
+
+// Whether the words are refused.
+fn refuses_words(alloc: Global, words: &str) -> Result<bool, Fail> {
+    writes(
+        alloc,
+        words,
+        THREE_TOKENS.as_bytes(),
+        HONEST,
+        Status::BadWords,
+        "error words\n",
+    )
 }
 
 #[test]
 fn words_are_refused(rt: HostRuntime) -> Result<(), Fail> {
-    let cases: [&[&str]; 10] = [
-        &[],
-        &["--seed", "1"],
-        &["--steps", "1", "--seed", "1"],
-        &["--seed", "18446744073709551616", "--steps", "1"],
-        &["--seed", "000000000000000000001", "--steps", "1"],
-        &["--seed", "1", "--steps", "0"],
-        &["--seed", "1", "--steps", "1000001"],
-        &["--seed", "", "--steps", "1"],
-        &["--seed", "+1", "--steps", "1"],
-        &["--seed", "1", "--steps", "1", ""],
-    ];
-    for words in cases {
-        let (status, written) = outcome(rt.alloc(), &Call::new(words, THREE_TOKENS))?;
-        assert!(rt; status == Status::BadWords, "of {words:?}");
-        assert!(rt;
-            written.as_slice() == "error words\n".as_bytes(),
-            "of {words:?}"
-        );
+    let lines =
+        "--seed 1\n--steps 1 --seed 1\n--seed 18446744073709551616 --steps 1\n--seed 000000000000000000001 --steps 1\n--seed 1 --steps 0\n--seed 1 --steps 1000001\n--seed  --steps 1\n--seed +1 --steps 1\n--seed 1 --steps 1 \n--seed=1 --steps=1\n\n";
+    for words in lines.lines() {
+        assert!(rt; refuses_words(rt.alloc(), words)?, "of {words:?}");
     }
     Ok(())
 }
+
+// Whether the document is refused with the line.
+fn refuses(alloc: Global, document: &[u8], line: &str) -> Result<bool, Fail> {
+    writes(
+        alloc,
+        "--seed 0 --steps 10",
+        document,
+        HONEST,
+        Status::BadDocument,
+        line,
+    )
+}
+
+const NOT_JSON: &str = "error document 1 not_json\n";
+
+const NOT_YET: &str = "error document 7 not_yet\n";
 
 #[test]
 fn documents_are_refused(rt: HostRuntime) -> Result<(), Fail> {
-    let words = ["--seed", "0", "--steps", "10"];
-    let half = &THREE_TOKENS.as_bytes()[..170];
-    let all_but_one = &THREE_TOKENS.as_bytes()[..339];
-    assert!(rt; THREE_TOKENS.len() == 340);
-    let not_json = "error document 1 not_json\n";
-    let not_yet = "error document 7 not_yet\n";
-    let cases: [(&[u8], &str); 12] = [
-        (b"", not_json),
-        (b"{", not_json),
-        (half, not_json),
-        (all_but_one, not_json),
-        (b"\xef\xbb\xbf{}", not_json),
-        (b"{\"\xff\":1}", not_json),
-        (b"{}\0", not_json),
-        (b"{\"version\":1e400}", not_json),
-        (b"[]", not_yet),
-        (b"{\"version\":1.0}", not_yet),
-        (b"{\"version\":-0}", not_yet),
-        (GUARDED.as_bytes(), not_yet),
-    ];
-    for (document, line) in cases {
-        let mut call = Call::new(&words, "");
-        call.document = document;
-        let (status, written) = outcome(rt.alloc(), &call)?;
-        assert!(rt; status == Status::BadDocument, "of {document:?}");
-        assert!(rt; written.as_slice() == line.as_bytes(), "of {document:?}");
-    }
+    let alloc = rt.alloc();
+    let whole = THREE_TOKENS.as_bytes();
+    assert!(rt; whole.len() == 340);
+    assert!(rt; refuses(alloc, &whole[..1], NOT_JSON)?);
+    assert!(rt; refuses(alloc, &whole[..170], NOT_JSON)?);
+    assert!(rt; refuses(alloc, &whole[..339], NOT_JSON)?);
+    assert!(rt; refuses(alloc, b"", NOT_JSON)?);
+    assert!(rt; refuses(alloc, b"\xef\xbb\xbf{}", NOT_JSON)?);
+    assert!(rt; refuses(alloc, b"{\"\xff\":1}", NOT_JSON)?);
+    assert!(rt; refuses(alloc, b"{}\0", NOT_JSON)?);
+    assert!(rt; refuses(alloc, b"{\"version\":1e400}", NOT_JSON)?);
+    assert!(rt; refuses(alloc, b"[]", NOT_YET)?);
+    assert!(rt; refuses(alloc, b"{\"version\":1.0}", NOT_YET)?);
+    assert!(rt; refuses(alloc, b"{\"version\":-0}", NOT_YET)?);
+    assert!(rt; refuses(alloc, GUARDED.as_bytes(), NOT_YET)?);
     Ok(())
 }
 
-// Brackets to this depth, closed or not.
-fn nested(alloc: Global, depth: usize, closed: bool) -> Result<Vec<u8>, Fail> {
+// Opening brackets to this depth, and as many closing ones.
+fn nested(alloc: Global, opening: usize, closing: usize) -> Result<Vec<u8>, Fail> {
     let mut bytes = Vec::new(alloc);
-    for _ in 0..depth {
+    for _ in 0..opening {
         bytes.push(b'[')?;
     }
-    if closed {
-        for _ in 0..depth {
-            bytes.push(b']')?;
-        }
+    for _ in 0..closing {
+        bytes.push(b']')?;
     }
     Ok(bytes)
 }
 
 #[test]
-fn brackets_are_refused(rt: HostRuntime) -> Result<(), Fail> {
-    let words = ["--seed", "0", "--steps", "10"];
-    let not_json = "error document 1 not_json\n";
-    let not_yet = "error document 7 not_yet\n";
-    for (depth, closed, line) in [
-        (127, true, not_yet),
-        (128, true, not_json),
-        (200, true, not_json),
-        (1000, false, not_json),
-    ] {
-        let bytes = nested(rt.alloc(), depth, closed)?;
-        let mut call = Call::new(&words, "");
-        call.document = bytes.as_slice();
-        let (status, written) = outcome(rt.alloc(), &call)?;
-        assert!(rt; status == Status::BadDocument, "of {depth}");
-        assert!(rt; written.as_slice() == line.as_bytes(), "of {depth}");
-    }
-    Ok(())
-}
-
-#[test]
-fn escapes_and_repeated_keys_are_read(rt: HostRuntime) -> Result<(), Fail> {
-    let words = ["--seed", "0", "--steps", "1000"];
-    for document in [ESCAPED, REPEATED] {
-        let (status, written) = outcome(rt.alloc(), &Call::new(&words, document))?;
-        assert!(rt; status == Status::Done, "of {document}");
-        assert!(rt;
-            written.as_slice() == NO_TRANSITION_REPORT.as_bytes(),
-            "of {document}"
-        );
-    }
+fn deep_brackets_are_no_json(rt: HostRuntime) -> Result<(), Fail> {
+    let alloc = rt.alloc();
+    assert!(rt; refuses(alloc, nested(alloc, 127, 127)?.as_slice(), NOT_YET)?);
+    assert!(rt; refuses(alloc, nested(alloc, 128, 128)?.as_slice(), NOT_JSON)?);
+    assert!(rt; refuses(alloc, nested(alloc, 200, 200)?.as_slice(), NOT_JSON)?);
+    assert!(rt; refuses(alloc, nested(alloc, 1000, 0)?.as_slice(), NOT_JSON)?);
     Ok(())
 }
 
 #[test]
 fn faults_and_limits(rt: HostRuntime) -> Result<(), Fail> {
-    let words = ["--seed", "0", "--steps", "10"];
+    let alloc = rt.alloc();
+    let words = "--seed 0 --steps 10";
+    let document = THREE_TOKENS.as_bytes();
 
-    let mut call = Call::new(&words, THREE_TOKENS);
-    call.read_piece = 10;
-    call.failing_read = Some(1);
-    let (status, written) = outcome(rt.alloc(), &call)?;
-    assert!(rt; status == Status::ReadFault);
-    assert!(rt; written.as_slice() == "error read\n".as_bytes());
+    let mut outside = HONEST;
+    outside.read_piece = 10;
+    outside.failing_read = Some(1);
+    assert!(rt;
+        writes(
+            alloc,
+            words,
+            document,
+            outside,
+            Status::ReadFault,
+            "error read\n"
+        )?
+    );
 
-    let mut call = Call::new(&words, THREE_TOKENS);
-    call.write_piece = 5;
-    call.failing_write = Some(1);
-    let (status, written) = outcome(rt.alloc(), &call)?;
-    assert!(rt; status == Status::WriteFault);
-    assert!(rt; written.as_slice() == "repor".as_bytes());
+    let mut outside = HONEST;
+    outside.write_piece = 5;
+    outside.failing_write = Some(1);
+    assert!(rt; writes(alloc, words, document, outside, Status::WriteFault, "repor")?);
 
-    let mut call = Call::new(&words, THREE_TOKENS);
-    call.write_piece = 5;
-    call.room = 6;
-    let (status, written) = outcome(rt.alloc(), &call)?;
-    assert!(rt; status == Status::WriteFault);
-    assert!(rt; written.as_slice() == "report".as_bytes());
+    let mut outside = HONEST;
+    outside.write_piece = 5;
+    outside.room = 6;
+    assert!(rt;
+        writes(
+            alloc,
+            words,
+            document,
+            outside,
+            Status::WriteFault,
+            "report"
+        )?
+    );
 
-    let spaces = vec![in rt.alloc(); b' '; 16_777_217]?;
-    let mut call = Call::new(&words, "");
-    call.document = spaces.as_slice();
-    call.read_piece = 65536;
-    let (status, written) = outcome(rt.alloc(), &call)?;
-    assert!(rt; status == Status::TooLong);
-    assert!(rt; written.as_slice() == "error long\n".as_bytes());
+    let spaces = vec![in alloc; b' '; 16_777_217]?;
+    let mut outside = HONEST;
+    outside.read_piece = 65536;
+    let long = spaces.as_slice();
+    assert!(rt; writes(alloc, words, long, outside, Status::TooLong, "error long\n")?);
     Ok(())
 }

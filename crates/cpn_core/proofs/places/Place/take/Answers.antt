@@ -8,13 +8,11 @@ use Rattle.cpn_core.specs.Tokens.{tokens_view}
 use Rattle.cpn_core.proofs.Placing.{view_remove}
 use Rattle.cpn_core.proofs.places.Place.take.Goals as goal
 
-pub returns-in-Some : goal.returns-in-Some
-returns-in-Some c = record {
-  taken =
-      rw (c.remove.ensures.items, ← c.self.view_is)
-      (view_remove c.self.inside.tokens.items c.in-Some.at
-      ∙ sym (subst (λ (xs : List Token). without_token (value_view c.args.value.now) c.args.latest (tokens_view xs) ≡ remove (tokens_view xs) c.in-Some.at) c.as_slice.ensures.value c.in-Some.ensures.found.1));
-}
+pub returns-in-Some-clause-taken : goal.returns-in-Some-clause-taken
+returns-in-Some-clause-taken c =
+    rw (c.remove.ensures.items, ← c.self.view_is)
+    (view_remove c.self.inside.tokens.items c.in-Some.at
+    ∙ sym (subst (λ (xs : List Token). without_token (value_view c.args.value.now) c.args.latest (tokens_view xs) ≡ remove (tokens_view xs) c.in-Some.at) c.as_slice.ensures.value c.in-Some.ensures.found.1))
 
 pub invariant_of-self : goal.invariant_of-self
 invariant_of-self c =
