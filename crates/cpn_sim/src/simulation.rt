@@ -26,6 +26,9 @@ pub fn simulate<S: Source, K: Sink>(
     // The report was written: that of a legal run of the document, which was read to its end.
     ensures done { result ≡ Status.Done → IfSome (S.left source.old) (λ bytes.
         (report : List ℕ) × IsReport bytes (map string_bytes words.now) report × Appends (K.held sink.old) (K.held sink.new) report) }
+    // No other report could have come: the bytes and the words have just this one.
+    ensures only { result ≡ Status.Done → IfSome (S.left source.old) (λ bytes.
+        (other : List ℕ) → IsReport bytes (map string_bytes words.now) other → Appends (K.held sink.old) (K.held sink.new) other) }
     ensures read_to_end { result ≡ Status.Done → IfSome (S.left source.old) (λ _. S.left source.new ≡ Some []) }
 
     // Each other status has its cause.

@@ -1,11 +1,18 @@
 -- What a refusal gives, by its cause.
-use Rattle.std.proofs.Common.{◌≡◌, inl, inr, ⊎_elim, refl, sym, ap, ◌∙◌, rules}
+use Rattle.std.proofs.Common.{◌≡◌, ℕ, List, inl, inr, ⊎_elim, refl, sym, ap, ◌∙◌, subst, rules}
+use Rattle.std.specs.Io.KnownBytes.{Appends}
 use Rattle.cpn_io.specs.Outside.{Rose}
 use Rattle.cpn_sim.specs.Causes.{error_line, status_of}
 use Rattle.cpn_sim.specs.declared.refusals.Refusal.TheVariants as refusals
 use Rattle.cpn_sim.specs.declared.statuses.Status.TheVariants as statuses
 use Rattle.cpn_sim.proofs.Refused.{IsRefused, refused_words, refused_long, refused_document, refused_complete}
+use Rattle.cpn_sim.proofs.OneReport.{of_every_report}
 use Rattle.cpn_sim.proofs.simulation.simulate.Goals as goal
+
+pub returns-in-Ok-write_all-clause-only : goal.returns-in-Ok-write_all-clause-only
+returns-in-Ok-write_all-clause-only g c = λ _.
+    let P : List ℕ → Type 0 = λ text. Appends (g.K.Sink.held c.args.sink.now) (g.K.Sink.held c.write_all.new.sink) text in
+    of_every_report _ (g.S.Source.left c.args.source.now) _ P c.in-Ok.ensures.report (subst P c.as_bytes.ensures.value c.in-Ok-write_all.ensures.ok)
 
 pub returns-clause-write_part : goal.returns-clause-write_part
 returns-clause-write_part g c = λ is. (error_line c.in-Err.refusal, inr (c.in-Err.refusal, c.in-Err.ensures.cause, refl), c.refuse.ensures.part is)
