@@ -7,6 +7,8 @@
 
 mod answers;
 mod options;
+#[cfg(test)]
+mod random_nets;
 mod refusals;
 mod simulation;
 mod statuses;
