@@ -1,0 +1,13 @@
+//! The lexer of the inscription language: from the bytes of a text to its tokens, or to the place of the
+//! first byte that breaks a rule.
+//!
+//! The crate knows no grammar: which tokens may follow one another is not its matter.
+#![tactic(auto)]
+
+mod refusals;
+mod symbols;
+mod tokens;
+
+pub use refusals::LexError;
+pub use symbols::Symbol;
+pub use tokens::{Kind, Token, Tokens};
