@@ -1,0 +1,4 @@
+pub mod Finding
+pub mod Once
+pub mod Shapes
+pub mod Strings

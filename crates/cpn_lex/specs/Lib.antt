@@ -1,1 +1,6 @@
+pub mod Lexis
+pub mod Lookup
+pub mod Refusals
+pub mod Symbols
 pub mod Token
+pub mod Tokens

@@ -4,9 +4,12 @@
 //! The crate knows no grammar: which tokens may follow one another is not its matter.
 #![tactic(auto)]
 
+mod bytes;
 mod refusals;
+mod signs;
 mod symbols;
 mod tokens;
+mod words;
 
 pub use refusals::LexError;
 pub use symbols::Symbol;
