@@ -1,16 +1,17 @@
 -- A text has at most one token at its front.
-use Rattle.std.proofs.Common.{◌≡◌, ◌≢◌, ℕ, ℤ, pos, neg_ℤ, Bool, true, false, ◌&&◌, nat_lt, cond, if◌then◌else◌, List, [], ◌∷◌, ◌++◌, length, Option, Some, None, ◌⊎◌, inl, inr, refl, sym, ap, ◌∙◌, subst, arith, append_assoc}
+use Rattle.std.proofs.Common.{◌≡◌, ℕ, pos, neg_ℤ, Bool, true, false, ◌&&◌, if◌then◌else◌, List, [], ◌∷◌, ◌++◌, Option, Some, None, ◌⊎◌, inl, inr, refl, sym, ap, ◌∙◌, subst, arith}
 use Rattle.std.specs.Prelude.{option_map}
 use Rattle.std.proofs.lemmas.Bool.Decides.{nat_tests}
-use Rattle.std.specs.List.{list_all}
 use Rattle.std.specs.Str.Parse.{digits_value}
 use Rattle.cpn_lex.specs.declared.symbols.Symbol.{Symbol}
 use Rattle.cpn_lex.specs.declared.symbols.Symbol.TheVariants.{Colset}
 use Rattle.cpn_lex.specs.Symbols.{spelling}
-use Rattle.cpn_lex.specs.Token.{PlainKind, name, number, text, symbol}
-use Rattle.cpn_lex.specs.Lexis.{is_blank, is_digit, is_letter, is_name_byte, is_tilde, is_quote, IsName, IsNumber, not_negative, negative, Closes, Spells, a_name, a_number, a_string, a_symbol, IsLongest, IsToken}
-use Rattle.cpn_lex.proofs.Shapes.{begins_with, symbol_of, new_name, after_quote, not_empty}
-use Rattle.cpn_lex.proofs.Strings.{closes_once}
+use Rattle.cpn_lex.specs.Token.{PlainKind, number, text, symbol}
+use Rattle.cpn_lex.specs.Lexis.{is_digit, is_letter, is_tilde, is_quote, not_negative, negative, Spells, a_name, a_number, a_string, a_symbol, IsToken}
+use Rattle.cpn_lex.specs.Lookup.{symbol_in}
+use Rattle.cpn_lex.specs.Fronts.{begins_with, named}
+use Rattle.cpn_lex.proofs.Shapes.{symbol_of, new_name, after_quote, not_empty}
+use Rattle.cpn_lex.proofs.Closing.{closes_once}
 
 -- One text is the front of the other, or they are the same.
 compared : (a b c d : List ℕ) → a ++ b ≡ c ++ d → ((a ≡ c) × (b ≡ d)) ⊎ (((x : ℕ) × (xs : List ℕ) × (c ≡ a ++ x ∷ xs) × (b ≡ x ∷ xs ++ d)) ⊎ ((x : ℕ) × (xs : List ℕ) × (a ≡ c ++ x ∷ xs) × (d ≡ x ∷ xs ++ b)))
@@ -21,25 +22,25 @@ compared (x ∷ a) b (y ∷ c) d e =
     let same : x ≡ y = cc in
     let tails : a ++ b ≡ c ++ d = cc in
     elim (compared a b c d tails) [
-      inl h ↦ inl (cc (h.0), h.1)
-    | inr h ↦ elim h [
-        inl k ↦ inr (inl (k.0, k.1, cc (k.2), k.3))
-      | inr k ↦ inr (inr (k.0, k.1, cc (k.2), k.3)) ] ]
+      | inl h ↦ inl (cc (h.0), h.1)
+      | inr h ↦ elim h [
+        | inl k ↦ inr (inl (k.0, k.1, cc (k.2), k.3))
+        | inr k ↦ inr (inr (k.0, k.1, cc (k.2), k.3))
+      ]
+    ]
 
 -- at most one front of a text is longest
 pub longest_once : (front rest front' rest' : List ℕ) (kind kind' : PlainKind) → IsToken front rest kind → IsToken front' rest' kind' → front ++ rest ≡ front' ++ rest' → (front ≡ front') × (rest ≡ rest')
 longest_once front rest front' rest' kind kind' h k e =
     elim (compared front rest front' rest' e) [
-      inl s ↦ s
-    | inr m ↦ elim m [
-        inl l ↦ absurd (h.longest l.0 l.1 rest' kind' l.3 (subst (λ bytes. Spells bytes kind') l.2 k.spelled))
-      | inr l ↦ absurd (k.longest l.0 l.1 rest kind l.3 (subst (λ bytes. Spells bytes kind) l.2 h.spelled)) ] ]
+      | inl s ↦ s
+      | inr m ↦ elim m [
+        | inl l ↦ absurd (h.longest l.0 l.1 rest' kind' l.3 (subst (λ bytes. Spells bytes kind') l.2 k.spelled))
+        | inr l ↦ absurd (k.longest l.0 l.1 rest kind l.3 (subst (λ bytes. Spells bytes kind) l.2 h.spelled))
+      ]
+    ]
 
 -- ---- what it is
-
-abbrev named : Option Symbol → List ℕ → PlainKind
-named None bytes = name bytes
-named (Some s) bytes = symbol s
 
 -- what bytes spell that don't begin with a quote
 abbrev kind_of : List ℕ → Option PlainKind
@@ -51,6 +52,7 @@ kind_of (first ∷ rest) =
     else option_map symbol (symbol_of (first ∷ rest))))
 
 kind_of-spelling : (s : Symbol) → kind_of (spelling s) ≡ Some (symbol s)
+unfolding symbol_in
 kind_of-spelling Colset = refl
 kind_of-spelling s = refl
 

@@ -1,4 +1,8 @@
+pub mod Closing
 pub mod Finding
+pub mod Going
+pub mod Inside
+pub mod Longest
 pub mod Once
+pub mod Runs
 pub mod Shapes
-pub mod Strings

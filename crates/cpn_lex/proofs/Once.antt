@@ -1,15 +1,15 @@
 -- A text has one list of tokens, or breaks one rule first, and not both.
-use Rattle.std.proofs.Common.{◌≡◌, ℕ, ◌+◌, ℤ, true, false, List, [], ◌∷◌, ◌++◌, length, ◌⊎◌, inl, inr, refl, sym, ap, ◌∙◌, subst, arith}
+use Rattle.std.proofs.Common.{◌≡◌, ℕ, ◌+◌, ℤ, true, List, [], ◌∷◌, ◌++◌, length, ◌⊎◌, inl, inr, refl, sym, subst, arith}
 use Rattle.std.proofs.lemmas.Bool.Decides.{nat_tests}
 use Rattle.cpn_lex.specs.declared.refusals.LexError.{LexError}
 use Rattle.cpn_lex.specs.declared.refusals.LexError.TheVariants.{NumberTooLarge}
-use Rattle.cpn_lex.specs.Token.{PlainKind, PlainToken, number, text}
-use Rattle.cpn_lex.specs.Lexis.{is_blank, is_quote, Spells, IsToken, Fits}
+use Rattle.cpn_lex.specs.Token.{PlainKind, PlainToken, number}
+use Rattle.cpn_lex.specs.Lexis.{is_blank, is_quote, IsToken, Fits}
 use Rattle.cpn_lex.specs.Tokens.{Goes, stops, blank, token, Lexes}
 use Rattle.cpn_lex.specs.Refusals.{BreaksAt, no_token, no_string, too_large, Breaks}
 use Rattle.cpn_lex.proofs.Shapes.{after_blank, after_quote, not_empty}
-use Rattle.cpn_lex.proofs.Strings.{closed_or_broken, broken_once}
-use Rattle.cpn_lex.proofs.Finding.{longest_once, spells_once, token_once}
+use Rattle.cpn_lex.proofs.Closing.{closed_or_broken, broken_once}
+use Rattle.cpn_lex.proofs.Finding.{token_once}
 
 -- ---- at one place
 
@@ -97,24 +97,27 @@ pub goes_once : (at : ℕ) (bytes : List ℕ) (tokens : List PlainToken) (end : 
     (tokens' : List PlainToken) (end' : ℕ) (rest' : List ℕ) → Goes at bytes tokens' end' rest' → IsOver end' rest' → (tokens ≡ tokens') × (end ≡ end') × (rest ≡ rest')
 goes_once at bytes tokens end rest (stops at' bytes') last tokens' end' rest' k last' =
     elim (goes_on at bytes tokens' end' rest' k) [
-      over t e r ↦ (sym t, sym e, sym r)
-    | by_blank byte others e b h ↦ absurd (blank_goes_on at byte others (subst (IsOver at) e last) b)
-    | by_token front others kind later e t fits m h ↦ absurd (token_goes_on at bytes front others kind last e t fits) ]
+      | over t e r ↦ (sym t, sym e, sym r)
+      | by_blank byte others e b h ↦ absurd (blank_goes_on at byte others (subst (IsOver at) e last) b)
+      | by_token front others kind later e t fits m h ↦ absurd (token_goes_on at bytes front others kind last e t fits)
+    ]
 goes_once at bytes tokens end rest (blank at' byte others tokens'' end'' rest'' b h) last tokens' end' rest' k last' =
     elim (goes_on at (byte ∷ others) tokens' end' rest' k) [
-      over t e r ↦ absurd (blank_goes_on at byte others (rw (← e, ← r) last') b)
-    | by_blank byte' others' e b' h' ↦
-        let tails : others' ≡ others = cc in
-        goes_once (at + 1) others tokens end rest h last tokens' end' rest' (rw tails at h') last'
-    | by_token front others' kind later e t fits m h' ↦ absurd (no_blank byte others front others' kind e t b) ]
+      | over t e r ↦ absurd (blank_goes_on at byte others (rw (← e, ← r) last') b)
+      | by_blank byte' others' e b' h' ↦
+          let tails : others' ≡ others = cc in
+          goes_once (at + 1) others tokens end rest h last tokens' end' rest' (rw tails at h') last'
+      | by_token front others' kind later e t fits m h' ↦ absurd (no_blank byte others front others' kind e t b)
+    ]
 goes_once at bytes tokens end rest (token at' front others kind later end'' rest'' t fits h) last tokens' end' rest' k last' =
     elim (goes_on at (front ++ others) tokens' end' rest' k) [
-      over u e r ↦ absurd (token_goes_on at (front ++ others) front others kind (rw (← e, ← r) last') refl t fits)
-    | by_blank byte' others' e b' h' ↦ absurd (no_blank byte' others' front others kind (sym e) t b')
-    | by_token front' others' kind' later' e t' fits' m h' ↦
-        let same = token_once front' others' front others kind' kind t' t (sym e) in
-        let tail = goes_once (at + length front) others later end rest h last later' end' rest' (rw (same.0, same.1) at h') last' in
-        (rw (m, same.2, ← tail.0) refl, tail.1, tail.2) ]
+      | over u e r ↦ absurd (token_goes_on at (front ++ others) front others kind (rw (← e, ← r) last') refl t fits)
+      | by_blank byte' others' e b' h' ↦ absurd (no_blank byte' others' front others kind (sym e) t b')
+      | by_token front' others' kind' later' e t' fits' m h' ↦
+          let same = token_once front' others' front others kind' kind t' t (sym e) in
+          let tail = goes_once (at + length front) others later end rest h last later' end' rest' (rw (same.0, same.1) at h') last' in
+          (rw (m, same.2, ← tail.0) refl, tail.1, tail.2)
+    ]
 
 -- A text has one list of tokens.
 pub lexes_once : (bytes : List ℕ) (tokens tokens' : List PlainToken) → Lexes bytes tokens → Lexes bytes tokens' → tokens ≡ tokens'

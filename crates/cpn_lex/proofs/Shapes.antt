@@ -1,21 +1,18 @@
 -- What the first byte of a token says of its other bytes.
-use Rattle.std.proofs.Common.{◌≡◌, ◌≢◌, ℕ, ◌≤◌, Bool, true, false, not, ◌&&◌, ◌||◌, ◌==◌, cond, if◌then◌else◌, nat_le, List, [], ◌∷◌, ◌++◌, length, Option, Some, None, ◌⊎◌, inl, inr, refl, sym, ap, ◌∙◌, subst, arith}
+use Rattle.std.proofs.Common.{◌≡◌, ◌≢◌, ℕ, ◌≤◌, Bool, true, false, not, ◌&&◌, ◌||◌, cond, if◌then◌else◌, nat_le, List, [], ◌∷◌, length, Option, Some, None, ◌⊎◌, inl, inr, refl, arith}
 use Rattle.std.proofs.lemmas.Bool.Decides.{nat_tests}
 use Rattle.std.proofs.lemmas.Slice.Eq.{bytes_eq-Decides}
-use Rattle.std.specs.List.{list_all, find}
+use Rattle.std.specs.List.{list_all}
 use Rattle.std.specs.Str.{bytes_eq}
 use Rattle.cpn_lex.specs.declared.symbols.Symbol.{Symbol}
 use Rattle.cpn_lex.specs.declared.symbols.Symbol.TheVariants.{Colset}
 use Rattle.cpn_lex.specs.Symbols.{spelling, signs, words}
-use Rattle.cpn_lex.specs.Token.{PlainKind, name, number, text, symbol}
-use Rattle.cpn_lex.specs.Lexis.{is_blank, is_digit, is_letter, is_name_byte, is_tilde, is_quote, IsNumber, not_negative, negative, Closes, Spells, a_name, a_number, a_string, a_symbol}
+use Rattle.cpn_lex.specs.Token.{PlainKind, text}
+use Rattle.cpn_lex.specs.Lexis.{is_blank, is_digit, is_letter, is_name_byte, is_tilde, is_quote, not_negative, negative, Closes, Spells, a_name, a_number, a_string, a_symbol}
 use Rattle.cpn_lex.specs.Lookup.{symbol_in}
+use Rattle.cpn_lex.specs.Fronts.{begins_with}
 
 -- ---- the spellings of the symbols, one by one
-
-abbrev pub begins_with : (ℕ → Bool) → List ℕ → Bool
-begins_with p [] = false
-begins_with p (first ∷ rest) = p first
 
 -- the spelling of a word is all letters; a sign has one byte or two, and no first byte of another token
 abbrev pub is_spelling : List ℕ → Bool
@@ -33,6 +30,7 @@ abbrev pub symbol_of : List ℕ → Option Symbol
 symbol_of bytes = if begins_with is_letter bytes then symbol_in words bytes else symbol_in signs bytes
 
 pub symbol_of-spelling : (s : Symbol) → symbol_of (spelling s) ≡ Some s
+unfolding symbol_in
 symbol_of-spelling Colset = refl
 symbol_of-spelling s = refl
 
@@ -42,10 +40,11 @@ chosen false t s others e = inr (refl, e)
 
 -- what is found by its spelling is spelled so
 pub symbol_in-spells : (symbols : List Symbol) (bytes : List ℕ) (s : Symbol) → symbol_in symbols bytes ≡ Some s → spelling s ≡ bytes
+unfolding symbol_in
 symbol_in-spells [] bytes s e = cc
 symbol_in-spells (t ∷ symbols) bytes s e =
     elim (chosen (bytes_eq (spelling t) bytes) t s (symbol_in symbols bytes) e)
-      [ inl h ↦ rw (← h.1) ((bytes_eq-Decides (spelling t) bytes).0 h.0) | inr h ↦ symbol_in-spells symbols bytes s h.1 ]
+    [ inl h ↦ rw (← h.1) ((bytes_eq-Decides (spelling t) bytes).0 h.0) | inr h ↦ symbol_in-spells symbols bytes s h.1 ]
 
 -- ---- bytes of one kind are none of another
 

@@ -1,3 +1,4 @@
+pub mod Fronts
 pub mod Lexis
 pub mod Lookup
 pub mod Refusals

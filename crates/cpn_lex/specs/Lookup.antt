@@ -6,5 +6,5 @@ use Rattle.cpn_lex.specs.declared.symbols.Symbol.{Symbol}
 use Rattle.cpn_lex.specs.Symbols.{spelling}
 
 -- the symbol among these that the bytes spell
-abbrev pub symbol_in : List Symbol → List ℕ → Option Symbol
+unfoldable pub symbol_in : List Symbol → List ℕ → Option Symbol
 symbol_in symbols bytes = find (λ s. bytes_eq (spelling s) bytes) symbols

@@ -7,10 +7,10 @@ use Rattle.cpn_lex.specs.Lexis.{is_blank, IsToken, Fits}
 pub data Goes : ℕ → List ℕ → List PlainToken → ℕ → List ℕ → Type 0 where
   stops : (at : ℕ) (text : List ℕ) → Goes at text [] at text
   blank : (at byte : ℕ) (text : List ℕ) (tokens : List PlainToken) (end : ℕ) (rest : List ℕ) →
-    is_blank byte ≡ true → Goes (at + 1) text tokens end rest → Goes at (byte ∷ text) tokens end rest
+      is_blank byte ≡ true → Goes (at + 1) text tokens end rest → Goes at (byte ∷ text) tokens end rest
   token : (at : ℕ) (front text : List ℕ) (kind : PlainKind) (tokens : List PlainToken) (end : ℕ) (rest : List ℕ) →
-    IsToken front text kind → Fits kind → Goes (at + length front) text tokens end rest →
-    Goes at (front ++ text) (record { kind = kind; at = at } ∷ tokens) end rest
+      IsToken front text kind → Fits kind → Goes (at + length front) text tokens end rest →
+      Goes at (front ++ text) (record { kind = kind; at = at } ∷ tokens) end rest
 
 -- Tokens: the text is these tokens to its end.
 abbrev pub Lexes : List ℕ → List PlainToken → Type 0

@@ -5,12 +5,18 @@
 #![tactic(auto)]
 
 mod bytes;
+mod fronts;
+mod lexing;
+mod names;
+mod numbers;
 mod refusals;
 mod signs;
+mod strings;
 mod symbols;
 mod tokens;
 mod words;
 
+pub use lexing::lex;
 pub use refusals::LexError;
 pub use symbols::Symbol;
 pub use tokens::{Kind, Token, Tokens};

@@ -7,6 +7,7 @@ ghost use Rattle.cpn_lex.specs.Lookup.{symbol_in};
 use crate::symbols::Symbol;
 
 /// The reserved word that a name is, if it is one.
+#[tactic(auto, unfolding(crate::specs::Lookup::symbol_in))]
 pub(crate) fn word_of(name: &str) -> Option<Symbol>
     ensures { result ≡ symbol_in words name.now }
 {

@@ -1,0 +1,36 @@
+-- A text has one list of tokens, or breaks one rule first, and not both: so what was answered is it.
+use Rattle.std.proofs.Common.{◌≡◌, ◌⊎◌, inl, inr, refl, ap, List, ℕ, Vec, Global}
+use Rattle.std.specs.Prelude.{Result, Ok, Err, IfOk, IfErr, IsErrOf, MatchResult}
+use Rattle.cpn_lex.specs.declared.tokens.Token.{Token}
+use Rattle.cpn_lex.specs.declared.refusals.LexError.{LexError}
+use Rattle.cpn_lex.specs.declared.refusals.LexError.TheVariants.{Memory, TooLong, BadByte, OpenString, NumberTooLarge}
+use Rattle.cpn_lex.specs.Token.{PlainToken, tokens_view}
+use Rattle.cpn_lex.specs.Tokens.{Lexes}
+use Rattle.cpn_lex.specs.Refusals.{Breaks}
+use Rattle.cpn_lex.specs.Fronts.{Says}
+use Rattle.cpn_lex.proofs.Once.{lexes_once, lexes_or_breaks, breaks_once}
+use Rattle.cpn_lex.proofs.lexing.lex.Goals as goal
+
+only_tokens : (bytes : List ℕ) (r : Result (Vec Token Global) LexError) → IfOk r (λ found. Lexes bytes (tokens_view found.items)) → IfErr r (Says (Breaks bytes)) →
+    (tokens : List PlainToken) → Lexes bytes tokens → MatchResult r (λ found. tokens_view found.items ≡ tokens) (λ e. e ≡ Memory)
+only_tokens bytes (Ok found) ok err tokens h = lexes_once bytes (tokens_view found.items) tokens ok h
+only_tokens bytes (Err Memory) ok err tokens h = refl
+only_tokens bytes (Err TooLong) ok err tokens h = absurd err
+only_tokens bytes (Err (BadByte at)) ok err tokens h = absurd (lexes_or_breaks bytes tokens _ h err)
+only_tokens bytes (Err (OpenString at)) ok err tokens h = absurd (lexes_or_breaks bytes tokens _ h err)
+only_tokens bytes (Err (NumberTooLarge at)) ok err tokens h = absurd (lexes_or_breaks bytes tokens _ h err)
+
+only_fault : (bytes : List ℕ) (r : Result (Vec Token Global) LexError) → IfOk r (λ found. Lexes bytes (tokens_view found.items)) → IfErr r (Says (Breaks bytes)) →
+    (fault : LexError) → Breaks bytes fault → IsErrOf r fault ⊎ IsErrOf r Memory
+only_fault bytes (Ok found) ok err fault h = absurd (lexes_or_breaks bytes (tokens_view found.items) fault ok h)
+only_fault bytes (Err Memory) ok err fault h = inr refl
+only_fault bytes (Err TooLong) ok err fault h = absurd err
+only_fault bytes (Err (BadByte at)) ok err fault h = inl (ap Err (breaks_once bytes _ fault err h))
+only_fault bytes (Err (OpenString at)) ok err fault h = inl (ap Err (breaks_once bytes _ fault err h))
+only_fault bytes (Err (NumberTooLarge at)) ok err fault h = inl (ap Err (breaks_once bytes _ fault err h))
+
+pub returns-clause-complete : goal.returns-clause-complete
+returns-clause-complete c tokens short h = only_tokens c.args.text.now c.tokens_of.result c.tokens_of.ensures.ok c.tokens_of.ensures.err tokens h
+
+pub returns-clause-first : goal.returns-clause-first
+returns-clause-first c fault short h = only_fault c.args.text.now c.tokens_of.result c.tokens_of.ensures.ok c.tokens_of.ensures.err fault h
