@@ -32,5 +32,23 @@ only_fault bytes (Err (NumberTooLarge at)) ok err fault h = inl (ap Err (breaks_
 pub returns-clause-complete : goal.returns-clause-complete
 returns-clause-complete c tokens short h = only_tokens c.args.text.now c.tokens_of.result c.tokens_of.ensures.ok c.tokens_of.ensures.err tokens h
 
-pub returns-clause-first : goal.returns-clause-first
-returns-clause-first c fault short h = only_fault c.args.text.now c.tokens_of.result c.tokens_of.ensures.ok c.tokens_of.ensures.err fault h
+pub returns-clause-refused : goal.returns-clause-refused
+returns-clause-refused c fault short h = only_fault c.args.text.now c.tokens_of.result c.tokens_of.ensures.ok c.tokens_of.ensures.err fault h
+
+pub returns-clause-one_list : goal.returns-clause-one_list
+returns-clause-one_list c = lexes_once c.args.text.now
+
+pub returns-clause-one_rule : goal.returns-clause-one_rule
+returns-clause-one_rule c = breaks_once c.args.text.now
+
+pub returns-clause-not_both : goal.returns-clause-not_both
+returns-clause-not_both c = lexes_or_breaks c.args.text.now
+
+pub returns-then-text-gt-MOST_BYTES-clause-one_list : goal.returns-then-text-gt-MOST_BYTES-clause-one_list
+returns-then-text-gt-MOST_BYTES-clause-one_list c = lexes_once c.args.text.now
+
+pub returns-then-text-gt-MOST_BYTES-clause-one_rule : goal.returns-then-text-gt-MOST_BYTES-clause-one_rule
+returns-then-text-gt-MOST_BYTES-clause-one_rule c = breaks_once c.args.text.now
+
+pub returns-then-text-gt-MOST_BYTES-clause-not_both : goal.returns-then-text-gt-MOST_BYTES-clause-not_both
+returns-then-text-gt-MOST_BYTES-clause-not_both c = lexes_or_breaks c.args.text.now
