@@ -4,5 +4,6 @@ pub mod Going
 pub mod Inside
 pub mod Longest
 pub mod Once
+mod Rows
 pub mod Runs
 pub mod Shapes

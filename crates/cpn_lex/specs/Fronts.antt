@@ -32,7 +32,7 @@ abbrev pub begins_number : List ℕ → Bool
 begins_number [] = false
 begins_number (first ∷ rest) = is_digit first || (is_tilde first && begins_with is_digit rest)
 
--- what a name means that is this word, or no word
+-- what a name is: the reserved word that was found, or a name where none was
 abbrev pub named : Option Symbol → List ℕ → PlainKind
 named None bytes = name bytes
 named (Some word) bytes = symbol word
