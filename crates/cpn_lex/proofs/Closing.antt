@@ -11,7 +11,7 @@ use Rattle.cpn_lex.specs.Refusals.{BreaksString, ends, ends_escaped, bad, bad_es
 -- a byte in front of what was read
 abbrev with_byte : ℕ → Result (List ℕ × List ℕ) LexError → Result (List ℕ × List ℕ) LexError
 with_byte byte (Ok read) = Ok (byte ∷ read.0, read.1)
-with_byte byte (Err fault) = Err fault
+with_byte byte (Err refusal) = Err refusal
 
 -- a meaning, and what follows
 abbrev read_as : List ℕ → List ℕ → Result (List ℕ × List ℕ) LexError
@@ -47,17 +47,17 @@ reading_closed opened at xs meant rest (escaped backslash byte ys m b e h) =
     let f = reading_closed opened (at + 1 + 1) ys m rest h in
     rw (backslash_is backslash b, b, e, f) refl
 
-reading_broken : (opened at : ℕ) (xs : List ℕ) (fault : LexError) → BreaksString opened at xs fault → reading opened at false xs ≡ Err fault
-reading_broken opened at xs fault (ends at') = refl
-reading_broken opened at xs fault (ends_escaped at' backslash b) = rw (backslash_is backslash b, b) refl
-reading_broken opened at xs fault (bad at' byte rest p e) = let n = bad_is byte e in rw (p, n.0, n.1) refl
-reading_broken opened at xs fault (bad_escaped at' backslash byte rest b e) = rw (backslash_is backslash b, b, e) refl
-reading_broken opened at xs fault (past at' byte rest f p h) =
-    let e = reading_broken opened (at + 1) rest fault h in
+reading_broken : (opened at : ℕ) (xs : List ℕ) (refusal : LexError) → BreaksString opened at xs refusal → reading opened at false xs ≡ Err refusal
+reading_broken opened at xs refusal (ends at') = refl
+reading_broken opened at xs refusal (ends_escaped at' backslash b) = rw (backslash_is backslash b, b) refl
+reading_broken opened at xs refusal (bad at' byte rest p e) = let n = bad_is byte e in rw (p, n.0, n.1) refl
+reading_broken opened at xs refusal (bad_escaped at' backslash byte rest b e) = rw (backslash_is backslash b, b, e) refl
+reading_broken opened at xs refusal (past at' byte rest f p h) =
+    let e = reading_broken opened (at + 1) rest refusal h in
     let n = plain_is byte p in
     rw (p, n.0, n.1, e) refl
-reading_broken opened at xs fault (past_escaped at' backslash byte rest f b e h) =
-    let g = reading_broken opened (at + 1 + 1) rest fault h in
+reading_broken opened at xs refusal (past_escaped at' backslash byte rest f b e h) =
+    let g = reading_broken opened (at + 1 + 1) rest refusal h in
     rw (backslash_is backslash b, b, e, g) refl
 
 same_read : (a b c d : List ℕ) → read_as a b ≡ read_as c d → (a ≡ c) × (b ≡ d)
@@ -83,16 +83,16 @@ closes_once xs meant other h k =
     (same_read meant [] other [] (sym e ∙ f)).0
 
 -- what is closed doesn't break a rule
-pub closed_or_broken : (opened at : ℕ) (xs meant rest : List ℕ) (fault : LexError) → Closes xs meant → BreaksString opened at (xs ++ rest) fault → ⊥
-closed_or_broken opened at xs meant rest fault h k =
+pub closed_or_broken : (opened at : ℕ) (xs meant rest : List ℕ) (refusal : LexError) → Closes xs meant → BreaksString opened at (xs ++ rest) refusal → ⊥
+closed_or_broken opened at xs meant rest refusal h k =
     let e = reading_closed opened at xs meant rest h in
-    let f = reading_broken opened at (xs ++ rest) fault k in
-    let both : read_as meant rest ≡ Err fault = sym e ∙ f in
+    let f = reading_broken opened at (xs ++ rest) refusal k in
+    let both : read_as meant rest ≡ Err refusal = sym e ∙ f in
     absurd cc
 
 -- a string breaks one rule first
-pub broken_once : (opened at : ℕ) (xs : List ℕ) (fault other : LexError) → BreaksString opened at xs fault → BreaksString opened at xs other → fault ≡ other
-broken_once opened at xs fault other h k =
-    let e = reading_broken opened at xs fault h in
+pub broken_once : (opened at : ℕ) (xs : List ℕ) (refusal other : LexError) → BreaksString opened at xs refusal → BreaksString opened at xs other → refusal ≡ other
+broken_once opened at xs refusal other h k =
+    let e = reading_broken opened at xs refusal h in
     let f = reading_broken opened at xs other k in
     cc

@@ -19,7 +19,7 @@ pub record IsInside (at : ℕ) (bytes : List ℕ) (read : ℕ) (meant : List ℕ
   pub within : read ≤ length bytes
   pub closes : (front rest more : List ℕ) → drop read bytes ≡ front ++ rest → Closes front more →
       (whole : List ℕ) × Closes whole (meant ++ more) × (drop 1 bytes ≡ whole ++ rest) × (length whole + 1 ≡ read + length front)
-  pub breaks : (fault : LexError) → BreaksString at (at + read) (drop read bytes) fault → BreaksString at (at + 1) (drop 1 bytes) fault
+  pub breaks : (refusal : LexError) → BreaksString at (at + read) (drop read bytes) refusal → BreaksString at (at + 1) (drop 1 bytes) refusal
 
 pub inside_starts : (at : ℕ) (bytes : List ℕ) → begins_with is_quote bytes ≡ true → IsInside at bytes 1 []
 inside_starts at [] q = absurd cc
@@ -27,7 +27,7 @@ inside_starts at (quote ∷ rest) q = record {
   opened = omega arith;
   within = omega arith;
   closes = λ front after more e h. (front, h, e, omega arith);
-  breaks = λ fault h. h;
+  breaks = λ refusal h. h;
 }
 
 -- ---- what follows a byte
@@ -57,7 +57,7 @@ inside_plain at bytes read meant h lt byte p =
       closes = λ front rest more e k.
           let all = h.closes (first ∷ front) rest (byte ∷ more) (here ∙ ap (λ ys. first ∷ ys) e) (rw (p.1) (plain first front more p.0 k)) in
           (all.0, rw (append_assoc meant (byte ∷ []) more) all.1, all.2, omega (arith, all.3));
-      breaks = λ fault k. h.breaks fault (rw here (past (at + read) first (drop (read + 1) bytes) fault p.0 (rw (add_assoc at read 1) k)));
+      breaks = λ refusal k. h.breaks refusal (rw here (past (at + read) first (drop (read + 1) bytes) refusal p.0 (rw (add_assoc at read 1) k)));
     }
 
 -- a backslash, and the byte after it
@@ -76,7 +76,7 @@ inside_escaped at bytes read meant h byte p =
       closes = λ front rest more f k.
           let all = h.closes (backslash ∷ byte ∷ front) rest (byte ∷ more) (here ∙ ap (λ ys. backslash ∷ byte ∷ ys) f) (escaped backslash byte front more p.0 p.3 k) in
           (all.0, rw (append_assoc meant (byte ∷ []) more) all.1, all.2, omega (arith, all.3));
-      breaks = λ fault k. h.breaks fault (rw here (past_escaped (at + read) backslash byte (drop (read + 2) bytes) fault p.0 p.3 (subst (λ i. BreaksString at i (drop (read + 2) bytes) fault) (omega arith) k)));
+      breaks = λ refusal k. h.breaks refusal (rw here (past_escaped (at + read) backslash byte (drop (read + 2) bytes) refusal p.0 p.3 (subst (λ i. BreaksString at i (drop (read + 2) bytes) refusal) (omega arith) k)));
     }
 
 -- ---- its end
@@ -97,9 +97,9 @@ inside_closed at (quote ∷ inside) read meant h q lt p =
 
 -- ---- a rule that it breaks
 
-broken : (at : ℕ) (bytes : List ℕ) (fault : LexError) → begins_with is_quote bytes ≡ true → BreaksString at (at + 1) (drop 1 bytes) fault → BreaksAt at bytes fault
-broken at [] fault q k = absurd cc
-broken at (quote ∷ rest) fault q k = no_string at quote rest fault q k
+broken : (at : ℕ) (bytes : List ℕ) (refusal : LexError) → begins_with is_quote bytes ≡ true → BreaksString at (at + 1) (drop 1 bytes) refusal → BreaksAt at bytes refusal
+broken at [] refusal q k = absurd cc
+broken at (quote ∷ rest) refusal q k = no_string at quote rest refusal q k
 
 pub inside_ends : (at : ℕ) (bytes : List ℕ) (read : ℕ) (meant : List ℕ) → IsInside at bytes read meant → begins_with is_quote bytes ≡ true → length bytes ≤ read → BreaksAt at bytes (OpenString at)
 inside_ends at bytes read meant h q over = broken at bytes _ q (h.breaks _ (rw (drop_all read bytes over) (ends (at + read))))

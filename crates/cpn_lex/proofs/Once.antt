@@ -16,57 +16,57 @@ use Rattle.cpn_lex.proofs.Finding.{token_once}
 quote_or_blank : (byte : ℕ) → is_quote byte ≡ true → is_blank byte ≡ true → ⊥
 quote_or_blank byte q b = grind (arith, nat_tests)
 
-blank_or_broken : (at : ℕ) (bytes : List ℕ) (fault : LexError) → BreaksAt at bytes fault → (byte : ℕ) (rest : List ℕ) → bytes ≡ byte ∷ rest → is_blank byte ≡ true → ⊥
-blank_or_broken at bytes fault (no_token at' first others nb nq none) byte rest e b = let same : first ≡ byte = cc in absurd cc
-blank_or_broken at bytes fault (no_string at' quote others fault' q broken) byte rest e b =
+blank_or_broken : (at : ℕ) (bytes : List ℕ) (refusal : LexError) → BreaksAt at bytes refusal → (byte : ℕ) (rest : List ℕ) → bytes ≡ byte ∷ rest → is_blank byte ≡ true → ⊥
+blank_or_broken at bytes refusal (no_token at' first others nb nq none) byte rest e b = let same : first ≡ byte = cc in absurd cc
+blank_or_broken at bytes refusal (no_string at' quote others refusal' q broken) byte rest e b =
     let same : quote ≡ byte = cc in quote_or_blank byte (rw same at q) b
-blank_or_broken at bytes fault (too_large at' [] others z t large) byte rest e b = not_empty (number z) t.spelled
-blank_or_broken at bytes fault (too_large at' (x ∷ front) others z t large) byte rest e b =
+blank_or_broken at bytes refusal (too_large at' [] others z t large) byte rest e b = not_empty (number z) t.spelled
+blank_or_broken at bytes refusal (too_large at' (x ∷ front) others z t large) byte rest e b =
     let same : x ≡ byte = cc in after_blank x front (number z) t.spelled (rw (← same) at b)
 
-token_or_broken : (at : ℕ) (bytes : List ℕ) (fault : LexError) → BreaksAt at bytes fault → (front rest : List ℕ) (kind : PlainKind) → bytes ≡ front ++ rest → IsToken front rest kind → Fits kind → ⊥
-token_or_broken at bytes fault (no_token at' first others nb nq none) front rest kind e t fits = none front rest kind e t.spelled
-token_or_broken at bytes fault (no_string at' quote others fault' q broken) [] rest kind e t fits = not_empty kind t.spelled
-token_or_broken at bytes fault (no_string at' quote others fault' q broken) (x ∷ front) rest kind e t fits =
+token_or_broken : (at : ℕ) (bytes : List ℕ) (refusal : LexError) → BreaksAt at bytes refusal → (front rest : List ℕ) (kind : PlainKind) → bytes ≡ front ++ rest → IsToken front rest kind → Fits kind → ⊥
+token_or_broken at bytes refusal (no_token at' first others nb nq none) front rest kind e t fits = none front rest kind e t.spelled
+token_or_broken at bytes refusal (no_string at' quote others refusal' q broken) [] rest kind e t fits = not_empty kind t.spelled
+token_or_broken at bytes refusal (no_string at' quote others refusal' q broken) (x ∷ front) rest kind e t fits =
     let same : quote ≡ x = cc in
     let tails : others ≡ front ++ rest = cc in
     let string = after_quote x front kind t.spelled (rw same at q) in
-    closed_or_broken at (at + 1) front string.0 rest fault string.1 (rw tails at broken)
-token_or_broken at bytes fault (too_large at' front' rest' z t' large) front rest kind e t fits =
+    closed_or_broken at (at + 1) front string.0 rest refusal string.1 (rw tails at broken)
+token_or_broken at bytes refusal (too_large at' front' rest' z t' large) front rest kind e t fits =
     let same = token_once front' rest' front rest (number z) kind t' t e in
     large (subst Fits (sym same.2) fits)
 
-large_only : (at : ℕ) (bytes : List ℕ) (fault : LexError) → BreaksAt at bytes fault → (front rest : List ℕ) (z : ℤ) → bytes ≡ front ++ rest → IsToken front rest (number z) → fault ≡ NumberTooLarge at
-large_only at bytes fault (no_token at' first others nb nq none) front rest z e t = absurd (none front rest (number z) e t.spelled)
-large_only at bytes fault (no_string at' quote others fault' q broken) [] rest z e t = absurd (not_empty (number z) t.spelled)
-large_only at bytes fault (no_string at' quote others fault' q broken) (x ∷ front) rest z e t =
+large_only : (at : ℕ) (bytes : List ℕ) (refusal : LexError) → BreaksAt at bytes refusal → (front rest : List ℕ) (z : ℤ) → bytes ≡ front ++ rest → IsToken front rest (number z) → refusal ≡ NumberTooLarge at
+large_only at bytes refusal (no_token at' first others nb nq none) front rest z e t = absurd (none front rest (number z) e t.spelled)
+large_only at bytes refusal (no_string at' quote others refusal' q broken) [] rest z e t = absurd (not_empty (number z) t.spelled)
+large_only at bytes refusal (no_string at' quote others refusal' q broken) (x ∷ front) rest z e t =
     let same : quote ≡ x = cc in
     let string = after_quote x front (number z) t.spelled (rw same at q) in
     let kinds = string.2 in
     cc
-large_only at bytes fault (too_large at' front' rest' y t' large) front rest z e t = refl
+large_only at bytes refusal (too_large at' front' rest' y t' large) front rest z e t = refl
 
-broken_at_once : (at : ℕ) (bytes : List ℕ) (fault : LexError) → BreaksAt at bytes fault → (bytes' : List ℕ) (fault' : LexError) → BreaksAt at bytes' fault' → bytes ≡ bytes' → fault ≡ fault'
-broken_at_once at bytes fault (too_large at' front rest z t large) bytes' fault' k e = sym (large_only at bytes' fault' k front rest z (sym e) t)
-broken_at_once at bytes fault h bytes' fault' (too_large at' front rest z t large) e = large_only at bytes fault h front rest z e t
-broken_at_once at bytes fault (no_token at' first others nb nq none) bytes' fault' (no_token at'' first' others' nb' nq' none') e = refl
-broken_at_once at bytes fault (no_token at' first others nb nq none) bytes' fault' (no_string at'' quote others' f q broken) e = let same : first ≡ quote = cc in cc
-broken_at_once at bytes fault (no_string at' quote others f q broken) bytes' fault' (no_token at'' first' others' nb' nq' none') e = let same : quote ≡ first' = cc in cc
-broken_at_once at bytes fault (no_string at' quote others f q broken) bytes' fault' (no_string at'' quote' others' f' q' broken') e =
+broken_at_once : (at : ℕ) (bytes : List ℕ) (refusal : LexError) → BreaksAt at bytes refusal → (bytes' : List ℕ) (refusal' : LexError) → BreaksAt at bytes' refusal' → bytes ≡ bytes' → refusal ≡ refusal'
+broken_at_once at bytes refusal (too_large at' front rest z t large) bytes' refusal' k e = sym (large_only at bytes' refusal' k front rest z (sym e) t)
+broken_at_once at bytes refusal h bytes' refusal' (too_large at' front rest z t large) e = large_only at bytes refusal h front rest z e t
+broken_at_once at bytes refusal (no_token at' first others nb nq none) bytes' refusal' (no_token at'' first' others' nb' nq' none') e = refl
+broken_at_once at bytes refusal (no_token at' first others nb nq none) bytes' refusal' (no_string at'' quote others' f q broken) e = let same : first ≡ quote = cc in cc
+broken_at_once at bytes refusal (no_string at' quote others f q broken) bytes' refusal' (no_token at'' first' others' nb' nq' none') e = let same : quote ≡ first' = cc in cc
+broken_at_once at bytes refusal (no_string at' quote others f q broken) bytes' refusal' (no_string at'' quote' others' f' q' broken') e =
     let tails : others ≡ others' = cc in
-    broken_once at (at + 1) others' fault fault' (rw tails at broken) broken'
+    broken_once at (at + 1) others' refusal refusal' (rw tails at broken) broken'
 
-at_no_end : (at : ℕ) (bytes : List ℕ) (fault : LexError) → BreaksAt at bytes fault → bytes ≡ [] → ⊥
-at_no_end at bytes fault (no_token at' first others nb nq none) e = absurd cc
-at_no_end at bytes fault (no_string at' quote others f q broken) e = absurd cc
-at_no_end at bytes fault (too_large at' [] rest z t large) e = not_empty (number z) t.spelled
-at_no_end at bytes fault (too_large at' (x ∷ front) rest z t large) e = absurd cc
+at_no_end : (at : ℕ) (bytes : List ℕ) (refusal : LexError) → BreaksAt at bytes refusal → bytes ≡ [] → ⊥
+at_no_end at bytes refusal (no_token at' first others nb nq none) e = absurd cc
+at_no_end at bytes refusal (no_string at' quote others f q broken) e = absurd cc
+at_no_end at bytes refusal (too_large at' [] rest z t large) e = not_empty (number z) t.spelled
+at_no_end at bytes refusal (too_large at' (x ∷ front) rest z t large) e = absurd cc
 
 -- ---- over the whole text
 
 -- a text ends, or breaks a rule
 abbrev IsOver : ℕ → List ℕ → Type 0
-IsOver at rest = (rest ≡ []) ⊎ ((fault : LexError) × BreaksAt at rest fault)
+IsOver at rest = (rest ≡ []) ⊎ ((refusal : LexError) × BreaksAt at rest refusal)
 
 blank_goes_on : (at byte : ℕ) (rest : List ℕ) → IsOver at (byte ∷ rest) → is_blank byte ≡ true → ⊥
 blank_goes_on at byte rest (inl e) b = absurd cc
@@ -124,13 +124,13 @@ pub lexes_once : (bytes : List ℕ) (tokens tokens' : List PlainToken) → Lexes
 lexes_once bytes tokens tokens' h k = (goes_once 0 bytes tokens (length bytes) [] h (inl refl) tokens' (length bytes) [] k (inl refl)).0
 
 -- A text with tokens breaks no rule.
-pub lexes_or_breaks : (bytes : List ℕ) (tokens : List PlainToken) (fault : LexError) → Lexes bytes tokens → Breaks bytes fault → ⊥
-lexes_or_breaks bytes tokens fault h k =
-    let same = goes_once 0 bytes tokens (length bytes) [] h (inl refl) k.tokens k.at k.rest k.goes (inr (fault, k.breaks)) in
-    at_no_end k.at k.rest fault k.breaks (sym same.2)
+pub lexes_or_breaks : (bytes : List ℕ) (tokens : List PlainToken) (refusal : LexError) → Lexes bytes tokens → Breaks bytes refusal → ⊥
+lexes_or_breaks bytes tokens refusal h k =
+    let same = goes_once 0 bytes tokens (length bytes) [] h (inl refl) k.tokens k.at k.rest k.goes (inr (refusal, k.breaks)) in
+    at_no_end k.at k.rest refusal k.breaks (sym same.2)
 
 -- A text breaks one rule first.
-pub breaks_once : (bytes : List ℕ) (fault fault' : LexError) → Breaks bytes fault → Breaks bytes fault' → fault ≡ fault'
-breaks_once bytes fault fault' h k =
-    let same = goes_once 0 bytes h.tokens h.at h.rest h.goes (inr (fault, h.breaks)) k.tokens k.at k.rest k.goes (inr (fault', k.breaks)) in
-    broken_at_once k.at h.rest fault (rw same.1 at h.breaks) k.rest fault' k.breaks same.2
+pub breaks_once : (bytes : List ℕ) (refusal refusal' : LexError) → Breaks bytes refusal → Breaks bytes refusal' → refusal ≡ refusal'
+breaks_once bytes refusal refusal' h k =
+    let same = goes_once 0 bytes h.tokens h.at h.rest h.goes (inr (refusal, h.breaks)) k.tokens k.at k.rest k.goes (inr (refusal', k.breaks)) in
+    broken_at_once k.at h.rest refusal (rw same.1 at h.breaks) k.rest refusal' k.breaks same.2

@@ -62,13 +62,13 @@ pub fn lex(alloc: Global, text: &[u8]) -> Result<Tokens, LexError>
     // Nothing else is answered, but for want of memory.
     ensures complete { (tokens : List PlainToken) → length text.now ≤ 4096 → Lexes text.now tokens
         → MatchResult result (λ found. tokens_view found.items ≡ tokens) (λ e. e ≡ LexError.Memory) }
-    ensures refused { (fault : LexError) → length text.now ≤ 4096 → Breaks text.now fault
-        → IsErrOf result fault ⊎ IsErrOf result LexError.Memory }
+    ensures refused { (refusal : LexError) → length text.now ≤ 4096 → Breaks text.now refusal
+        → IsErrOf result refusal ⊎ IsErrOf result LexError.Memory }
 
     // Whatever the answer, a text has one list of tokens, or breaks one rule first, and not both.
     ensures one_list { (tokens others : List PlainToken) → Lexes text.now tokens → Lexes text.now others → tokens ≡ others }
-    ensures one_rule { (fault other : LexError) → Breaks text.now fault → Breaks text.now other → fault ≡ other }
-    ensures not_both { (tokens : List PlainToken) (fault : LexError) → Lexes text.now tokens → Breaks text.now fault → ⊥ }
+    ensures one_rule { (refusal other : LexError) → Breaks text.now refusal → Breaks text.now other → refusal ≡ other }
+    ensures not_both { (tokens : List PlainToken) (refusal : LexError) → Lexes text.now tokens → Breaks text.now refusal → ⊥ }
 {
     if text.len() > MOST_BYTES {
         return Err(LexError::TooLong);

@@ -1,5 +1,5 @@
-//! The lexer of the inscription language: from the bytes of a text to its tokens, or to the place of the
-//! first byte that breaks a rule.
+//! The lexer of the inscription language: from the bytes of a text to its tokens, or to the first
+//! rule that it breaks, and where.
 //!
 //! The crate knows no grammar: which tokens may follow one another is not its matter.
 #![tactic(auto)]

@@ -20,20 +20,20 @@ only_tokens bytes (Err (BadByte at)) ok err tokens h = absurd (lexes_or_breaks b
 only_tokens bytes (Err (OpenString at)) ok err tokens h = absurd (lexes_or_breaks bytes tokens _ h err)
 only_tokens bytes (Err (NumberTooLarge at)) ok err tokens h = absurd (lexes_or_breaks bytes tokens _ h err)
 
-only_fault : (bytes : List ℕ) (r : Result (Vec Token Global) LexError) → IfOk r (λ found. Lexes bytes (tokens_view found.items)) → IfErr r (Says (Breaks bytes)) →
-    (fault : LexError) → Breaks bytes fault → IsErrOf r fault ⊎ IsErrOf r Memory
-only_fault bytes (Ok found) ok err fault h = absurd (lexes_or_breaks bytes (tokens_view found.items) fault ok h)
-only_fault bytes (Err Memory) ok err fault h = inr refl
-only_fault bytes (Err TooLong) ok err fault h = absurd err
-only_fault bytes (Err (BadByte at)) ok err fault h = inl (ap Err (breaks_once bytes _ fault err h))
-only_fault bytes (Err (OpenString at)) ok err fault h = inl (ap Err (breaks_once bytes _ fault err h))
-only_fault bytes (Err (NumberTooLarge at)) ok err fault h = inl (ap Err (breaks_once bytes _ fault err h))
+only_refusal : (bytes : List ℕ) (r : Result (Vec Token Global) LexError) → IfOk r (λ found. Lexes bytes (tokens_view found.items)) → IfErr r (Says (Breaks bytes)) →
+    (refusal : LexError) → Breaks bytes refusal → IsErrOf r refusal ⊎ IsErrOf r Memory
+only_refusal bytes (Ok found) ok err refusal h = absurd (lexes_or_breaks bytes (tokens_view found.items) refusal ok h)
+only_refusal bytes (Err Memory) ok err refusal h = inr refl
+only_refusal bytes (Err TooLong) ok err refusal h = absurd err
+only_refusal bytes (Err (BadByte at)) ok err refusal h = inl (ap Err (breaks_once bytes _ refusal err h))
+only_refusal bytes (Err (OpenString at)) ok err refusal h = inl (ap Err (breaks_once bytes _ refusal err h))
+only_refusal bytes (Err (NumberTooLarge at)) ok err refusal h = inl (ap Err (breaks_once bytes _ refusal err h))
 
 pub returns-clause-complete : goal.returns-clause-complete
 returns-clause-complete c tokens short h = only_tokens c.args.text.now c.tokens_of.result c.tokens_of.ensures.ok c.tokens_of.ensures.err tokens h
 
 pub returns-clause-refused : goal.returns-clause-refused
-returns-clause-refused c fault short h = only_fault c.args.text.now c.tokens_of.result c.tokens_of.ensures.ok c.tokens_of.ensures.err fault h
+returns-clause-refused c refusal short h = only_refusal c.args.text.now c.tokens_of.result c.tokens_of.ensures.ok c.tokens_of.ensures.err refusal h
 
 pub returns-clause-one_list : goal.returns-clause-one_list
 returns-clause-one_list c = lexes_once c.args.text.now
