@@ -1,10 +1,11 @@
 -- The options that the program's words give: those that clap reads by the command line below. Source: own
 -- choice, over clap's specification of a simple command.
-use Rattle.std.specs.Prelude.{ℕ, ◌^◌, ◌-◌, Bool, true, if◌then◌else◌, List, [], ◌∷◌, codes, Option, Some, None, option_map, option_and_then}
+use Rattle.std.specs.Prelude.{ℕ, ◌^◌, ◌-◌, Bool, true, if◌then◌else◌, List, [], ◌∷◌, codes, Option, Some, None, option_and_then, unwrap_or}
 use Rattle.std.specs.Str.{bytes_eq}
 use Rattle.std.specs.Str.Parse.{digits_value, without_leading_plus}
-use Rattle.clap.specs.Words.{App, Kinds, Row, Rule, fault_of, first_of, matches_of, new_app, new_rule, one_of}
+use Rattle.clap.specs.Words.{App, Kinds, Row, Rule, fault_of, first_of, matches_of, new_app, new_rule}
 use Rattle.clap.specs.Simple.{on_top}
+use Rattle.clap.specs.declared.builder.action.ArgAction.TheVariants.{Set}
 use Rattle.clap.specs.declared.builder.value_parser.ValueParser.TheVariants as vp
 use Rattle.cpn_report.specs.declared.traces.Trace.{Trace}
 use Rattle.cpn_report.specs.declared.traces.Trace.TheVariants as traces
@@ -20,7 +21,7 @@ pub record PlainOptions : Type 0 where
 
 -- an option with a value, which has a default: `--name value` or `--name=value`, at most once
 abbrev pub option : List ℕ → List ℕ → Rule
-option name default = record (new_rule name) { long = Some name; defaults = default ∷ [] }
+option name default = record (new_rule name) { long = Some name; action = Some Set; defaults = default ∷ [] }
 
 -- an option whose value is a number from `least` to `most`
 abbrev pub number_option : List ℕ → ℕ → ℕ → List ℕ → Rule
@@ -48,13 +49,17 @@ o >>= f = option_and_then f o
 abbrev pub when : Bool → Option (Unit {0})
 when test = if test then Some tt else None
 
+-- the value of an option, as it is written: each has one, by its default if the words give none
+abbrev pub value_of : List ℕ → List Row → List ℕ
+value_of name rows = unwrap_or (first_of name rows) []
+
 -- the number that a text spells, with or without a `+`
 abbrev pub number_text : List ℕ → ℕ
 number_text text = digits_value 10 (without_leading_plus text)
 
 -- the value of an option whose value is a number
-abbrev pub number_at : List ℕ → List Row → Option ℕ
-number_at name rows = option_map number_text (one_of name rows)
+abbrev pub number_of : List ℕ → List Row → ℕ
+number_of name rows = number_text (value_of name rows)
 
 -- the trace of a name: on or off
 unfoldable pub trace_of : List ℕ → Option Trace
@@ -63,15 +68,15 @@ trace_of name = if bytes_eq name (codes "on") then Some traces.On else (if bytes
 -- The options that the matches give. There is one mode, run.
 unfoldable pub options_in : List Row → Option PlainOptions
 options_in rows = do
-  mode ← first_of (codes "mode") rows
-  run ← when (bytes_eq mode (codes "run"))
-  seed ← number_at (codes "seed") rows
-  workers ← number_at (codes "workers") rows
-  steps ← number_at (codes "steps") rows
-  until ← number_at (codes "until") rows
-  trace_name ← first_of (codes "trace") rows
-  trace ← trace_of trace_name
-  Some (record { seed = seed; workers = workers; steps = steps; until = until; trace = trace })
+  run ← when (bytes_eq (value_of (codes "mode") rows) (codes "run"))
+  trace ← trace_of (value_of (codes "trace") rows)
+  Some (record {
+    seed = number_of (codes "seed") rows;
+    workers = number_of (codes "workers") rows;
+    steps = number_of (codes "steps") rows;
+    until = number_of (codes "until") rows;
+    trace = trace;
+  })
 
 -- nothing, where the command has a fault
 abbrev pub unless_faulty : Kinds → Option PlainOptions → Option PlainOptions

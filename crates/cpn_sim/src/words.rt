@@ -1,18 +1,18 @@
 //! The options that the words of the program give.
 
-ghost use Rattle.std.specs.Prelude.{◌≡◌, ◌≤◌, ◌⊎◌, [], Some, map, string_bytes, IfOk, OnOk, IfErr, IfSome, false};
+ghost use Rattle.std.specs.Prelude.{◌≡◌, ◌≤◌, ◌⊎◌, [], Some, map, string_bytes, IfOk, OnOk, IfErr, false};
 ghost use Rattle.std.specs.Option.{option_map};
-ghost use Rattle.clap.specs.Words.{app_of, fault_of, first_of, found_of, matches_of, rows_of, rule_of};
-ghost use Rattle.cpn_sim.specs.Options.{command_line, number_at, number_option, option, options_from, options_in, trace_of};
+ghost use Rattle.clap.specs.Words.{app_of, fault_of, found_of, matches_of, rows_of, rule_of};
+ghost use Rattle.cpn_sim.specs.Options.{command_line, number_of, number_option, option, options_from, options_in, trace_of, value_of};
 ghost use Rattle.cpn_sim.specs.OptionsView.{options_view};
-ghost use Rattle.cpn_sim.specs.Given.{HasNumbers, IsNumberIn};
+ghost use Rattle.cpn_sim.specs.Given.{HasValue, HasValues, IsNumberIn};
 ghost use Rattle.cpn_sim.specs.Causes.{IsOfWords};
 
 use crate::options::Options;
 use crate::refusals::Refusal;
 use clap::builder::ValueParser;
 use clap::error::ErrorKind;
-use clap::{Arg, ArgMatches, Command};
+use clap::{Arg, ArgAction, ArgMatches, Command};
 use cpn_report::Trace;
 use std::alloc::{AllocError, Global};
 
@@ -70,7 +70,7 @@ pub fn options_from(alloc: Global, words: &[String]) -> Result<Options, Refusal>
 fn matches_of<'a>(alloc: Global, words: &'a [String]) -> Result<ArgMatches<'a>, Refusal>
     ensures accepted { OnOk result (fault_of command_line (map string_bytes words.entry.now) ≡ []) }
     ensures matches { IfOk result (λ m. rows_of (found_of m) ≡ matches_of command_line (map string_bytes words.entry.now)) }
-    ensures numbers { IfOk result (λ m. HasNumbers m) }
+    ensures values { IfOk result (λ m. HasValues m) }
     ensures cause { IfErr result (λ refusal. IsOfWords refusal (map string_bytes words.entry.now)) }
 {
     let Ok(command) = command_line(alloc) else {
@@ -114,7 +114,10 @@ fn word_option<'a>(alloc: Global, name: &'a str, default: &'a str) -> Arg<'a>
     ensures rule { rule_of result ≡ option name.entry.now default.entry.now }
     ensures local { result.global ≡ false }
 {
-    Arg::new(alloc, name).long(name).default_value(default)
+    Arg::new(alloc, name)
+        .long(name)
+        .action(ArgAction::Set)
+        .default_value(default)
 }
 
 /// The option as clap reads it.
@@ -131,41 +134,37 @@ fn number_option<'a>(alloc: Global, option: NumberOption) -> Arg<'a>
 /// The options that the matches give: `None` where the mode or the trace has another name.
 #[tactic(auto, unfolding(crate::specs::Options::options_in))]
 fn options_in(matches: &ArgMatches<'_>) -> Option<Options>
-    requires { HasNumbers matches.now }
+    requires { HasValues matches.now }
     ensures { option_map options_view result ≡ options_in (rows_of (found_of matches.now)) }
 {
-    let mode = word_of(matches, "mode")?;
-    if mode != "run" {
+    if word_of(matches, "mode") != "run" {
         return None;
     }
-    let seed = number_of(matches, SEED)?;
-    let workers = number_of(matches, WORKERS)?;
-    let steps = number_of(matches, STEPS)?;
-    let until = number_of(matches, UNTIL)?;
-    let trace = trace_of(word_of(matches, "trace")?)?;
+    let trace = trace_of(word_of(matches, "trace"))?;
     Some(Options {
-        seed,
-        workers,
-        steps,
-        until,
+        seed: number_of(matches, SEED),
+        workers: number_of(matches, WORKERS),
+        steps: number_of(matches, STEPS),
+        until: number_of(matches, UNTIL),
         trace,
     })
 }
 
-/// The value of the option as it was written.
-fn word_of<'a>(matches: &ArgMatches<'a>, name: &str) -> Option<&'a str>
-    ensures { option_map (λ word. word.now) result ≡ first_of name.now (rows_of (found_of matches.now)) }
+/// The value of the option as it is written.
+fn word_of<'a>(matches: &ArgMatches<'a>, name: &str) -> &'a str
+    requires { HasValue matches.now name.now }
+    ensures { result.now ≡ value_of name.now (rows_of (found_of matches.now)) }
 {
-    matches.get_str(name)
+    matches.get_str(name).unwrap()
 }
 
 /// The value of the option, which is in its range.
-fn number_of(matches: &ArgMatches<'_>, option: NumberOption) -> Option<u64>
+fn number_of(matches: &ArgMatches<'_>, option: NumberOption) -> u64
     requires { IsNumberIn option.least option.most matches.now option.name.now }
-    ensures value { result ≡ number_at option.name.now (rows_of (found_of matches.now)) }
-    ensures within { IfSome result (λ n. (option.least ≤ n) × (n ≤ option.most)) }
+    ensures value { result ≡ number_of option.name.now (rows_of (found_of matches.now)) }
+    ensures within { (option.least ≤ result) × (result ≤ option.most) }
 {
-    matches.get_one::<u64>(option.name)
+    matches.get_one::<u64>(option.name).unwrap()
 }
 
 /// Whether the trace is told, by its name: `on` or `off`.

@@ -10,7 +10,7 @@ use Rattle.cpn_sim.specs.Options.{command_line, options_from, options_in, unless
 use Rattle.cpn_sim.specs.Causes.{IsOfWords}
 use Rattle.cpn_sim.specs.declared.refusals.Refusal.{Refusal}
 use Rattle.cpn_sim.specs.declared.refusals.Refusal.TheVariants as refusals
-use Rattle.cpn_sim.proofs.Readings.{given_numbers}
+use Rattle.cpn_sim.proofs.Readings.{given_values}
 use Rattle.cpn_sim.proofs.words.matches_of.Goals as goal
 
 -- the command line is simple, and no option has a rule on another
@@ -34,9 +34,9 @@ of_error words e r (inl memory) to_memory which = subst (λ q. IsOfWords q words
 of_error words e r (inr among) to_memory (inr memory) = subst (λ q. IsOfWords q words) (sym (to_memory memory)) tt
 of_error words e r (inr among) to_memory (inl is) = subst (λ q. IsOfWords q words) (sym is) (faulty words (kind_of e) among)
 
-pub returns-in-Ok-try_get_matches_from-clause-numbers : goal.returns-in-Ok-try_get_matches_from-clause-numbers
-returns-in-Ok-try_get_matches_from-clause-numbers c =
-    given_numbers _ c.in-Ok-try_get_matches_from.matches c.in-Ok-try_get_matches_from.ensures.parsed c.in-Ok.ensures
+pub returns-in-Ok-try_get_matches_from-clause-values : goal.returns-in-Ok-try_get_matches_from-clause-values
+returns-in-Ok-try_get_matches_from-clause-values c =
+    given_values _ c.in-Ok-try_get_matches_from.matches c.in-Ok-try_get_matches_from.ensures.parsed c.in-Ok.ensures
 
 pub returns-in-Err-clause-cause : goal.returns-in-Err-clause-cause
 returns-in-Err-clause-cause c =
