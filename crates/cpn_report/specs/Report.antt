@@ -10,6 +10,8 @@ use Rattle.cpn_definitions.specs.Meaning.{PlainBinding, Fault, overflow, divide_
 use Rattle.cpn_definitions.specs.Occurrence.{PlainElement}
 use Rattle.cpn_definitions.specs.State.{PlainEvent, claim_made, claim_completed, PlainEnd, dead, steps_made, fault_end, PlainOccurrence}
 use Rattle.cpn_definitions.specs.Run.{PlainFinished, Outlook}
+use Rattle.cpn_report.specs.declared.traces.Trace.{Trace}
+use Rattle.cpn_report.specs.declared.traces.Trace.TheVariants as traces
 
 -- an integer, with ~ in front of a negative one
 abbrev pub int_text : ℤ → List ℕ
@@ -144,13 +146,17 @@ next_line time = codes "next " ++ time_text time ++ codes "\n"
 unfoldable pub total_line : ℕ → List ℕ
 total_line count = codes "total " ++ decimal count ++ codes "\n"
 
--- The lines of one run: what it starts from, its occurrences, its journal, its end, its last clock and
--- marking, and what is ready and next then.
-unfoldable pub run_text : PlainNet → ℕ → ℕ → Outlook → PlainFinished → Outlook → List ℕ
-run_text n number clock opening outcome closing =
+-- the trace of a run: its occurrences and its journal, or nothing where it is off
+unfoldable pub trace_text : Trace → PlainNet → PlainFinished → List ℕ
+trace_text traces.On n outcome = flat_map (occurrence_line n) outcome.occurrences ++ schedule_line outcome.journal
+trace_text traces.Off n outcome = []
+
+-- The lines of one run: what it starts from, its trace, its end, its last clock and marking, and what is
+-- ready and next then.
+unfoldable pub run_text : Trace → PlainNet → ℕ → ℕ → Outlook → PlainFinished → Outlook → List ℕ
+run_text trace n number clock opening outcome closing =
     run_line number clock opening
-    ++ flat_map (occurrence_line n) outcome.occurrences
-    ++ schedule_line outcome.journal
+    ++ trace_text trace n outcome
     ++ end_line n outcome.cause
     ++ occurrences_line (length outcome.occurrences)
     ++ clock_line outcome.clock
@@ -159,6 +165,6 @@ run_text n number clock opening outcome closing =
     ++ next_line closing.next
 
 -- Text: the report of one run.
-unfoldable pub report_text : PlainNet → ℕ → Outlook → PlainFinished → Outlook → List ℕ
-report_text n clock opening outcome closing =
-    report_line ++ run_text n 0 clock opening outcome closing ++ total_line (length outcome.occurrences)
+unfoldable pub report_text : Trace → PlainNet → ℕ → Outlook → PlainFinished → Outlook → List ℕ
+report_text trace n clock opening outcome closing =
+    report_line ++ run_text trace n 0 clock opening outcome closing ++ total_line (length outcome.occurrences)

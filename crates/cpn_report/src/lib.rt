@@ -12,5 +12,7 @@ mod places;
 mod reports;
 #[cfg(test)]
 mod tests;
+mod traces;
 
 pub use reports::report;
+pub use traces::Trace;

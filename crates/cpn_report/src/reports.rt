@@ -3,7 +3,7 @@ ghost use Rattle.std.specs.Prelude.{◌≡◌, ◌++◌, IfOk, OnOk};
 ghost use Rattle.std.specs.String.{string_bytes};
 ghost use Rattle.cpn_core.specs.Nets.{net_view};
 ghost use Rattle.cpn_core.specs.Finished.{outlook_view, outcome_of};
-ghost use Rattle.cpn_report.specs.Report.{run_text, report_text};
+ghost use Rattle.cpn_report.specs.Report.{trace_text, run_text, report_text};
 
 use crate::elements::push_occurrences;
 use crate::lines::{
@@ -11,38 +11,54 @@ use crate::lines::{
     push_report_line, push_run_line, push_schedule_line, push_total_line,
 };
 use crate::places::push_place_lines;
+use crate::traces::Trace;
 use cpn_core::{Finished, Memory};
 use std::alloc::Global;
 
 /// The report of one run that has ended, as text: its first line, the lines of the run, and how many
-/// occurrences there are in all. Source: own choice.
+/// occurrences there are in all. Without a trace it leaves out the lines of the occurrences and of the
+/// journal, and no other. Source: own choice.
 ///
 /// A number past the last transition or variable of the net stands for one without a name, and a place past
 /// the end of the marking has no line. `Err` comes for want of memory alone.
 #[tactic(auto, unfolding(crate::specs::Report::report_text))]
-pub fn report(alloc: Global, finished: &Finished) -> Result<String, Memory>
-    ensures text { IfOk result (λ text. string_bytes text ≡ report_text (net_view finished.now.net.value) finished.now.start_clock (outlook_view finished.now.opening) (outcome_of finished.now) (outlook_view finished.now.closing)) }
+pub fn report(alloc: Global, trace: Trace, finished: &Finished) -> Result<String, Memory>
+    ensures text { IfOk result (λ text. string_bytes text ≡ report_text trace (net_view finished.now.net.value) finished.now.start_clock (outlook_view finished.now.opening) (outcome_of finished.now) (outlook_view finished.now.closing)) }
 {
     let mut out = String::new(alloc);
     push_report_line(&mut out)?;
-    push_run(&mut out, 0, finished)?;
+    push_run(&mut out, trace, 0, finished)?;
     push_total_line(&mut out, finished.occurrences.len() as u64)?;
     Ok(out)
 }
 
 /// Appends the lines of the run with this number.
 #[tactic(auto, unfolding(crate::specs::Report::run_text))]
-fn push_run(out: &mut String, number: u64, finished: &Finished) -> Result<(), Memory>
-    ensures written { OnOk result (string_bytes out.new ≡ string_bytes out.old ++ run_text (net_view finished.now.net.value) number finished.now.start_clock (outlook_view finished.now.opening) (outcome_of finished.now) (outlook_view finished.now.closing)) }
+fn push_run(out: &mut String, trace: Trace, number: u64, finished: &Finished) -> Result<(), Memory>
+    ensures written { OnOk result (string_bytes out.new ≡ string_bytes out.old ++ run_text trace (net_view finished.now.net.value) number finished.now.start_clock (outlook_view finished.now.opening) (outcome_of finished.now) (outlook_view finished.now.closing)) }
 {
     push_run_line(out, number, finished.start_clock, &finished.opening)?;
-    push_occurrences(out, &finished.net, &finished.occurrences)?;
-    push_schedule_line(out, &finished.journal)?;
+    push_trace(out, trace, finished)?;
     push_end_line(out, finished)?;
     push_occurrences_line(out, finished.occurrences.len() as u64)?;
     push_clock_line(out, finished.clock)?;
     push_place_lines(out, &finished.net.places, &finished.marking)?;
     push_ready_line(out, finished.closing.ready)?;
     push_next_line(out, finished.closing.next)?;
+    Ok(())
+}
+
+/// Appends the lines of the occurrences and of the journal, unless the trace is off.
+#[tactic(auto, unfolding(crate::specs::Report::trace_text))]
+fn push_trace(out: &mut String, trace: Trace, finished: &Finished) -> Result<(), Memory>
+    ensures written { OnOk result (string_bytes out.new ≡ string_bytes out.old ++ trace_text trace (net_view finished.now.net.value) (outcome_of finished.now)) }
+{
+    match trace {
+        Trace::On => {
+            push_occurrences(out, &finished.net, &finished.occurrences)?;
+            push_schedule_line(out, &finished.journal)?;
+        }
+        Trace::Off => {}
+    }
     Ok(())
 }

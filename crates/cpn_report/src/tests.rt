@@ -4,7 +4,7 @@ use crate::elements::push_occurrences;
 use crate::groups::push_tokens;
 use crate::integers::push_int;
 use crate::lines::{push_next_line, push_schedule_line};
-use crate::report;
+use crate::{Trace, report};
 use cpn_core::{
     Binding, Colour, Element, End, Event, Finished, Guard, Limits, Memory, Net, Occurrence,
     Outlook, Place, PlainMarking, Shape, Token, Transition, Value, Variable,
@@ -94,9 +94,14 @@ fn a_binding_is_told_in_order(rt: HostRuntime) -> Result<(), Fail> {
 
 #[test]
 fn a_whole_report(rt: HostRuntime) -> Result<(), Fail> {
-    let text = report(rt.alloc(), &small_run(rt.alloc())?)?;
+    let run = small_run(rt.alloc())?;
+    let text = report(rt.alloc(), Trace::On, &run)?;
     let lines =
         "report 1\nrun 0 initial 0 ready 1 next 0\nocc 0 @0 Top/t {x=7}\nschedule c0 d0\nend dead\noccurrences 1\nclock 0\nplace Top/A 1`7 ++ 1`8\nplace Top/B empty\nready 0\nnext none\ntotal 1\n";
+    assert_eq!(rt; text.as_str(), lines);
+    let text = report(rt.alloc(), Trace::Off, &run)?;
+    let lines =
+        "report 1\nrun 0 initial 0 ready 1 next 0\nend dead\noccurrences 1\nclock 0\nplace Top/A 1`7 ++ 1`8\nplace Top/B empty\nready 0\nnext none\ntotal 1\n";
     assert_eq!(rt; text.as_str(), lines);
     Ok(())
 }

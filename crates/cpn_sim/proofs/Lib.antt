@@ -1,4 +1,5 @@
 pub mod Refused
+pub mod Readings
 pub mod Unique
 pub mod OneJournal
 pub mod OneRun

@@ -1,5 +1,5 @@
 -- With one seat there is at most one journal that has an end.
-use Rattle.std.proofs.Common.{◌≡◌, ◌≢◌, ℕ, zero, suc, ◌+◌, ◌<◌, ◌≤◌, ◌%◌, ◌==◌, ◌⊎◌, Bool, true, false, ◌&&◌, ◌||◌, cond, List, [], ◌∷◌, ◌++◌, length, map, Some, None, Option, refl, sym, ap, ◌∙◌, subst, inl, inr, ⊎_elim, arith, slice_get, slice_set, eqb-true, eq-eqb, length-append}
+use Rattle.std.proofs.Common.{◌≡◌, ℕ, zero, suc, ◌<◌, ◌==◌, ◌⊎◌, Bool, true, false, ◌||◌, cond, List, [], ◌∷◌, ◌++◌, length, Some, None, Option, refl, sym, ap, ◌∙◌, subst, inl, inr, ⊎_elim, arith, slice_get, slice_set, eqb-true, eq-eqb}
 use Rattle.std.specs.List.{list_any, filter}
 use Rattle.std.specs.Option.{MatchOption}
 use Rattle.std.proofs.Math.Path.{ap₂}
@@ -7,10 +7,10 @@ use Rattle.std.proofs.lemmas.Bool.{and_parts}
 use Rattle.cpn_definitions.specs.Marking.{Marking}
 use Rattle.cpn_definitions.specs.Net.{PlainNet}
 use Rattle.cpn_definitions.specs.Meaning.{Outcome, gives, faults, no_meaning}
-use Rattle.cpn_definitions.specs.Occurrence.{PlainElement, Made, covered, outputs_of}
+use Rattle.cpn_definitions.specs.Occurrence.{Made, covered, outputs_of}
 use Rattle.cpn_definitions.specs.Enabled.{PlainEntry, Enabled, ready}
-use Rattle.cpn_definitions.specs.HoleRun.{PlainClaim, Status, open_claim, done_with, faulted_with, is_open}
-use Rattle.cpn_definitions.specs.State.{PlainSetup, PlainEvent, claim_made, claim_completed, PlainEnd, dead, steps_made, fault_end, PlainState, is_held_by, new_claim, status_after, unclaimed_in, PlainCut, IsDrawn, MayClaim, MayComplete, IsDead, Happens, Leads, HasCause, EndsBy}
+use Rattle.cpn_definitions.specs.HoleRun.{PlainClaim, Status, done_with, faulted_with, is_open}
+use Rattle.cpn_definitions.specs.State.{PlainSetup, PlainEvent, claim_made, claim_completed, PlainEnd, dead, steps_made, fault_end, PlainState, is_held_by, new_claim, status_after, PlainCut, IsDrawn, MayClaim, MayComplete, Happens, Leads, HasCause, EndsBy}
 use Rattle.cpn_sim.proofs.Unique.{enabled_is_unique}
 use Rattle.cpn_definitions.proofs.Rising.{IsIn, contains_from_in}
 

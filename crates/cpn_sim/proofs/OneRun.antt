@@ -1,11 +1,11 @@
 -- With one seat a setup has one run.
-use Rattle.std.proofs.Common.{◌≡◌, ◌≢◌, ℕ, ◌⊎◌, true, false, List, [], ◌∷◌, length, map, Some, None, Option, refl, sym, ap, ◌∙◌, subst}
+use Rattle.std.proofs.Common.{◌≡◌, ℕ, List, [], ◌∷◌, length, Some, None, Option, refl, sym, ap, ◌∙◌, subst}
 use Rattle.std.specs.Option.{MatchOption}
 use Rattle.std.proofs.Math.Path.{ap₂}
 use Rattle.cpn_definitions.specs.Marking.{Marking}
-use Rattle.cpn_definitions.specs.Enabled.{PlainEntry, Enabled, ready, next_time}
+use Rattle.cpn_definitions.specs.Enabled.{ready, next_time}
 use Rattle.cpn_definitions.specs.HoleRun.{settled, committed}
-use Rattle.cpn_definitions.specs.State.{PlainSetup, PlainEvent, claim_made, claim_completed, PlainEnd, dead, steps_made, fault_end, PlainCut, PlainState, first_state, Happens, Leads, IsState, HasCause, EndsBy, PlainOccurrence, committed_occurrences}
+use Rattle.cpn_definitions.specs.State.{PlainSetup, PlainEvent, claim_made, claim_completed, PlainEnd, dead, steps_made, fault_end, PlainCut, PlainState, first_state, Happens, Leads, IsState, HasCause, EndsBy, committed_occurrences}
 use Rattle.cpn_definitions.specs.Run.{PlainFinished, IsRun, Outlook, HasOutlook}
 use Rattle.cpn_sim.proofs.Unique.{enabled_is_unique}
 use Rattle.cpn_sim.proofs.OneJournal.{IsSameEnd, calm_journal}

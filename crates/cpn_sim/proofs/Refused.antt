@@ -1,10 +1,10 @@
 -- What follows from a refusal and its cause, case by case.
-use Rattle.std.proofs.Common.{◌≡◌, ℕ, ◌<◌, ◌≤◌, ◌⊎◌, List, length, Option, Some, None, IfSome, refl, sym, ap, ◌∙◌, subst, inl, inr, ⊎_elim, arith}
+use Rattle.std.proofs.Common.{◌≡◌, ℕ, ◌<◌, ◌≤◌, ◌⊎◌, List, length, Option, Some, None, IfSome, refl, ap, ◌∙◌, subst, inl, inr, ⊎_elim, arith}
 use Rattle.cpn_file.specs.Loading.{PlainLoaded, loaded_in}
 use Rattle.cpn_file.specs.Reads.{IsJson, Reads, IsNotJson, IsNotYet}
 use Rattle.cpn_io.specs.Outside.{Rose}
 use Rattle.cpn_sim.specs.Options.{PlainOptions, options_from}
-use Rattle.cpn_sim.specs.Causes.{HasCause, status_of, IsOrExcused}
+use Rattle.cpn_sim.specs.Causes.{HasCause, IsOfWords, status_of, IsOrExcused}
 use Rattle.cpn_sim.specs.declared.refusals.Refusal.{Refusal}
 use Rattle.cpn_sim.specs.declared.refusals.Refusal.TheVariants as refusals
 use Rattle.cpn_sim.specs.declared.statuses.Status.{Status}
@@ -84,6 +84,24 @@ refused_complete refusals.NotYet words left before now status write r options so
     absurd (read_is_served bytes loaded reads (given_left (λ b. (length b ≤ 16777216) × IsNotYet b) left bytes is r.cause).1)
 refused_complete refusals.Memory words left before now status write r options some bytes is short loaded reads = ⊎_elim (λ s. inr (inl s)) (λ s. inr (inr (inr (r.fault s)))) r.status_is
 
-pub refused_words : (refusal : Refusal) (words : List (List ℕ)) (left : Option (List ℕ)) (before now : ℕ) (status : Status) (write : Type 0) → IsRefused refusal words left before now status write → refusal ≡ refusals.Words
-    → (status ≡ statuses.BadWords) ⊎ write
-refused_words refusal words left before now status write r is = ⊎_elim (λ s. inl (s ∙ ap status_of is)) (λ s. inr (r.fault s)) r.status_is
+pub refused_words : (refusal : Refusal) (words : List (List ℕ)) (left : Option (List ℕ)) (before now : ℕ) (status : Status) (write : Type 0) → IsRefused refusal words left before now status write
+    → (refusal ≡ refusals.Words) ⊎ (refusal ≡ refusals.Memory) → (status ≡ statuses.BadWords) ⊎ ((status ≡ statuses.Memory) ⊎ write)
+refused_words refusal words left before now status write r (inl is) = ⊎_elim (λ s. inl (s ∙ ap status_of is)) (λ s. inr (inr (r.fault s))) r.status_is
+refused_words refusal words left before now status write r (inr is) = ⊎_elim (λ s. inr (inl (s ∙ ap status_of is))) (λ s. inr (inr (r.fault s))) r.status_is
+
+-- what refuses the words is the words' cause, or want of memory
+pub words_cause : (refusal : Refusal) (words : List (List ℕ)) (left : Option (List ℕ)) (before now : ℕ) → IsOfWords refusal words → HasCause refusal words left before now
+words_cause refusals.Words words left before now is = is
+words_cause refusals.Read words left before now is = absurd is
+words_cause refusals.Long words left before now is = absurd is
+words_cause refusals.NotJson words left before now is = absurd is
+words_cause refusals.NotYet words left before now is = absurd is
+words_cause refusals.Memory words left before now is = tt
+
+pub words_refusal : (refusal : Refusal) (words : List (List ℕ)) → IsOfWords refusal words → (refusal ≡ refusals.Words) ⊎ (refusal ≡ refusals.Memory)
+words_refusal refusals.Words words is = inl refl
+words_refusal refusals.Read words is = absurd is
+words_refusal refusals.Long words is = absurd is
+words_refusal refusals.NotJson words is = absurd is
+words_refusal refusals.NotYet words is = absurd is
+words_refusal refusals.Memory words is = inr refl

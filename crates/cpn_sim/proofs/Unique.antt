@@ -1,17 +1,15 @@
 -- There is one list of enabled elements, and with one seat one journal that has an end.
-use Rattle.std.proofs.Common.{◌≡◌, ℕ, zero, suc, ◌+◌, ◌<◌, ◌≤◌, ◌⊎◌, Bool, true, false, List, [], ◌∷◌, ◌++◌, length, map, Some, None, Option, refl, sym, ap, ◌∙◌, subst, inl, inr, ⊎_elim, arith, Contains, Ordering, Less, Greater}
+use Rattle.std.proofs.Common.{◌≡◌, ℕ, ◌⊎◌, List, [], ◌∷◌, map, refl, sym, ap, ◌∙◌, subst, inl, inr, Ordering, Less, Greater}
 use Rattle.std.specs.List.{AllByRecursion}
-use Rattle.std.specs.Ordering.{ordering_reverse, nat_cmp}
+use Rattle.std.specs.Ordering.{ordering_reverse}
 use Rattle.std.specs.Cmp.{IsTotalOrder}
 use Rattle.std.proofs.lemmas.Cmp.{lists_total, on_total, nat_cmp_total, then_total}
 use Rattle.std.proofs.Math.Path.{ap₂}
 use Rattle.cpn_definitions.specs.Value.{PlainValue}
-use Rattle.cpn_definitions.specs.Order.{value_cmp}
 use Rattle.cpn_definitions.proofs.Comparing.{value_cmp_total}
 use Rattle.cpn_definitions.specs.Marking.{Marking}
 use Rattle.cpn_definitions.specs.Net.{PlainNet}
-use Rattle.cpn_definitions.specs.Occurrence.{PlainElement, covered}
-use Rattle.cpn_definitions.specs.Enabled.{PlainEntry, element_cmp, IsIncreasing, IsEarliest, Enabled}
+use Rattle.cpn_definitions.specs.Enabled.{PlainEntry, element_cmp, IsIncreasing, Enabled}
 use Rattle.cpn_definitions.proofs.Rising.{IsIn, Rises, in_from_contains, contains_from_in}
 
 -- in a total order no two come before each other

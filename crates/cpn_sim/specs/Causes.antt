@@ -19,6 +19,15 @@ HasCause refusals.NotJson words left before now = IfSome left (λ bytes. (length
 HasCause refusals.NotYet words left before now = IfSome left (λ bytes. (length bytes ≤ 16777216) × IsNotYet bytes)
 HasCause refusals.Memory words left before now = Unit {0}
 
+-- the causes that lie in the words
+abbrev pub IsOfWords : Refusal → List (List ℕ) → Type 0
+IsOfWords refusals.Words words = options_from words ≡ None
+IsOfWords refusals.Read words = ⊥
+IsOfWords refusals.Long words = ⊥
+IsOfWords refusals.NotJson words = ⊥
+IsOfWords refusals.NotYet words = ⊥
+IsOfWords refusals.Memory words = Unit {0}
+
 -- the causes that lie in the document
 abbrev pub IsOfDocument : Refusal → List ℕ → Type 0
 IsOfDocument refusals.Words bytes = ⊥

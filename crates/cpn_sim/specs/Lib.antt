@@ -1,4 +1,5 @@
 pub mod Options
 pub mod OptionsView
+pub mod Given
 pub mod Reported
 pub mod Causes

@@ -1,11 +1,45 @@
--- The options that the program's words give. Source: own choice.
-use Rattle.std.specs.Prelude.{ℕ, ◌+◌, ◌-◌, ◌*◌, ◌^◌, Bool, ◌&&◌, if◌then◌else◌, nat_le, nat_lt, List, [], ◌∷◌, length, codes, Option, Some, None, option_and_then}
-use Rattle.std.specs.Str.{all_ascii_digits, bytes_eq}
+-- The options that the program's words give: those that clap reads by the command line below. Source: own
+-- choice, over clap's specification of a simple command.
+use Rattle.std.specs.Prelude.{ℕ, ◌^◌, ◌-◌, Bool, true, if◌then◌else◌, List, [], ◌∷◌, codes, Option, Some, None, option_and_then, unwrap_or}
+use Rattle.std.specs.Str.{bytes_eq}
+use Rattle.std.specs.Str.Parse.{digits_value, without_leading_plus}
+use Rattle.clap.specs.Words.{App, Kinds, Row, Rule, fault_of, first_of, matches_of, new_app, new_rule}
+use Rattle.clap.specs.Simple.{on_top}
+use Rattle.clap.specs.declared.builder.action.ArgAction.TheVariants.{Set}
+use Rattle.clap.specs.declared.builder.value_parser.ValueParser.TheVariants as vp
+use Rattle.cpn_report.specs.declared.traces.Trace.{Trace}
+use Rattle.cpn_report.specs.declared.traces.Trace.TheVariants as traces
 
--- The options: the seed of the draws, and how many claims a run may make.
+-- The options: the seed of the draws, how many workers make the run, how many claims it may make, the last
+-- time that it may reach, and whether its trace is told.
 pub record PlainOptions : Type 0 where
   pub seed : ℕ
+  pub workers : ℕ
   pub steps : ℕ
+  pub until : ℕ
+  pub trace : Trace
+
+-- an option with a value, which has a default: `--name value` or `--name=value`, at most once
+abbrev pub option : List ℕ → List ℕ → Rule
+option name default = record (new_rule name) { long = Some name; action = Some Set; defaults = default ∷ [] }
+
+-- an option whose value is a number from `least` to `most`
+abbrev pub number_option : List ℕ → ℕ → ℕ → List ℕ → Rule
+number_option name least most default = record (option name default) { parser = Some (vp.Unsigned least most) }
+
+abbrev pub the_options : List Rule
+the_options =
+    option (codes "mode") (codes "run")
+    ∷ number_option (codes "seed") 0 (2 ^ 64 - 1) (codes "0")
+    ∷ number_option (codes "workers") 1 1 (codes "1")
+    ∷ number_option (codes "steps") 1 1000000 (codes "1000")
+    ∷ number_option (codes "until") 0 (2 ^ 62) (codes "4611686018427387904")
+    ∷ option (codes "trace") (codes "on")
+    ∷ []
+
+-- The command line: these options, no name of a program before them, and no help.
+abbrev pub command_line : App
+command_line = on_top (λ s. record s { rules = the_options; no_binary_name = true; disable_help_flag = true }) (new_app (codes "cpn_sim"))
 
 infixl 10 ◌>>=◌
 abbrev pub ◌>>=◌ : {A B : Type 0} → Option A → (A → Option B) → Option B
@@ -15,35 +49,41 @@ o >>= f = option_and_then f o
 abbrev pub when : Bool → Option (Unit {0})
 when test = if test then Some tt else None
 
--- the number that digits spell, after a number
-abbrev pub number_after : ℕ → List ℕ → ℕ
-number_after n [] = n
-number_after n (c ∷ cs) = number_after (10 * n + (c - 48)) cs
+-- the value of an option, as it is written: each has one, by its default if the words give none
+abbrev pub value_of : List ℕ → List Row → List ℕ
+value_of name rows = unwrap_or (first_of name rows) []
 
--- the number that a word of 1 to 20 digits spells, if it is in the range
-unfoldable pub number_in : ℕ → ℕ → List ℕ → Option ℕ
-number_in low high word = do
-  some ← when (nat_lt 0 (length word))
-  short ← when (nat_le (length word) 20)
-  digits ← when (all_ascii_digits word)
-  from ← when (nat_le low (number_after 0 word))
-  to ← when (nat_le (number_after 0 word) high)
-  Some (number_after 0 word)
+-- the number that a text spells, with or without a `+`
+abbrev pub number_text : List ℕ → ℕ
+number_text text = digits_value 10 (without_leading_plus text)
 
--- the options of four words: --seed, a number below 2 ^ 64, --steps, a number from 1 to 1,000,000
-unfoldable pub options_of_four : List ℕ → List ℕ → List ℕ → List ℕ → Option PlainOptions
-options_of_four first seed_word second steps_word = do
-  is_seed ← when (bytes_eq first (codes "--seed"))
-  is_steps ← when (bytes_eq second (codes "--steps"))
-  seed ← number_in 0 (2 ^ 64 - 1) seed_word
-  steps ← number_in 1 1000000 steps_word
-  Some (record { seed = seed; steps = steps })
+-- the value of an option whose value is a number
+abbrev pub number_of : List ℕ → List Row → ℕ
+number_of name rows = number_text (value_of name rows)
 
--- Options: the words are just these four. None refuses them.
-abbrev pub options_from : List (List ℕ) → Option PlainOptions
-options_from [] = None
-options_from (a ∷ []) = None
-options_from (a ∷ b ∷ []) = None
-options_from (a ∷ b ∷ c ∷ []) = None
-options_from (a ∷ b ∷ c ∷ d ∷ []) = options_of_four a b c d
-options_from (a ∷ b ∷ c ∷ d ∷ e ∷ rest) = None
+-- the trace of a name: on or off
+unfoldable pub trace_of : List ℕ → Option Trace
+trace_of name = if bytes_eq name (codes "on") then Some traces.On else (if bytes_eq name (codes "off") then Some traces.Off else None)
+
+-- The options that the matches give. There is one mode, run.
+unfoldable pub options_in : List Row → Option PlainOptions
+options_in rows = do
+  run ← when (bytes_eq (value_of (codes "mode") rows) (codes "run"))
+  trace ← trace_of (value_of (codes "trace") rows)
+  Some (record {
+    seed = number_of (codes "seed") rows;
+    workers = number_of (codes "workers") rows;
+    steps = number_of (codes "steps") rows;
+    until = number_of (codes "until") rows;
+    trace = trace;
+  })
+
+-- nothing, where the command has a fault
+abbrev pub unless_faulty : Kinds → Option PlainOptions → Option PlainOptions
+unless_faulty [] options = options
+unless_faulty (kind ∷ kinds) options = None
+
+-- Options: those that clap's matches of the words give. None refuses them: the command has a fault at them,
+-- or the mode or the trace is no name above.
+unfoldable pub options_from : List (List ℕ) → Option PlainOptions
+options_from words = unless_faulty (fault_of command_line words) (options_in (matches_of command_line words))

@@ -1,5 +1,5 @@
 -- The report that a run of a document gives.
-use Rattle.std.specs.Prelude.{◌≡◌, ℕ, ◌^◌, List, Option, Some}
+use Rattle.std.specs.Prelude.{◌≡◌, ℕ, List, Some}
 use Rattle.cpn_definitions.specs.State.{PlainSetup}
 use Rattle.cpn_definitions.specs.Run.{PlainFinished, IsRun, IsLegalRun, Outlook, HasOutlook}
 use Rattle.cpn_file.specs.Loading.{PlainLoaded}
@@ -7,9 +7,9 @@ use Rattle.cpn_file.specs.Reads.{Reads}
 use Rattle.cpn_report.specs.Report.{report_text}
 use Rattle.cpn_sim.specs.Options.{PlainOptions, options_from}
 
--- what the one run of a loaded net starts from: the initial marking at clock 0, with one seat
+-- what the one run of a loaded net starts from: the initial marking at clock 0, with a seat for each worker
 abbrev pub setup_from : PlainLoaded → PlainOptions → PlainSetup
-setup_from loaded options = record { net = loaded.net; start = loaded.initial; clock = 0; limits = record { steps = options.steps; until = 2 ^ 62; seats = 1 }; seed = options.seed }
+setup_from loaded options = record { net = loaded.net; start = loaded.initial; clock = 0; limits = record { steps = options.steps; until = options.until; seats = options.workers }; seed = options.seed }
 
 -- The text is the report of a run of the loaded net: the run's journal leads to a state that ends by the
 -- cause, its occurrences are a legal occurrence sequence from the initial marking to the printed one, and
@@ -22,7 +22,7 @@ pub record IsReportOf (loaded : PlainLoaded) (options : PlainOptions) (report : 
   pub opening_is : HasOutlook (setup_from loaded options) loaded.initial 0 opening
   pub closing : Outlook
   pub closing_is : HasOutlook (setup_from loaded options) run.marking run.clock closing
-  pub text_is : report ≡ report_text loaded.net 0 opening run closing
+  pub text_is : report ≡ report_text options.trace loaded.net 0 opening run closing
 
 -- The text is the report of a run of the net that the bytes are read as.
 pub record IsReportUnder (bytes : List ℕ) (options : PlainOptions) (report : List ℕ) : Type 0 where

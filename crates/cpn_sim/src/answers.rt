@@ -1,12 +1,12 @@
 //! From the words and the source to the report, or to the reason why there is none.
 
-ghost use Rattle.std.specs.Prelude.{◌≡◌, ◌≤◌, [], length, Some, None, Err, map, string_bytes, IfOk, IfErr, OnOk, IfSome};
+ghost use Rattle.std.specs.Prelude.{◌≡◌, ◌≤◌, ◌⊎◌, [], length, Some, None, Err, map, string_bytes, IfOk, IfErr, OnOk, IfSome};
 ghost use Rattle.cpn_definitions.specs.Run.{IsRun, IsLegalRun, HasOutlook};
 ghost use Rattle.cpn_core.specs.Finished.{setup_of, outcome_of, outlook_view};
 ghost use Rattle.cpn_file.specs.Loads.{loaded_view};
 ghost use Rattle.cpn_file.specs.WellLoaded.{IsWellLoaded};
 ghost use Rattle.cpn_file.specs.Reads.{Reads};
-ghost use Rattle.cpn_sim.specs.Options.{options_from};
+ghost use Rattle.cpn_sim.specs.Options.{PlainOptions, options_from};
 ghost use Rattle.cpn_sim.specs.OptionsView.{options_view};
 ghost use Rattle.cpn_sim.specs.Reported.{IsReport, IsReportUnder, IsReportOf, setup_from};
 ghost use Rattle.cpn_sim.specs.Causes.{HasCause, IsOfDocument};
@@ -27,12 +27,11 @@ pub fn answer<S: Source>(alloc: Global, words: &[String], source: &mut S) -> Res
     ensures report { IfOk result (λ text. IfSome (S.left source.old) (λ bytes. IsReport bytes (map string_bytes words.now) (string_bytes text))) }
     ensures end { OnOk result (IfSome (S.left source.old) (λ _. S.left source.new ≡ Some [])) }
     ensures short { OnOk result (IfSome (S.left source.old) (λ bytes. length bytes ≤ 16777216)) }
-    ensures words { options_from (map string_bytes words.now) ≡ None → result ≡ Err Refusal.Words }
+    ensures words { options_from (map string_bytes words.now) ≡ None → (result ≡ Err Refusal.Words) ⊎ (result ≡ Err Refusal.Memory) }
+    ensures one_worker { OnOk result ((options : PlainOptions) → options_from (map string_bytes words.now) ≡ Some options → options.workers ≡ 1) }
     ensures cause { IfErr result (λ refusal. HasCause refusal (map string_bytes words.now) (S.left source.old) (S.faults source.old) (S.faults source.new)) }
 {
-    let Some(options) = options_from(words) else {
-        return Err(Refusal::Words);
-    };
+    let options = options_from(alloc, words)?;
     let bytes = match read_all(alloc, source) {
         Ok(bytes) => bytes,
         Err(ReadError::Memory) => return Err(Refusal::Memory),
@@ -65,7 +64,7 @@ fn report_of_run(alloc: Global, options: &Options, loaded: Loaded) -> Result<Str
     ensures { IfOk result (λ text. IsReportOf (loaded_view loaded) (options_view options.now) (string_bytes text)) }
 {
     let finished = run_of(alloc, options, loaded)?;
-    let text = report(alloc, &finished)?;
+    let text = report(alloc, options.trace, &finished)?;
     Ok(text)
 }
 
@@ -84,8 +83,8 @@ fn run_of(alloc: Global, options: &Options, loaded: Loaded) -> Result<Finished, 
         clock: 0,
         limits: Limits {
             steps: options.steps,
-            until: 1 << 62,
-            seats: 1,
+            until: options.until,
+            seats: options.workers as u32,
         },
         seed: options.seed,
     };

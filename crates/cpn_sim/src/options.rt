@@ -1,13 +1,23 @@
 //! The options of a run.
 
-ghost use Rattle.std.specs.Prelude.{◌≤◌};
+ghost use Rattle.std.specs.Prelude.{◌≡◌, ◌≤◌, ◌^◌};
+
+use cpn_report::Trace;
 
 /// The options of a run.
 #[derive(Debug, Drop)]
 pub struct Options {
     /// The seed of the draws.
     pub seed: u64,
+    /// How many workers make the run: 1.
+    pub workers: u64,
     /// How many claims the run may make: 1 to 1,000,000.
     pub steps: u64,
+    /// The last time that the run may reach: 0 to 2^62. No net that is served has time, so no run gets there.
+    pub until: u64,
+    /// Whether the report has the trace of the run.
+    pub trace: Trace,
+    ghost one_worker: { workers ≡ 1 },
     ghost few_steps: { steps ≤ 1000000 },
+    ghost in_time: { until ≤ 2 ^ 62 },
 }

@@ -51,7 +51,7 @@ pub fn simulate<S: Source, K: Sink>(
 
     // Where there is a cause, its status comes, but for faults of source and sink and want of memory.
     ensures bad_words { options_from (map string_bytes words.now) ≡ None
-        → (result ≡ Status.BadWords) ⊎ Rose (K.faults sink.old) (K.faults sink.new) }
+        → (result ≡ Status.BadWords) ⊎ ((result ≡ Status.Memory) ⊎ Rose (K.faults sink.old) (K.faults sink.new)) }
     ensures too_long { (options : PlainOptions) → options_from (map string_bytes words.now) ≡ Some options
         → (bytes : List ℕ) → S.left source.old ≡ Some bytes → 16777216 < length bytes
         → (result ≡ Status.TooLong) ⊎ ((result ≡ Status.Memory)

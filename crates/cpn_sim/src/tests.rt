@@ -36,6 +36,9 @@ const THREE_TOKENS_REPORT: &str =
 const NO_TRANSITION_REPORT: &str =
     "report 1\nrun 0 initial 0 ready 0 next none\nschedule\nend dead\noccurrences 0\nclock 0\nplace Top/A 1`7\nready 0\nnext none\ntotal 0\n";
 
+const THREE_TOKENS_WITHOUT_TRACE: &str =
+    "report 1\nrun 0 initial 0 ready 1 next 0\nend dead\noccurrences 3\nclock 0\nplace Top/A empty\nplace Top/B 3`7\nready 0\nnext none\ntotal 3\n";
+
 const ENDLESS_LOOP_REPORT: &str =
     "report 1\nrun 0 initial 0 ready 1 next 0\nocc 0 @0 Top/t {x=7}\nschedule c0 d0\nend steps\noccurrences 1\nclock 0\nplace Top/A 1`7\nready 1\nnext 0\ntotal 1\n";
 
@@ -68,9 +71,12 @@ fn listed(alloc: Global, call: Option<u64>) -> Result<Vec<u64>, Fail> {
     Ok(calls)
 }
 
-// The words between single spaces.
+// The words between single spaces; none of no text.
 fn words_in(alloc: Global, text: &str) -> Result<Vec<String>, Fail> {
     let mut words = Vec::new(alloc);
+    if text.is_empty() {
+        return Ok(words);
+    }
     for word in text.split(' ') {
         words.push(String::from_str(alloc, word)?)?;
     }
@@ -154,8 +160,15 @@ fn reports_are_byte_for_byte(rt: HostRuntime) -> Result<(), Fail> {
     );
     let greatest = "--seed 18446744073709551615 --steps 3";
     assert!(rt; reports(alloc, greatest, THREE_TOKENS, THREE_STEPS_REPORT)?);
-    let twenty_digits = "--seed 00000000000000000000 --steps 00000000000000000010";
-    assert!(rt; reports(alloc, twenty_digits, THREE_TOKENS, THREE_TOKENS_REPORT)?);
+    let without_trace = "--seed 0 --steps 10 --trace off";
+    assert!(rt;
+        reports(
+            alloc,
+            without_trace,
+            THREE_TOKENS,
+            THREE_TOKENS_WITHOUT_TRACE
+        )?
+    );
     assert!(rt;
         reports(
             alloc,
@@ -189,12 +202,17 @@ const SEEDS: [(u8, u8, u8); 10] = [
     (9, 1, 0),
 ];
 
+// Whether the report under the words has the line.
+fn tells_under(alloc: Global, words: &str, document: &str, line: &str) -> Result<bool, Fail> {
+    let (_, written) = outcome(alloc, words, document.as_bytes(), HONEST)?;
+    let text = String::from_utf8(written)?;
+    Ok(text.contains(line))
+}
+
 // Whether the report of so many steps under the seed has the line.
 fn tells(alloc: Global, seed: u8, steps: u8, document: &str, line: &str) -> Result<bool, Fail> {
     let words = format!(in alloc; "--seed {seed} --steps {steps}")?;
-    let (_, written) = outcome(alloc, words.as_str(), document.as_bytes(), HONEST)?;
-    let text = String::from_utf8(written)?;
-    Ok(text.contains(line))
+    tells_under(alloc, words.as_str(), document, line)
 }
 
 #[test]
@@ -258,10 +276,38 @@ fn refuses_words(alloc: Global, words: &str) -> Result<bool, Fail> {
 #[test]
 fn words_are_refused(rt: HostRuntime) -> Result<(), Fail> {
     let lines =
-        "--seed 1\n--steps 1 --seed 1\n--seed 18446744073709551616 --steps 1\n--seed 000000000000000000001 --steps 1\n--seed 1 --steps 0\n--seed 1 --steps 1000001\n--seed  --steps 1\n--seed +1 --steps 1\n--seed 1 --steps 1 \n--seed=1 --steps=1\n\n";
+        "--mode large\n--mode RUN\n--mode\n--mode=\n--mode run --mode run\n--seed 18446744073709551616\n--seed -1\n--seed=-1\n--seed +\n--seed 1.0\n--seed x\n--seed\n--seed=\n--seed \n--seed 1 --seed 1\n--workers 0\n--workers 2\n--workers 1 --workers 1\n--steps 0\n--steps 1000001\n--steps 1 --steps 1\n--until 4611686018427387905\n--until -1\n--until 0 --until 0\n--trace maybe\n--trace ON\n--trace\n--trace=\n--trace on --trace off\n--see 1\n--colour red\n-s 1\n-h\n--help\n-V\n--version\n-\nrun\n-- run\n--seed 1 \n--seed 1 run\n ";
     for words in lines.lines() {
         assert!(rt; refuses_words(rt.alloc(), words)?, "of {words:?}");
     }
+    Ok(())
+}
+
+// Under all words that are accepted the net without transitions has one report.
+#[test]
+fn words_are_accepted(rt: HostRuntime) -> Result<(), Fail> {
+    let lines =
+        "\n--mode run\n--mode=run\n--seed 0\n--seed 18446744073709551615\n--seed=5\n--seed +5\n--seed 007\n--seed=+007\n--workers 1\n--steps 1\n--steps 1000000\n--until 0\n--until 4611686018427387904\n--trace on\n--\n--seed 0 --\n--steps 1000 --seed 0\n--trace=on --until=9 --steps=9 --workers=1 --seed=9 --mode=run";
+    for words in lines.lines() {
+        let same = reports(rt.alloc(), words, NO_TRANSITION, NO_TRANSITION_REPORT)?;
+        assert!(rt; same, "of {words:?}");
+    }
+    Ok(())
+}
+
+// What is left out, and how a number is read. Seeds 4 and 5 choose t0 first, seed 0 chooses t1.
+#[test]
+fn values_are_those_of_the_words(rt: HostRuntime) -> Result<(), Fail> {
+    let alloc = rt.alloc();
+    let steps = "\nend steps\noccurrences 1000\n";
+    assert!(rt; tells_under(alloc, "", ENDLESS_LOOP, steps)?);
+    let steps = "\nend steps\noccurrences 7\n";
+    assert!(rt; tells_under(alloc, "--steps=007", ENDLESS_LOOP, steps)?);
+    let first = "\nocc 0 @0 Top/t1 {x=7}\n";
+    assert!(rt; tells_under(alloc, "--steps 1", TWO_TRANSITIONS, first)?);
+    let first = "\nocc 0 @0 Top/t0 {x=7}\n";
+    assert!(rt; tells_under(alloc, "--seed +5", TWO_TRANSITIONS, first)?);
+    assert!(rt; tells_under(alloc, "--seed=004", TWO_TRANSITIONS, first)?);
     Ok(())
 }
 

@@ -1,85 +1,180 @@
 //! The options that the words of the program give.
 
-ghost use Rattle.std.specs.Prelude.{◌≡◌, ◌<◌, ◌≤◌, IfSome, ◌^◌, true, length, map, string_bytes, SomeIff};
-ghost use Rattle.std.specs.Str.{all_ascii_digits};
+ghost use Rattle.std.specs.Prelude.{◌≡◌, ◌≤◌, ◌⊎◌, [], Some, map, string_bytes, IfOk, OnOk, IfErr, false};
 ghost use Rattle.std.specs.Option.{option_map};
-ghost use Rattle.cpn_sim.specs.Options.{options_of_four, options_from, number_in, number_after};
+ghost use Rattle.clap.specs.Words.{app_of, fault_of, found_of, matches_of, rows_of, rule_of};
+ghost use Rattle.cpn_sim.specs.Options.{command_line, number_of, number_option, option, options_from, options_in, trace_of, value_of};
 ghost use Rattle.cpn_sim.specs.OptionsView.{options_view};
+ghost use Rattle.cpn_sim.specs.Given.{HasValue, HasValues, IsNumberIn};
+ghost use Rattle.cpn_sim.specs.Causes.{IsOfWords};
 
 use crate::options::Options;
+use crate::refusals::Refusal;
+use clap::builder::ValueParser;
+use clap::error::ErrorKind;
+use clap::{Arg, ArgAction, ArgMatches, Command};
+use cpn_report::Trace;
+use std::alloc::{AllocError, Global};
 
-/// The options that the words give; `None` where they are not exactly `--seed`, a number, `--steps`
-/// and a number, each of 1 to 20 digits and in its range.
-pub fn options_from(words: &[String]) -> Option<Options>
-    ensures { option_map options_view result ≡ options_from (map string_bytes words.now) }
-{
-    if words.len() != 4 {
-        return None;
-    }
-    options_of_four(
-        words[0].as_str(),
-        words[1].as_str(),
-        words[2].as_str(),
-        words[3].as_str(),
-    )
+/// An option whose value is a number.
+#[derive(Clone, Copy)]
+struct NumberOption {
+    name: &'static str,
+    least: u64,
+    most: u64,
+    default: &'static str,
 }
 
-#[tactic(auto, unfolding(crate::specs::Options::options_of_four))]
-fn options_of_four(first: &str, seed_word: &str, second: &str, steps_word: &str) -> Option<Options>
-    ensures { option_map options_view result ≡ options_of_four first.now seed_word.now second.now steps_word.now }
+const SEED: NumberOption = NumberOption {
+    name: "seed",
+    least: 0,
+    most: u64::MAX,
+    default: "0",
+};
+
+const WORKERS: NumberOption = NumberOption {
+    name: "workers",
+    least: 1,
+    most: 1,
+    default: "1",
+};
+
+const STEPS: NumberOption = NumberOption {
+    name: "steps",
+    least: 1,
+    most: 1_000_000,
+    default: "1000",
+};
+
+const UNTIL: NumberOption = NumberOption {
+    name: "until",
+    least: 0,
+    most: 1 << 62,
+    default: "4611686018427387904",
+};
+
+/// The options that the words give, or that they are refused.
+#[tactic(auto, unfolding(crate::specs::Options::options_from))]
+pub fn options_from(alloc: Global, words: &[String]) -> Result<Options, Refusal>
+    ensures options { IfOk result (λ options. options_from (map string_bytes words.now) ≡ Some (options_view options)) }
+    ensures cause { IfErr result (λ refusal. IsOfWords refusal (map string_bytes words.now)) }
 {
-    if first != "--seed" {
-        return None;
+    let matches = matches_of(alloc, words)?;
+    match options_in(&matches) {
+        Some(options) => Ok(options),
+        None => Err(Refusal::Words),
     }
-    if second != "--steps" {
-        return None;
-    }
-    let seed = number_in(0, u64::MAX, seed_word)?;
-    let steps = number_in(1, 1_000_000, steps_word)?;
-    Some(Options { seed, steps })
 }
 
-/// The number that the word spells in 1 to 20 digits, if it is in the range.
-#[tactic(auto, unfolding(crate::specs::Options::number_in))]
-fn number_in(low: u64, high: u64, word: &str) -> Option<u64>
-    ensures within { IfSome result (λ n. n ≤ high) }
-    ensures value { result ≡ number_in low high word.now }
+/// The matches of the words by the command line, or that it refuses them.
+fn matches_of<'a>(alloc: Global, words: &'a [String]) -> Result<ArgMatches<'a>, Refusal>
+    ensures accepted { OnOk result (fault_of command_line (map string_bytes words.entry.now) ≡ []) }
+    ensures matches { IfOk result (λ m. rows_of (found_of m) ≡ matches_of command_line (map string_bytes words.entry.now)) }
+    ensures values { IfOk result (λ m. HasValues m) }
+    ensures cause { IfErr result (λ refusal. IsOfWords refusal (map string_bytes words.entry.now)) }
 {
-    if word.is_empty() {
-        return None;
+    let Ok(command) = command_line(alloc) else {
+        return Err(Refusal::Memory);
+    };
+    match command.try_get_matches_from(words) {
+        Ok(matches) => Ok(matches),
+        Err(error) => Err(refusal_of(error.kind())),
     }
-    if word.len() > 20 {
-        return None;
-    }
-    if !has_only_digits(word) {
-        return None;
-    }
-    let number = spelled(word)?;
-    if number < low {
-        return None;
-    }
-    if number > high {
-        return None;
-    }
-    Some(number)
 }
 
-fn has_only_digits(word: &str) -> bool
-    ensures { result ≡ all_ascii_digits word.now }
+/// What an error of the parse refuses: the words, but for want of memory.
+fn refusal_of(kind: ErrorKind) -> Refusal
+    ensures memory { kind ≡ ErrorKind.OutOfMemory → result ≡ Refusal.Memory }
+    ensures words { (result ≡ Refusal.Words) ⊎ (kind ≡ ErrorKind.OutOfMemory) }
 {
-    for byte in word.as_bytes() {
-        if !byte.is_ascii_digit() {
-            return false;
-        }
+    match kind {
+        ErrorKind::OutOfMemory => Refusal::Memory,
+        _ => Refusal::Words,
     }
-    true
 }
 
-/// The number that the digits spell, if it is below 2^64.
-fn spelled(digits: &str) -> Option<u64>
-    requires some { 0 < length digits.now }
-    requires digits { all_ascii_digits digits.now ≡ true }
-    ensures { SomeIff result (number_after 0 digits.now < 2 ^ 64) (number_after 0 digits.now) }
+/// The command line: its options, each with a default.
+fn command_line<'a>(alloc: Global) -> Result<Command<'a>, AllocError>
+    ensures { IfOk result (λ command. app_of command ≡ command_line) }
 {
-    digits.parse::<u64>().ok()
+    let command = Command::new(alloc, "cpn_sim")
+        .no_binary_name(true)
+        .disable_help_flag(true)
+        .arg(word_option(alloc, "mode", "run"))?
+        .arg(number_option(alloc, SEED))?
+        .arg(number_option(alloc, WORKERS))?
+        .arg(number_option(alloc, STEPS))?
+        .arg(number_option(alloc, UNTIL))?
+        .arg(word_option(alloc, "trace", "on"))?;
+    Ok(command)
+}
+
+/// An option whose value is a word.
+fn word_option<'a>(alloc: Global, name: &'a str, default: &'a str) -> Arg<'a>
+    ensures rule { rule_of result ≡ option name.entry.now default.entry.now }
+    ensures local { result.global ≡ false }
+{
+    Arg::new(alloc, name)
+        .long(name)
+        .action(ArgAction::Set)
+        .default_value(default)
+}
+
+/// The option as clap reads it.
+fn number_option<'a>(alloc: Global, option: NumberOption) -> Arg<'a>
+    ensures rule { rule_of result ≡ number_option option.name.now option.least option.most option.default.now }
+    ensures local { result.global ≡ false }
+{
+    word_option(alloc, option.name, option.default).value_parser(ValueParser::unsigned(
+        option.least,
+        option.most,
+    ))
+}
+
+/// The options that the matches give: `None` where the mode or the trace has another name.
+#[tactic(auto, unfolding(crate::specs::Options::options_in))]
+fn options_in(matches: &ArgMatches<'_>) -> Option<Options>
+    requires { HasValues matches.now }
+    ensures { option_map options_view result ≡ options_in (rows_of (found_of matches.now)) }
+{
+    if word_of(matches, "mode") != "run" {
+        return None;
+    }
+    let trace = trace_of(word_of(matches, "trace"))?;
+    Some(Options {
+        seed: number_of(matches, SEED),
+        workers: number_of(matches, WORKERS),
+        steps: number_of(matches, STEPS),
+        until: number_of(matches, UNTIL),
+        trace,
+    })
+}
+
+/// The value of the option as it is written.
+fn word_of<'a>(matches: &ArgMatches<'a>, name: &str) -> &'a str
+    requires { HasValue matches.now name.now }
+    ensures { result.now ≡ value_of name.now (rows_of (found_of matches.now)) }
+{
+    matches.get_str(name).unwrap()
+}
+
+/// The value of the option, which is in its range.
+fn number_of(matches: &ArgMatches<'_>, option: NumberOption) -> u64
+    requires { IsNumberIn option.least option.most matches.now option.name.now }
+    ensures value { result ≡ number_of option.name.now (rows_of (found_of matches.now)) }
+    ensures within { (option.least ≤ result) × (result ≤ option.most) }
+{
+    matches.get_one::<u64>(option.name).unwrap()
+}
+
+/// Whether the trace is told, by its name: `on` or `off`.
+#[tactic(auto, unfolding(crate::specs::Options::trace_of))]
+fn trace_of(name: &str) -> Option<Trace>
+    ensures { result ≡ trace_of name.now }
+{
+    match name {
+        "on" => Some(Trace::On),
+        "off" => Some(Trace::Off),
+        _ => None,
+    }
 }
