@@ -1,0 +1,16 @@
+use Rattle.std.proofs.Common.{refl}
+use Rattle.cpn_lex.specs.Token as token
+use Rattle.cpn_lex.specs.declared.symbols.Symbol.TheVariants as sign
+use Rattle.cpn_syntax.proofs.Levels as levels
+use Rattle.cpn_syntax.proofs.Starting as starting
+use Rattle.cpn_syntax.proofs.first_tokens.begin_parenthesis.Goals as goal
+
+pub returns-then-accept-clause-begun : goal.returns-then-accept-clause-begun
+returns-then-accept-clause-begun c st =
+    let next = c.accept.ensures.yes c.if-accept.true in
+    rw (c.operand.ensures st, next.2, levels.view_unit) (starting.comes_unit st _ (record { kind = token.symbol sign.OpenParenthesis; at = c.args.at }) next.0 refl next.1)
+
+pub returns-clause-begun : goal.returns-clause-begun
+returns-clause-begun c st =
+    let other = c.accept.ensures.no c.if-accept.false in
+    rw (other.0, c.new.ensures.items) (starting.comes_group st _ (record { kind = token.symbol sign.OpenParenthesis; at = c.args.at }) refl other.1)

@@ -1,0 +1,25 @@
+use Rattle.std.proofs.lemmas.Result.{err_from_is_err_and}
+use Rattle.cpn_syntax.specs.AstViews.{ast_view}
+use Rattle.cpn_syntax.proofs.Levels as levels
+use Rattle.cpn_syntax.proofs.Repeating.{asts_with_last}
+use Rattle.cpn_syntax.proofs.GoingOn as going
+use Rattle.cpn_syntax.proofs.following_tokens.close_items.Goals as goal
+
+pub returns-then-accept-clause-closed : goal.returns-then-accept-clause-closed
+returns-then-accept-clause-closed c free st =
+    let next = c.accept.ensures.yes c.if-accept.true in
+    rw (next.2, c.in_ok-parts.ensures) (going.goes_on_items _ _ (ast_view c.args.part.tree) st _ c.args.at _ next.0 next.1)
+
+pub returns-in_err-take-clause-stops : goal.returns-in_err-take-clause-stops
+returns-in_err-take-clause-stops c =
+    let p = err_from_is_err_and c.from_residual-in_err-take.result c.from_residual-in_err-take.ensures.1 in
+    rw (p.1, p.2) (λ other free st.
+    let none = c.accept.ensures.no c.if-accept.false in
+    let refused = c.in_err-take.ensures.refused in
+    rw (refused.0, none.0) (going.breaks_items _ _ (ast_view c.args.part.tree) st _ c.args.at _ free none.1 (rw none.0 at refused.1)))
+
+pub returns-clause-closed : goal.returns-clause-closed
+returns-clause-closed c free st =
+    let none = c.accept.ensures.no c.if-accept.false in
+    let next = c.in_ok-take.ensures.taken in
+    rw (← none.0, next.2, c.whole.ensures st, levels.view_list c.in_ok-parts.parts, c.in_ok-parts.ensures, asts_with_last) (going.ends_items _ _ (ast_view c.args.part.tree) st _ c.args.at _ next.0 next.1.0)

@@ -1,0 +1,21 @@
+use Rattle.std.proofs.lemmas.Result.{err_from_is_err_and}
+use Rattle.cpn_syntax.proofs.Fragmenting.{leaves_on, leaves_to_halt}
+use Rattle.cpn_syntax.proofs.Parsing.{all_read, left_over}
+use Rattle.cpn_syntax.proofs.WholeInscriptions.{inscription_read, inscription_halts}
+use Rattle.cpn_syntax.proofs.Delaying.{delay_begins}
+use Rattle.cpn_syntax.proofs.parsers.whole_delay.Goals as goal
+
+pub returns-in_err-found-clause-stops : goal.returns-in_err-found-clause-stops
+returns-in_err-found-clause-stops c =
+    let p = err_from_is_err_and c.from_residual.result c.from_residual.ensures.1 in
+    rw (p.1, p.2) (λ no. rw (← c.new-reader.ensures) (leaves_to_halt (delay_begins c.accept.result c.accept.ensures.yes c.accept.ensures.no) (inscription_halts (c.in_err-found.ensures.stops no))))
+
+pub returns-in_err-nothing_left-clause-stops : goal.returns-in_err-nothing_left-clause-stops
+returns-in_err-nothing_left-clause-stops c =
+    let p = err_from_is_err_and c.from_residual-in_err-nothing_left.result c.from_residual-in_err-nothing_left.ensures.1 in
+    let left = c.in_err-nothing_left.ensures.left in
+    rw (p.1, p.2, left.0) (λ no. rw (← c.new-reader.ensures) (left_over (leaves_on (delay_begins c.accept.result c.accept.ensures.yes c.accept.ensures.no) (inscription_read c.in_ok-found.ensures.read)) left.1))
+
+pub returns-clause-read : goal.returns-clause-read
+returns-clause-read c =
+    rw (← c.new-reader.ensures) (all_read (leaves_on (delay_begins c.accept.result c.accept.ensures.yes c.accept.ensures.no) (inscription_read c.in_ok-found.ensures.read)) c.in_ok-nothing_left.ensures.done)
