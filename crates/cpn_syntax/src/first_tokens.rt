@@ -11,7 +11,7 @@ ghost use Rattle.cpn_syntax.specs.Steps.{Comes, BreaksOff, next_state};
 ghost use Rattle.cpn_syntax.specs.Unread.{unread};
 ghost use Rattle.cpn_syntax.specs.declared.refusals.SyntaxError.TheVariants as errors;
 
-use crate::open_forms::{Next, Open, Part};
+use crate::open_forms::{Next, Open, OpenFold, Part};
 use crate::operators::Prefix;
 use crate::readers::Reader;
 use crate::refusals::SyntaxError;
@@ -147,7 +147,8 @@ fn begin_fold(alloc: Global, reader: &mut Reader, at: usize) -> Result<Next, Syn
     reader.take(Symbol::Comma)?;
     let sum = reader.take_name(alloc)?;
     reader.take(Symbol::Over)?;
-    Ok(Next::Form(Open::FoldList { at, item, sum }))
+    let fold = OpenFold::List { item, sum };
+    Ok(Next::Form(Open::Fold { at, fold }))
 }
 
 /// `val N =` behind `let`.

@@ -8,14 +8,14 @@ ghost use Rattle.cpn_syntax.specs.Trees.{ast, stamped};
 ghost use Rattle.cpn_syntax.specs.PatViews.{pat_view};
 ghost use Rattle.cpn_syntax.specs.AstViews.{ast_view, form_view, arm_view, local_view};
 ghost use Rattle.cpn_syntax.specs.OpenForms.{Opens, condition, consequence, alternative, subject, arm, fold_list, fold_start, fold_body, terms, behind, front, group, items, arguments, local, body};
-ghost use Rattle.cpn_syntax.specs.OpenViews.{open_view, opens_view, part_state};
+ghost use Rattle.cpn_syntax.specs.OpenViews.{open_view, fold_view, opens_view, part_state};
 ghost use Rattle.cpn_syntax.specs.ReadForms.{have};
 ghost use Rattle.cpn_syntax.specs.Steps.{BreaksOff, StepIs, Closed, Unclosed, with_term};
 ghost use Rattle.cpn_syntax.specs.Joints.{joint_sign, joint_left, joint_precedence, IsJoined, NothingJoins};
 ghost use Rattle.cpn_syntax.specs.declared.following_tokens.Joint.{Joint};
 ghost use Rattle.cpn_syntax.specs.declared.refusals.SyntaxError.TheVariants as errors;
 
-use crate::open_forms::{Next, Open, OpenForms, Part};
+use crate::open_forms::{Next, Open, OpenFold, OpenForms, Part};
 use crate::operators::{Infix, Prefix, infix_of};
 use crate::pattern_parser::pattern;
 use crate::patterns::Pat;
@@ -234,20 +234,7 @@ fn close(alloc: Global, reader: &mut Reader, form: Open, part: Part) -> Result<N
             arms,
             pattern,
         } => close_arm(alloc, reader, at, subject, arms, pattern, part),
-        Open::FoldList { at, item, sum } => take_from(reader, at, item, sum, part),
-        Open::FoldStart {
-            at,
-            item,
-            sum,
-            list,
-        } => take_do(reader, at, item, sum, list, part),
-        Open::FoldBody {
-            at,
-            item,
-            sum,
-            list,
-            start,
-        } => Ok(end_fold(alloc, at, item, sum, list, start, part)?),
+        Open::Fold { at, fold } => close_fold(alloc, reader, at, fold, part),
         Open::Group { at, parts } => close_group(reader, at, parts, part),
         Open::Items { at, parts } => close_items(reader, at, parts, part),
         Open::Arguments {
@@ -390,6 +377,29 @@ fn take_else(
     }))
 }
 
+/// Completes a `foldl` behind its last part, or goes on with it.
+fn close_fold(
+    alloc: Global,
+    reader: &mut Reader,
+    at: usize,
+    fold: OpenFold,
+    part: Part,
+) -> Result<Next, SyntaxError>
+    ensures closed { IfOk result (λ n. Closed part (fold_view at fold) (unread reader.old) n (unread reader.new)) }
+    ensures stops { IfErr result (λ e. Unclosed part (fold_view at fold) (unread reader.old) e) }
+{
+    match fold {
+        OpenFold::List { item, sum } => take_from(reader, at, item, sum, part),
+        OpenFold::Start { item, sum, list } => take_do(reader, at, item, sum, list, part),
+        OpenFold::Body {
+            item,
+            sum,
+            list,
+            start,
+        } => Ok(end_fold(alloc, at, item, sum, list, start, part)?),
+    }
+}
+
 /// `from` behind the list.
 fn take_from(
     reader: &mut Reader,
@@ -402,12 +412,9 @@ fn take_from(
     ensures stops { IfErr result (λ e. Unclosed part (fold_list at (string_bytes item) (string_bytes sum)) (unread reader.old) e) }
 {
     reader.take(Symbol::From)?;
-    Ok(Next::Form(Open::FoldStart {
-        at,
-        item,
-        sum,
-        list: part.tree,
-    }))
+    let list = part.tree;
+    let fold = OpenFold::Start { item, sum, list };
+    Ok(Next::Form(Open::Fold { at, fold }))
 }
 
 /// `do` behind what stands for the sum before the first item.
@@ -423,13 +430,13 @@ fn take_do(
     ensures stops { IfErr result (λ e. Unclosed part (fold_start at (string_bytes item) (string_bytes sum) (ast_view list)) (unread reader.old) e) }
 {
     reader.take(Symbol::Do)?;
-    Ok(Next::Form(Open::FoldBody {
-        at,
+    let fold = OpenFold::Body {
         item,
         sum,
         list,
         start: part.tree,
-    }))
+    };
+    Ok(Next::Form(Open::Fold { at, fold }))
 }
 
 /// `end` behind the body of a `let`.

@@ -9,6 +9,38 @@ use crate::patterns::Pat;
 use crate::trees::{Arm, Ast, Asts, LocalValue};
 use std::alloc::{AllocError, Global};
 
+/// A `foldl` that is open: what stands left of the part that is read next.
+#[derive(Drop)]
+pub enum OpenFold {
+    /// `foldl N , N over` _
+    List {
+        /// The name of an item.
+        item: String,
+        /// The name of the sum.
+        sum: String,
+    },
+    /// `foldl N , N over e from` _
+    Start {
+        /// The name of an item.
+        item: String,
+        /// The name of the sum.
+        sum: String,
+        /// The list.
+        list: Ast,
+    },
+    /// `foldl N , N over e from e do` _
+    Body {
+        /// The name of an item.
+        item: String,
+        /// The name of the sum.
+        sum: String,
+        /// The list.
+        list: Ast,
+        /// What stands for the sum before the first item.
+        start: Ast,
+    },
+}
+
 /// A form that is open: what stands left of the part that is read next, with the offset of its first token.
 #[derive(Drop)]
 pub enum Open {
@@ -49,38 +81,12 @@ pub enum Open {
         /// The pattern of this arm.
         pattern: Pat,
     },
-    /// `foldl N , N over` _
-    FoldList {
+    /// `foldl N , N over` _, or further on in it
+    Fold {
         /// The offset of the form.
         at: usize,
-        /// The name of an item.
-        item: String,
-        /// The name of the sum.
-        sum: String,
-    },
-    /// `foldl N , N over e from` _
-    FoldStart {
-        /// The offset of the form.
-        at: usize,
-        /// The name of an item.
-        item: String,
-        /// The name of the sum.
-        sum: String,
-        /// The list.
-        list: Ast,
-    },
-    /// `foldl N , N over e from e do` _
-    FoldBody {
-        /// The offset of the form.
-        at: usize,
-        /// The name of an item.
-        item: String,
-        /// The name of the sum.
-        sum: String,
-        /// The list.
-        list: Ast,
-        /// What stands for the sum before the first item.
-        start: Ast,
+        /// What was read of it.
+        fold: OpenFold,
     },
     /// terms of a sum, each with `++` behind it
     Terms {
