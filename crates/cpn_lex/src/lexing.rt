@@ -46,7 +46,7 @@ fn tokens_of(alloc: Global, text: &[u8]) -> Result<Tokens, LexError>
 ///
 /// # Errors
 ///
-/// - [`LexError::TooLong`]: the text has more than 4,096 bytes; it is refused before any memory is taken.
+/// - [`LexError::TooLong`]: the text has more than 4,096 bytes. It is refused whatever memory is left.
 /// - [`LexError::BadByte`], [`LexError::OpenString`], [`LexError::NumberTooLarge`]: the first rule that the
 ///   text breaks, and where.
 /// - [`LexError::Memory`]: memory ran out.

@@ -1,5 +1,5 @@
 -- What the reading of a whole text says of the parser's answer.
-use Rattle.std.proofs.Common.{◌≡◌, ◌≢◌, ℕ, [], ◌∷◌, ◌++◌, refl, sym, ap, ◌∙◌, append_assoc, append-nil}
+use Rattle.std.proofs.Common.{◌≡◌, ◌≢◌, ℕ, inr, Err, [], ◌∷◌, ◌++◌, refl, sym, ap, ◌∙◌, append_assoc, append-nil}
 use Rattle.cpn_syntax.specs.declared.refusals.SyntaxError.{SyntaxError}
 use Rattle.cpn_syntax.specs.declared.refusals.SyntaxError.TheVariants.{Memory, Unexpected, EndOfText, TooDeep}
 use Rattle.cpn_syntax.specs.Texts.{Text}
@@ -7,7 +7,7 @@ use Rattle.cpn_syntax.specs.Faults.{fault_at}
 use Rattle.cpn_syntax.specs.Progress.{Agrees}
 use Rattle.cpn_syntax.specs.Completions.{Closes, nothing_more, at_end}
 use Rattle.cpn_syntax.specs.Fragments.{Front, Whole, whole, ReadsAs, Halts}
-use Rattle.cpn_syntax.specs.Parses.{SpellsOnly, CanBegin, Refuses}
+use Rattle.cpn_syntax.specs.Parses.{SpellsOnly, CanBegin, Refuses, Parses}
 use Rattle.cpn_syntax.proofs.Fragmenting.{front_at, split_front, split_whole}
 
 abbrev Ends : Text → Type 0
@@ -56,7 +56,7 @@ module _ {A : Type 0} {Spelled : A → Text → Type 0} where
     rest_cases (t ∷ after) split is none =
         rw is (x.used, t, after, split, refl, begun, λ w. none w.1 (t ∷ w.0) (w.0, refl) (rw append_assoc at w.2))
 
-  pub refused_by : (depth : A → ℕ) (text : Text) (e : SyntaxError) → (e ≢ Memory → Halts Spelled Ends text e) → Refuses Spelled depth text e
+  refused_by : (depth : A → ℕ) (text : Text) (e : SyntaxError) → (e ≢ Memory → Halts Spelled Ends text e) → Refuses Spelled depth text e
   refused_by depth text Memory stops = tt
   refused_by depth text (Unexpected at) stops = halts_unless text (Unexpected at) (stops (λ e. cc)) depth
   refused_by depth text EndOfText stops = halts_unless text EndOfText (stops (λ e. cc)) depth
@@ -69,8 +69,19 @@ module _ {A : Type 0} {Spelled : A → Text → Type 0} where
     agrees_self [] = refl
     agrees_self (t ∷ rest) = (rest, refl)
 
-  pub no_tree : {text : Text} (e : SyntaxError) → (e ≢ Memory → Halts Spelled Ends text e) → (a : A) → Spelled a text → e ≡ Memory
-  no_tree Memory stops a spelled = refl
-  no_tree {text} (Unexpected at) stops a spelled = absurd (spells_none (stops (λ e. cc)) a spelled)
-  no_tree {text} EndOfText stops a spelled = absurd (spells_none (stops (λ e. cc)) a spelled)
-  no_tree {text} TooDeep stops a spelled = absurd (spells_none (stops (λ e. cc)) a spelled)
+  -- it spells a tree: only want of memory refuses it
+  only_memory : {text : Text} (e : SyntaxError) → (e ≢ Memory → Halts Spelled Ends text e) → (a : A) → Spelled a text → e ≡ Memory
+  only_memory Memory stops a spelled = refl
+  only_memory (Unexpected at) stops a spelled = absurd (spells_none (stops (λ e. cc)) a spelled)
+  only_memory EndOfText stops a spelled = absurd (spells_none (stops (λ e. cc)) a spelled)
+  only_memory TooDeep stops a spelled = absurd (spells_none (stops (λ e. cc)) a spelled)
+
+  pub halted : {Found : Type 0} {view : Found → A} {depth : A → ℕ} {text : Text} (e : SyntaxError) → (e ≢ Memory → Halts Spelled Ends text e) → Parses view Spelled depth text (Err e)
+  halted {Found} {view} {depth} {text} e stops = record {
+    tree = tt;
+    shallow = tt;
+    only = tt;
+    refused = refused_by depth text e stops;
+    complete = λ a spelled shallow. only_memory e stops a spelled;
+    deep = λ a spelled deep. inr (only_memory e stops a spelled);
+  }

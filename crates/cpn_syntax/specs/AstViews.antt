@@ -1,6 +1,8 @@
 -- The plain inscription that an inscription of the program stands for.
-use Rattle.std.specs.Prelude.{ℕ, List, [], ◌∷◌, string_bytes}
-use Rattle.cpn_syntax.specs.Trees.{PlainPat, PlainAst, ast, PlainForm, number, text, truth, empty, time, name, call, unit, tuple, list, let_in, prefixed, infixed, stamped, sum, if_else, case_of, fold, asts_from, PlainArms, no_arm, more_arms, PlainLocals, no_local, more_locals}
+use Rattle.std.specs.Prelude.{ℕ, List, [], ◌∷◌, map, string_bytes}
+use Rattle.std.specs.Global.{Global}
+use Rattle.std.specs.declared.vec.Vec.{Vec}
+use Rattle.cpn_syntax.specs.Trees.{PlainPat, PlainAst, ast, PlainForm, number, text, truth, empty, time, name, call, unit, tuple, list, let_in, prefixed, infixed, stamped, sum, if_else, case_of, fold, PlainAsts, asts_from, PlainArms, no_arm, more_arms, PlainLocals, no_local, more_locals}
 use Rattle.cpn_syntax.specs.PatViews.{pat_view}
 use Rattle.cpn_syntax.specs.declared.trees.Ast.{Ast, fold-Ast}
 use Rattle.cpn_syntax.specs.declared.trees.Arm.{Arm, fold-Arm}
@@ -57,3 +59,7 @@ local_view = fold-LocalValue PlainForm (PlainPat × PlainAst) PlainAst (List ℕ
 
 abbrev pub form_view : Form → PlainForm
 form_view = fold-Form PlainForm (PlainPat × PlainAst) PlainAst (List ℕ × PlainAst) form_step arm_step ast_step local_step
+
+-- the inscriptions of a list
+abbrev pub asts_view : Vec Ast Global → PlainAsts
+asts_view parts = asts_from (map ast_view parts.items)

@@ -3,7 +3,7 @@
 ghost use Rattle.std.specs.Prelude.{◌≡◌, ◌≢◌, ◌<◌, ◌≤◌, ◌⊎◌, Bool, true, false, IfOk, IfErr, MatchResult, [], map};
 ghost use Rattle.cpn_lex.specs.Token.{tokens_view};
 ghost use Rattle.cpn_lex.specs.declared.symbols.Symbol.TheVariants as sign;
-ghost use Rattle.cpn_syntax.specs.AstViews.{ast_view};
+ghost use Rattle.cpn_syntax.specs.AstViews.{ast_view, asts_view};
 ghost use Rattle.cpn_syntax.specs.Completions.{Closes, nothing_more};
 ghost use Rattle.cpn_syntax.specs.DeclTrees.{PlainDecl, decl_view};
 ghost use Rattle.cpn_syntax.specs.Declarations.{SpellsDecl};
@@ -13,7 +13,7 @@ ghost use Rattle.cpn_syntax.specs.Faults.{fault_at};
 ghost use Rattle.cpn_syntax.specs.Fragments.{Halts};
 ghost use Rattle.cpn_syntax.specs.Guards.{SpellsGuard, conjuncts_of};
 ghost use Rattle.cpn_syntax.specs.Inscriptions.{Spells};
-ghost use Rattle.cpn_syntax.specs.Parses.{SpellsOnly, Refuses};
+ghost use Rattle.cpn_syntax.specs.Parses.{SpellsOnly, Parses};
 ghost use Rattle.cpn_syntax.specs.Texts.{Is};
 ghost use Rattle.cpn_syntax.specs.Trees.{PlainAst, PlainAsts, no_ast, more_asts, asts_from};
 ghost use Rattle.cpn_syntax.specs.Unread.{unread, Begins};
@@ -32,14 +32,18 @@ use std::alloc::{AllocError, Global};
 /// How deep a tree may be.
 const MOST_LEVELS: u64 = 64;
 
-/// The declaration that the tokens are.
+/// The declaration that the tokens are, up to its semicolon.
+///
+/// It stands one level over its inscription, if it has one.
+///
+/// # Errors
+///
+/// - [`SyntaxError::Unexpected`]: the first token after whose reading no declaration can follow, by its offset.
+/// - [`SyntaxError::EndOfText`]: the tokens begin a declaration, and are none themselves.
+/// - [`SyntaxError::TooDeep`]: the tokens are a declaration, but its tree is deeper than 64.
+/// - [`SyntaxError::Memory`]: memory ran out.
 pub fn parse_decl(alloc: Global, tokens: &Tokens) -> Result<Decl, SyntaxError>
-    ensures tree { IfOk result (λ found. SpellsDecl (decl_view found) (tokens_view tokens.now.items)) }
-    ensures shallow { IfOk result (λ found. decl_depth (decl_view found) ≤ 64) }
-    ensures only { IfOk result (λ found. (other : PlainDecl) → SpellsDecl other (tokens_view tokens.now.items) → other ≡ decl_view found) }
-    ensures refused { IfErr result (λ e. Refuses SpellsDecl decl_depth (tokens_view tokens.now.items) e) }
-    ensures complete { (spelled : PlainDecl) → SpellsDecl spelled (tokens_view tokens.now.items) → decl_depth spelled ≤ 64 → IfErr result (λ e. e ≡ errors.Memory) }
-    ensures deep { (spelled : PlainDecl) → SpellsDecl spelled (tokens_view tokens.now.items) → 64 < decl_depth spelled → MatchResult result (λ _. ⊥) (λ e. (e ≡ errors.TooDeep) ⊎ (e ≡ errors.Memory)) }
+    ensures { Parses decl_view SpellsDecl decl_depth (tokens_view tokens.now.items) result }
 {
     let found = whole_declaration(alloc, tokens.as_slice())?;
     if declared_depth(&found) > MOST_LEVELS {
@@ -48,14 +52,16 @@ pub fn parse_decl(alloc: Global, tokens: &Tokens) -> Result<Decl, SyntaxError>
     Ok(found)
 }
 
-/// The inscription that the tokens are.
+/// The inscription that the tokens are, as it stands on an arc.
+///
+/// # Errors
+///
+/// - [`SyntaxError::Unexpected`]: the first token after whose reading no inscription can follow, by its offset.
+/// - [`SyntaxError::EndOfText`]: the tokens begin an inscription, and are none themselves.
+/// - [`SyntaxError::TooDeep`]: the tokens are an inscription, but its tree is deeper than 64.
+/// - [`SyntaxError::Memory`]: memory ran out.
 pub fn parse_expr(alloc: Global, tokens: &Tokens) -> Result<Ast, SyntaxError>
-    ensures tree { IfOk result (λ found. Spells 0 (ast_view found) (tokens_view tokens.now.items)) }
-    ensures shallow { IfOk result (λ found. depth (ast_view found) ≤ 64) }
-    ensures only { IfOk result (λ found. (other : PlainAst) → Spells 0 other (tokens_view tokens.now.items) → other ≡ ast_view found) }
-    ensures refused { IfErr result (λ e. Refuses (Spells 0) depth (tokens_view tokens.now.items) e) }
-    ensures complete { (spelled : PlainAst) → Spells 0 spelled (tokens_view tokens.now.items) → depth spelled ≤ 64 → IfErr result (λ e. e ≡ errors.Memory) }
-    ensures deep { (spelled : PlainAst) → Spells 0 spelled (tokens_view tokens.now.items) → 64 < depth spelled → MatchResult result (λ _. ⊥) (λ e. (e ≡ errors.TooDeep) ⊎ (e ≡ errors.Memory)) }
+    ensures { Parses ast_view (Spells 0) depth (tokens_view tokens.now.items) result }
 {
     let found = whole_inscription(alloc, tokens.as_slice())?;
     if tree_depth(&found) > MOST_LEVELS {
@@ -64,26 +70,34 @@ pub fn parse_expr(alloc: Global, tokens: &Tokens) -> Result<Ast, SyntaxError>
     Ok(found)
 }
 
-/// The inscription of a multiset that the tokens are.
+/// The inscription of a multiset that the tokens are, as it stands for an initial marking.
+///
+/// The grammar of multisets is that of inscriptions: [`parse_expr`] answers the same.
+///
+/// # Errors
+///
+/// - [`SyntaxError::Unexpected`]: the first token after whose reading no inscription can follow, by its offset.
+/// - [`SyntaxError::EndOfText`]: the tokens begin an inscription, and are none themselves.
+/// - [`SyntaxError::TooDeep`]: the tokens are an inscription, but its tree is deeper than 64.
+/// - [`SyntaxError::Memory`]: memory ran out.
 pub fn parse_mset(alloc: Global, tokens: &Tokens) -> Result<Ast, SyntaxError>
-    ensures tree { IfOk result (λ found. Spells 0 (ast_view found) (tokens_view tokens.now.items)) }
-    ensures shallow { IfOk result (λ found. depth (ast_view found) ≤ 64) }
-    ensures only { IfOk result (λ found. (other : PlainAst) → Spells 0 other (tokens_view tokens.now.items) → other ≡ ast_view found) }
-    ensures refused { IfErr result (λ e. Refuses (Spells 0) depth (tokens_view tokens.now.items) e) }
-    ensures complete { (spelled : PlainAst) → Spells 0 spelled (tokens_view tokens.now.items) → depth spelled ≤ 64 → IfErr result (λ e. e ≡ errors.Memory) }
-    ensures deep { (spelled : PlainAst) → Spells 0 spelled (tokens_view tokens.now.items) → 64 < depth spelled → MatchResult result (λ _. ⊥) (λ e. (e ≡ errors.TooDeep) ⊎ (e ≡ errors.Memory)) }
+    ensures { Parses ast_view (Spells 0) depth (tokens_view tokens.now.items) result }
 {
     parse_expr(alloc, tokens)
 }
 
-/// The conjuncts of the guard that the tokens are.
+/// The conjuncts of the guard that the tokens are: the items of its brackets, or else the one inscription.
+///
+/// Where one pair of brackets with an item encloses the whole text, they are the guard's, and no list.
+///
+/// # Errors
+///
+/// - [`SyntaxError::Unexpected`]: the first token after whose reading no guard can follow, by its offset.
+/// - [`SyntaxError::EndOfText`]: the tokens begin a guard, and are none themselves.
+/// - [`SyntaxError::TooDeep`]: the tokens are a guard, but a conjunct is deeper than 64.
+/// - [`SyntaxError::Memory`]: memory ran out.
 pub fn parse_guard(alloc: Global, tokens: &Tokens) -> Result<Asts, SyntaxError>
-    ensures tree { IfOk result (λ found. SpellsGuard (asts_from (map ast_view found.items)) (tokens_view tokens.now.items)) }
-    ensures shallow { IfOk result (λ found. deepest (asts_from (map ast_view found.items)) ≤ 64) }
-    ensures only { IfOk result (λ found. (other : PlainAsts) → SpellsGuard other (tokens_view tokens.now.items) → other ≡ asts_from (map ast_view found.items)) }
-    ensures refused { IfErr result (λ e. Refuses SpellsGuard deepest (tokens_view tokens.now.items) e) }
-    ensures complete { (spelled : PlainAsts) → SpellsGuard spelled (tokens_view tokens.now.items) → deepest spelled ≤ 64 → IfErr result (λ e. e ≡ errors.Memory) }
-    ensures deep { (spelled : PlainAsts) → SpellsGuard spelled (tokens_view tokens.now.items) → 64 < deepest spelled → MatchResult result (λ _. ⊥) (λ e. (e ≡ errors.TooDeep) ⊎ (e ≡ errors.Memory)) }
+    ensures { Parses asts_view SpellsGuard deepest (tokens_view tokens.now.items) result }
 {
     let found = whole_guard(alloc, tokens.as_slice())?;
     if deepest_of(found.as_slice()) > MOST_LEVELS {
@@ -92,14 +106,16 @@ pub fn parse_guard(alloc: Global, tokens: &Tokens) -> Result<Asts, SyntaxError>
     Ok(found)
 }
 
-/// The inscription of the delay that the tokens are, without the `@+` in front of it.
+/// The inscription of the delay that the tokens are, without the `@+` that may stand in front of it.
+///
+/// # Errors
+///
+/// - [`SyntaxError::Unexpected`]: the first token after whose reading no delay can follow, by its offset.
+/// - [`SyntaxError::EndOfText`]: the tokens begin a delay, and are none themselves.
+/// - [`SyntaxError::TooDeep`]: the tokens are a delay, but its tree is deeper than 64.
+/// - [`SyntaxError::Memory`]: memory ran out.
 pub fn parse_delay(alloc: Global, tokens: &Tokens) -> Result<Ast, SyntaxError>
-    ensures tree { IfOk result (λ found. SpellsDelay (ast_view found) (tokens_view tokens.now.items)) }
-    ensures shallow { IfOk result (λ found. depth (ast_view found) ≤ 64) }
-    ensures only { IfOk result (λ found. (other : PlainAst) → SpellsDelay other (tokens_view tokens.now.items) → other ≡ ast_view found) }
-    ensures refused { IfErr result (λ e. Refuses SpellsDelay depth (tokens_view tokens.now.items) e) }
-    ensures complete { (spelled : PlainAst) → SpellsDelay spelled (tokens_view tokens.now.items) → depth spelled ≤ 64 → IfErr result (λ e. e ≡ errors.Memory) }
-    ensures deep { (spelled : PlainAst) → SpellsDelay spelled (tokens_view tokens.now.items) → 64 < depth spelled → MatchResult result (λ _. ⊥) (λ e. (e ≡ errors.TooDeep) ⊎ (e ≡ errors.Memory)) }
+    ensures { Parses ast_view SpellsDelay depth (tokens_view tokens.now.items) result }
 {
     let found = whole_delay(alloc, tokens.as_slice())?;
     if tree_depth(&found) > MOST_LEVELS {
@@ -144,7 +160,7 @@ fn whole_delay(alloc: Global, tokens: &[Token]) -> Result<Ast, SyntaxError>
 
 /// The conjuncts of the guard that the tokens are, however deep.
 fn whole_guard(alloc: Global, tokens: &[Token]) -> Result<Asts, SyntaxError>
-    ensures read { IfOk result (λ found. SpellsOnly SpellsGuard (tokens_view tokens.now) (asts_from (map ast_view found.items))) }
+    ensures read { IfOk result (λ found. SpellsOnly SpellsGuard (tokens_view tokens.now) (asts_view found)) }
     ensures stops { IfErr result (λ e. e ≢ errors.Memory → Halts SpellsGuard (Closes nothing_more) (tokens_view tokens.now) e) }
 {
     let tree = whole_inscription(alloc, tokens)?;
@@ -175,7 +191,7 @@ fn begins_with_bracket(tokens: &[Token]) -> bool
 
 /// The conjuncts of a guard, of which the tree was read.
 fn conjuncts(alloc: Global, tree: Ast, bracketed: bool) -> Result<Asts, AllocError>
-    ensures { IfOk result (λ found. asts_from (map ast_view found.items) ≡ conjuncts_of (ast_view tree) bracketed) }
+    ensures { IfOk result (λ found. asts_view found ≡ conjuncts_of (ast_view tree) bracketed) }
 {
     if !bracketed {
         return alone(alloc, tree);
@@ -195,7 +211,7 @@ fn conjuncts(alloc: Global, tree: Ast, bracketed: bool) -> Result<Asts, AllocErr
 
 /// The one inscription.
 fn alone(alloc: Global, tree: Ast) -> Result<Asts, AllocError>
-    ensures { IfOk result (λ found. asts_from (map ast_view found.items) ≡ more_asts (ast_view tree) no_ast) }
+    ensures { IfOk result (λ found. asts_view found ≡ more_asts (ast_view tree) no_ast) }
 {
     let mut found = Vec::new(alloc);
     found.push(tree)?;
