@@ -18,7 +18,7 @@ mod words;
 
 use cpn_io::{Stdin, Stdout};
 pub use options::Options;
-pub use simulation::simulate;
+pub use simulation::{refuse_words, simulate};
 pub use statuses::Status;
 use std::process::ExitCode;
 use std::rt::Env;
@@ -34,8 +34,7 @@ fn run(rt: &(impl Env + AllocGlobal + Input + Print)) -> Status {
     let words = match command_words(rt) {
         Ok(words) => words,
         Err(error) if error.kind() == io::ErrorKind::OutOfMemory => return Status::Memory,
-        // A word that is no text: as no words at all, which are refused with their line.
-        Err(_) => Vec::new(rt.alloc()),
+        Err(_) => return refuse_words(&mut Stdout::new(rt)),
     };
     simulate(
         rt.alloc(),

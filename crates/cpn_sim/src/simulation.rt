@@ -79,6 +79,16 @@ pub fn simulate<S: Source, K: Sink>(
     }
 }
 
+/// Writes the line that the words are refused: for words that are no text, of which no list can be made.
+pub fn refuse_words<K: Sink>(sink: &mut K) -> Status
+    ensures status { (result ≡ Status.BadWords) ⊎ (result ≡ Status.WriteFault) }
+    ensures line { result ≡ Status.BadWords → Appends (K.held sink.old) (K.held sink.new) (error_line Refusal.Words) }
+    ensures write { result ≡ Status.WriteFault → Rose (K.faults sink.old) (K.faults sink.new) }
+    ensures write_part { result ≡ Status.WriteFault → AppendsProperPrefix (K.held sink.old) (K.held sink.new) (error_line Refusal.Words) }
+{
+    refuse(sink, Refusal::Words)
+}
+
 /// Writes the line of the refusal.
 fn refuse<K: Sink>(sink: &mut K, refusal: Refusal) -> Status
     ensures written { result ≡ status_of refusal → Appends (K.held sink.old) (K.held sink.new) (error_line refusal) }

@@ -1,12 +1,16 @@
 //! Worked documents through the whole program: what it writes, byte for byte, and its status.
 
-use crate::{Status, simulate};
+use crate::{Status, refuse_words, simulate};
 use cpn_io::{BytesSink, BytesSource};
 use std::alloc::Global;
 use std::test::Fail;
 
 const THREE_TOKENS: &str =
     r#"{"version":1,"declarations":["colset INT = int;","var x : INT;"],"top":"Top","modules":[{"name":"Top","places":[{"name":"A","colour":"INT","initial":"3`7"},{"name":"B","colour":"INT"}],"transitions":[{"name":"t"}],"arcs":[{"place":"A","transition":"t","to":"transition","expr":"x"},{"place":"B","transition":"t","to":"place","expr":"x"}]}]}"#;
+
+// One token more than the steps that there are where the words give none.
+const MANY_TOKENS: &str =
+    r#"{"version":1,"declarations":["colset INT = int;","var x : INT;"],"top":"Top","modules":[{"name":"Top","places":[{"name":"A","colour":"INT","initial":"1001`7"},{"name":"B","colour":"INT"}],"transitions":[{"name":"t"}],"arcs":[{"place":"A","transition":"t","to":"transition","expr":"x"},{"place":"B","transition":"t","to":"place","expr":"x"}]}]}"#;
 
 const NO_TRANSITION: &str =
     r#"{"version":1,"declarations":["colset INT = int;","var x : INT;"],"top":"Top","modules":[{"name":"Top","places":[{"name":"A","colour":"INT","initial":"1`7"}],"transitions":[],"arcs":[]}]}"#;
@@ -44,6 +48,21 @@ const ENDLESS_LOOP_REPORT: &str =
 
 const THREE_STEPS_REPORT: &str =
     "report 1\nrun 0 initial 0 ready 1 next 0\nocc 0 @0 Top/t {x=7}\nocc 1 @0 Top/t {x=7}\nocc 2 @0 Top/t {x=7}\nschedule c0 d0 c1 d1 c2 d2\nend steps\noccurrences 3\nclock 0\nplace Top/A empty\nplace Top/B 3`7\nready 0\nnext none\ntotal 3\n";
+
+const THOUSAND_STEPS_REPORT: &str =
+    "report 1\nrun 0 initial 0 ready 1 next 0\nend steps\noccurrences 1000\nclock 0\nplace Top/A 1`7\nready 1\nnext 0\ntotal 1000\n";
+
+const DEAD_AFTER_1001_REPORT: &str =
+    "report 1\nrun 0 initial 0 ready 1 next 0\nend dead\noccurrences 1001\nclock 0\nplace Top/A empty\nplace Top/B 1001`7\nready 0\nnext none\ntotal 1001\n";
+
+const STOPPED_AFTER_1000_REPORT: &str =
+    "report 1\nrun 0 initial 0 ready 1 next 0\nend steps\noccurrences 1000\nclock 0\nplace Top/A 1`7\nplace Top/B 1000`7\nready 1\nnext 0\ntotal 1000\n";
+
+const EIGHT_TAKEN_REPORT: &str =
+    "report 1\nrun 0 initial 0 ready 1 next 0\nocc 0 @0 Top/p {x=8}\nocc 1 @0 Top/t {x=8}\nschedule c0 d0 c1 d1\nend dead\noccurrences 2\nclock 0\nplace Top/A 1`5\nplace Top/S empty\nplace Top/G empty\nready 0\nnext none\ntotal 2\n";
+
+const FIVE_TAKEN_REPORT: &str =
+    "report 1\nrun 0 initial 0 ready 1 next 0\nocc 0 @0 Top/p {x=8}\nocc 1 @0 Top/t {x=5}\nschedule c0 d0 c1 d1\nend dead\noccurrences 2\nclock 0\nplace Top/A 1`8\nplace Top/S empty\nplace Top/G empty\nready 0\nnext none\ntotal 2\n";
 
 // Which calls of the source and the sink fail, how many bytes a call moves, and the sink's room.
 #[derive(Clone, Copy)]
@@ -273,24 +292,219 @@ fn refuses_words(alloc: Global, words: &str) -> Result<bool, Fail> {
     )
 }
 
+// Words that are refused, a line each: the values of each option in turn, then what is no option.
+const REFUSED: &str = "--mode large
+--mode RUN
+--mode check
+--mode reps
+--mode
+--mode=
+--mode --trace off
+--mode run --mode run
+--mode=run --mode run
+--seed 18446744073709551616
+--seed=18446744073709551616
+--seed -1
+--seed=-1
+--seed=-0
+--seed +
+--seed 1.0
+--seed x
+--seed
+--seed=
+--seed --steps 5
+--seed 1 --seed 1
+--seed=1 --seed 1
+--seed5
+-seed 1
+--see 1
+-s 1
+--workers
+--workers=
+--workers 0
+--workers=0
+--workers 00
+--workers 2
+--workers=2
+--workers 1 --workers 1
+--workers=1 --workers=1
+--steps
+--steps=
+--steps 0
+--steps=0
+--steps 0000
+--steps 1000001
+--steps=1000001
+--steps -1
+--steps ++5
+--steps 1 --steps 1
+--until
+--until=
+--until 4611686018427387905
+--until=4611686018427387905
+--until -1
+--until=-1
+--until +
+--until 0 --until 0
+--trace
+--trace=
+--trace maybe
+--trace ON
+--trace on --trace off
+--trace=on --trace=off
+--reps 1
+--colour red
+--help
+--help=x
+help
+-h
+--version
+-V
+-
+run
+-- run
+--seed 1 run";
+
+// Words that are refused for an empty word among them.
+const REFUSED_FOR_AN_EMPTY_WORD: &str = " \n--seed \n--seed 1 ";
+
 #[test]
 fn words_are_refused(rt: HostRuntime) -> Result<(), Fail> {
-    let lines =
-        "--mode large\n--mode RUN\n--mode\n--mode=\n--mode run --mode run\n--seed 18446744073709551616\n--seed -1\n--seed=-1\n--seed +\n--seed 1.0\n--seed x\n--seed\n--seed=\n--seed \n--seed 1 --seed 1\n--workers 0\n--workers 2\n--workers 1 --workers 1\n--steps 0\n--steps 1000001\n--steps 1 --steps 1\n--until 4611686018427387905\n--until -1\n--until 0 --until 0\n--trace maybe\n--trace ON\n--trace\n--trace=\n--trace on --trace off\n--see 1\n--colour red\n-s 1\n-h\n--help\n-V\n--version\n-\nrun\n-- run\n--seed 1 \n--seed 1 run\n ";
-    for words in lines.lines() {
+    for words in REFUSED.lines() {
+        assert!(rt; refuses_words(rt.alloc(), words)?, "of {words:?}");
+    }
+    for words in REFUSED_FOR_AN_EMPTY_WORD.lines() {
         assert!(rt; refuses_words(rt.alloc(), words)?, "of {words:?}");
     }
     Ok(())
 }
 
-// Under all words that are accepted the net without transitions has one report.
+#[test]
+fn words_that_are_no_text_are_refused(rt: HostRuntime) -> Result<(), Fail> {
+    let alloc = rt.alloc();
+    let mut sink = BytesSink::new(alloc, Vec::new(alloc), 5, 64)?;
+    assert!(rt; refuse_words(&mut sink) == Status::BadWords);
+    assert!(rt; sink.bytes() == "error words\n".as_bytes());
+    let mut full = BytesSink::new(alloc, Vec::new(alloc), 5, 7)?;
+    assert!(rt; refuse_words(&mut full) == Status::WriteFault);
+    assert!(rt; full.bytes() == "error w".as_bytes());
+    Ok(())
+}
+
+// Words that are accepted, a line each, under which the net without transitions has one report.
+const ACCEPTED: &str = "--seed 0
+--seed=0
+--seed=5
+--seed +5
+--seed 007
+--seed=+007
+--seed 18446744073709551615
+--seed=18446744073709551615
+--seed 00018446744073709551615
+--steps 1
+--steps=1
+--steps 1000000
+--steps=1000000
+--steps +1000000
+--seed 0 --
+--steps 1000 --seed 0
+--trace=on --until=9 --steps=9 --workers=1 --seed=9 --mode=run";
+
 #[test]
 fn words_are_accepted(rt: HostRuntime) -> Result<(), Fail> {
-    let lines =
-        "\n--mode run\n--mode=run\n--seed 0\n--seed 18446744073709551615\n--seed=5\n--seed +5\n--seed 007\n--seed=+007\n--workers 1\n--steps 1\n--steps 1000000\n--until 0\n--until 4611686018427387904\n--trace on\n--\n--seed 0 --\n--steps 1000 --seed 0\n--trace=on --until=9 --steps=9 --workers=1 --seed=9 --mode=run";
-    for words in lines.lines() {
+    for words in ACCEPTED.lines() {
         let same = reports(rt.alloc(), words, NO_TRANSITION, NO_TRANSITION_REPORT)?;
         assert!(rt; same, "of {words:?}");
+    }
+    Ok(())
+}
+
+// Words that are accepted and change nothing: no words, defaults, and any last time, since the run stays at
+// clock 0.
+const WITHOUT_EFFECT: &str = "
+--mode run
+--mode=run
+--workers 1
+--workers=1
+--workers 01
+--workers +1
+--until 0
+--until=0
+--until +0
+--until 4611686018427387904
+--until=4611686018427387904
+--trace on
+--trace=on
+--";
+
+#[test]
+fn words_without_effect(rt: HostRuntime) -> Result<(), Fail> {
+    for words in WITHOUT_EFFECT.lines() {
+        let same = reports(rt.alloc(), words, THREE_TOKENS, THREE_TOKENS_REPORT)?;
+        assert!(rt; same, "of {words:?}");
+    }
+    Ok(())
+}
+
+#[test]
+fn the_trace_is_left_out(rt: HostRuntime) -> Result<(), Fail> {
+    for words in "--trace off\n--trace=off".lines() {
+        let three = reports(rt.alloc(), words, THREE_TOKENS, THREE_TOKENS_WITHOUT_TRACE)?;
+        assert!(rt; three, "of {words:?}");
+        let thousand = reports(rt.alloc(), words, ENDLESS_LOOP, THOUSAND_STEPS_REPORT)?;
+        assert!(rt; thousand, "of {words:?}");
+    }
+    Ok(())
+}
+
+const ONE_STEP: &str = "--steps 1
+--steps=1
+--steps +1
+--steps=0001";
+
+const DEFAULT_STEPS: &str = "--trace off
+--steps=1000 --trace off";
+
+const MOST_STEPS: &str = "--steps 1000000 --trace off
+--steps=1000000 --trace off
+--steps +1000000 --trace off";
+
+#[test]
+fn the_steps_are_those_of_the_words(rt: HostRuntime) -> Result<(), Fail> {
+    for words in ONE_STEP.lines() {
+        let one = reports(rt.alloc(), words, ENDLESS_LOOP, ENDLESS_LOOP_REPORT)?;
+        assert!(rt; one, "of {words:?}");
+    }
+    for words in DEFAULT_STEPS.lines() {
+        let stopped = reports(rt.alloc(), words, MANY_TOKENS, STOPPED_AFTER_1000_REPORT)?;
+        assert!(rt; stopped, "of {words:?}");
+    }
+    for words in MOST_STEPS.lines() {
+        let dead = reports(rt.alloc(), words, MANY_TOKENS, DEAD_AFTER_1001_REPORT)?;
+        assert!(rt; dead, "of {words:?}");
+    }
+    Ok(())
+}
+
+const LEAST_SEED: &str = "
+--seed 0
+--seed=0
+--seed=+000";
+
+const GREATEST_SEED: &str = "--seed 18446744073709551615
+--seed=18446744073709551615
+--seed 00018446744073709551615";
+
+// Seeds 0 and 2^64-1: worked out from the generator's definition, their second words are odd and even.
+#[test]
+fn the_seed_is_that_of_the_words(rt: HostRuntime) -> Result<(), Fail> {
+    for words in LEAST_SEED.lines() {
+        let least = reports(rt.alloc(), words, TWO_BINDINGS, EIGHT_TAKEN_REPORT)?;
+        assert!(rt; least, "of {words:?}");
+    }
+    for words in GREATEST_SEED.lines() {
+        let greatest = reports(rt.alloc(), words, TWO_BINDINGS, FIVE_TAKEN_REPORT)?;
+        assert!(rt; greatest, "of {words:?}");
     }
     Ok(())
 }
