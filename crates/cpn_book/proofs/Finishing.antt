@@ -1,13 +1,12 @@
 -- A run whose rounds are over.
-use Rattle.std.proofs.Common.{◌≡◌, ◌≢◌, ℕ, ◌<◌, true, List, [], ◌∷◌, length, map, refl, sym, ap, ◌∙◌, subst, arith}
+use Rattle.std.proofs.Common.{◌≡◌, ◌<◌, true, List, [], ◌∷◌, length, map, refl, ◌∙◌, subst, arith}
 use Rattle.std.proofs.lemmas.List.{length-map}
-use Rattle.cpn_definitions.specs.Marking.{Marking}
 use Rattle.cpn_definitions.specs.Enabled.{PlainEntry, Enabled}
 use Rattle.cpn_definitions.specs.Sound.{is_sound}
 use Rattle.cpn_definitions.specs.State.{PlainSetup, PlainEnd, dead, steps_made}
 use Rattle.cpn_definitions.specs.Run.{PlainFinished, IsRun}
 use Rattle.cpn_definitions.proofs.Listing.{none_is_dead}
-use Rattle.cpn_definitions.proofs.Ending.{IsOver, ended}
+use Rattle.cpn_definitions.proofs.Ending.{ended}
 use Rattle.cpn_core.specs.Occurrences.{occurrence_view, event_view}
 use Rattle.cpn_book.specs.Progress.{IsRunning}
 use Rattle.cpn_book.specs.declared.progresses.Progress.{Progress}

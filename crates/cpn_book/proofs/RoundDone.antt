@@ -1,5 +1,5 @@
 -- One round of a run of one seat, as its code goes through it.
-use Rattle.std.proofs.Common.{◌≡◌, ℕ, ◌+◌, ◌<◌, ◌%◌, Bool, true, List, [], ◌∷◌, ◌++◌, length, map, Some, None, Option, refl, sym, ap, ◌∙◌, subst, slice_get, slice_index_or, zero, suc, arith}
+use Rattle.std.proofs.Common.{◌≡◌, ℕ, ◌<◌, ◌%◌, true, List, [], ◌∷◌, ◌++◌, length, map, Some, refl, sym, ap, ◌∙◌, subst, slice_get, slice_index_or, zero, suc, arith}
 use Rattle.std.specs.List.{Contains}
 use Rattle.cpn_core.specs.declared.bindings.Element.{Element}
 use Rattle.cpn_core.specs.declared.occurrences.Occurrence.{Occurrence}
@@ -11,7 +11,7 @@ use Rattle.cpn_definitions.specs.Marking.{Marking}
 use Rattle.cpn_definitions.specs.Net.{PlainNet, transition_at}
 use Rattle.cpn_definitions.specs.Meaning.{gives}
 use Rattle.cpn_definitions.specs.Occurrence.{PlainElement, Needed, Made, covered, needs_of, outputs_of, subtract, add_made}
-use Rattle.cpn_definitions.specs.Enabled.{PlainEntry, IsEarliest, Enabled, ready}
+use Rattle.cpn_definitions.specs.Enabled.{PlainEntry, Enabled}
 use Rattle.cpn_definitions.specs.Sound.{is_sound}
 use Rattle.cpn_definitions.specs.Draw.{word}
 use Rattle.cpn_definitions.specs.State.{PlainSetup, PlainEvent, claim_made, claim_completed, IsDrawn, PlainOccurrence, given_needs}

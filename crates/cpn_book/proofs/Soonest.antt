@@ -1,5 +1,5 @@
 -- The soonest of the times so far and of those that follow.
-use Rattle.std.proofs.Common.{◌≡◌, ℕ, min, Option, Some, None, refl, ap, arith}
+use Rattle.std.proofs.Common.{◌≡◌, ℕ, Option, Some, None, refl, ap, arith}
 use Rattle.cpn_definitions.specs.Enabled.{or_sooner}
 
 abbrev pub soonest : Option ℕ → Option ℕ → Option ℕ

@@ -1,5 +1,5 @@
 -- What a run needs of the setup that it starts from.
-use Rattle.std.proofs.Common.{◌≡◌, ℕ, ◌<◌, ◌≤◌, ◌^◌, true, List, [], ◌∷◌, length, suc, refl, ap, arith}
+use Rattle.std.proofs.Common.{◌≡◌, ℕ, ◌≤◌, ◌^◌, true, List, [], ◌∷◌, length, suc, refl, ap, arith}
 use Rattle.cpn_definitions.specs.Marking.{Marking}
 use Rattle.cpn_definitions.specs.Net.{Coloured}
 use Rattle.cpn_definitions.specs.Sound.{is_sound, IsMarking}

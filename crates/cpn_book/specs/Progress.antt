@@ -1,5 +1,5 @@
 -- What a run of one seat keeps true, round after round.
-use Rattle.std.specs.Prelude.{◌≡◌, ℕ, length, map}
+use Rattle.std.specs.Prelude.{◌≡◌, length, map}
 use Rattle.cpn_definitions.specs.Draw.{generator}
 use Rattle.cpn_definitions.specs.State.{PlainSetup}
 use Rattle.cpn_definitions.proofs.Rounds.{IsUnderWay}

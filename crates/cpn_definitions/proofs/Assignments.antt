@@ -9,7 +9,7 @@ use Rattle.std.proofs.lemmas.Cmp.{upto, tied_itself, lists_total}
 use Rattle.cpn_definitions.specs.Value.{PlainValue}
 use Rattle.cpn_definitions.specs.Order.{value_cmp, same_value}
 use Rattle.cpn_definitions.specs.Colour.{admits}
-use Rattle.cpn_definitions.specs.Marking.{PlainToken, Tokens, Marking, token_cmp, is_taken_by, MayPrecede, AreSorted}
+use Rattle.cpn_definitions.specs.Marking.{PlainToken, Tokens, Marking, is_taken_by, MayPrecede, AreSorted}
 use Rattle.cpn_definitions.specs.Net.{PlainArc, PlainNet, variable_at}
 use Rattle.cpn_definitions.specs.Meaning.{PlainBinding}
 use Rattle.cpn_definitions.specs.Occurrence.{tokens_at}

@@ -1,9 +1,9 @@
 -- A run of one seat that has ended.
-use Rattle.std.proofs.Common.{◌≡◌, ◌≢◌, ℕ, List, [], ◌∷◌, length, map, take, Some, None, refl, sym, ap, ◌∙◌, subst, arith}
+use Rattle.std.proofs.Common.{◌≡◌, ◌≢◌, List, length, None, refl, sym, ap, ◌∙◌}
 use Rattle.cpn_definitions.specs.Marking.{Marking}
-use Rattle.cpn_definitions.specs.HoleRun.{PlainClaim, hole_run, committed}
-use Rattle.cpn_definitions.specs.State.{PlainSetup, PlainEvent, PlainEnd, dead, steps_made, fault_end, PlainState, HasCause, EndsBy, IsDead, PlainOccurrence, numbered}
-use Rattle.cpn_definitions.specs.Run.{PlainFinished, IsRun, IsLegalRun}
+use Rattle.cpn_definitions.specs.HoleRun.{hole_run}
+use Rattle.cpn_definitions.specs.State.{PlainSetup, PlainEvent, PlainEnd, dead, steps_made, fault_end, HasCause, IsDead, PlainOccurrence, numbered}
+use Rattle.cpn_definitions.specs.Run.{IsRun, IsLegalRun}
 use Rattle.cpn_definitions.proofs.Rounds.{IsUnderWay, done_claims, done_owe_no_cut, done_are_not_open, done_are_committed, length_done}
 
 -- the cause of the end of a run of one seat

@@ -14,3 +14,6 @@ pub mod AllTransitions
 pub mod Listing
 pub mod Ending
 pub mod SoundOutputs
+pub mod Unique
+pub mod OneJournal
+pub mod OneRun

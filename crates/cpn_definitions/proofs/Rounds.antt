@@ -1,17 +1,17 @@
 -- A run of one seat: each claim is completed before the next, and the run stays a legal sequence.
-use Rattle.std.proofs.Common.{◌≡◌, ℕ, zero, suc, ◌+◌, ◌<◌, ◌≤◌, ◌%◌, ◌⊎◌, Bool, true, false, not, cond, ◌&&◌, nat_lt, List, [], ◌∷◌, ◌++◌, length, map, take, Some, None, Option, refl, sym, ap, ◌∙◌, subst, inl, inr, arith, rules, ⊎_elim, slice_index_or, slice_get, slice_set, append_assoc, zero-add}
+use Rattle.std.proofs.Common.{◌≡◌, ℕ, suc, ◌+◌, ◌<◌, true, false, List, [], ◌∷◌, ◌++◌, length, map, take, Some, None, Option, refl, sym, ap, ◌∙◌, subst, inl, arith, slice_get, slice_set, zero-add}
 use Rattle.std.proofs.Math.Path.{ap₂}
-use Rattle.std.specs.List.{list_all, list_any, filter}
+use Rattle.std.specs.List.{list_any}
 use Rattle.std.proofs.lemmas.Bool.{and_parts}
 use Rattle.cpn_definitions.specs.Marking.{Marking}
 use Rattle.cpn_definitions.specs.Net.{PlainNet, transition_at}
 use Rattle.cpn_definitions.specs.Meaning.{Outcome, gives, faults, no_meaning, gives_and}
-use Rattle.cpn_definitions.specs.Occurrence.{PlainElement, Needed, Made, are_covered, covered, binds, guard_holds, needs_of, outputs_of, after, exchanged, subtract, add_made}
+use Rattle.cpn_definitions.specs.Occurrence.{PlainElement, Needed, Made, are_covered, covered, needs_of, outputs_of, after, exchanged, subtract, add_made}
 use Rattle.cpn_definitions.specs.Legal.{LeastTime, TimedElement, Legal}
 use Rattle.cpn_definitions.specs.Enabled.{PlainEntry, Enabled, ready}
-use Rattle.cpn_definitions.specs.HoleRun.{PlainClaim, Status, open_claim, done_with, faulted_with, hole_run, unclaimed, settled, is_open, is_done, committed, added}
-use Rattle.cpn_definitions.specs.State.{PlainSetup, PlainEvent, claim_made, claim_completed, PlainEnd, PlainState, PlainCut, first_state, cut_by, cut_at, owed_cut, is_held_by, given_needs, new_claim, status_after, IsDrawn, MayClaim, MayComplete, Happens, Leads, IsState, PlainOccurrence, timed, numbered, committed_occurrences}
-use Rattle.cpn_definitions.proofs.Sequences.{legal_more, hole_run_more, passed}
+use Rattle.cpn_definitions.specs.HoleRun.{PlainClaim, Status, open_claim, done_with, faulted_with, hole_run, is_open, is_done, committed}
+use Rattle.cpn_definitions.specs.State.{PlainSetup, PlainEvent, claim_made, claim_completed, PlainState, first_state, cut_by, cut_at, owed_cut, is_held_by, given_needs, new_claim, IsDrawn, MayClaim, MayComplete, Leads, IsState, PlainOccurrence, timed, numbered}
+use Rattle.cpn_definitions.proofs.Sequences.{legal_more, hole_run_more}
 
 -- the outputs that an outcome gives, none where it gives none
 abbrev pub given_outputs : Outcome (List Made) → List Made

@@ -13,9 +13,9 @@ use Rattle.cpn_definitions.specs.Net.{PlainExpr, literal, variable, ArcInscripti
 use Rattle.cpn_definitions.specs.Meaning.{PlainBinding, Outcome, gives, faults, no_meaning, not_in_colour, gives_and, bound_value, given, meaning, in_colour, PlainTerm, terms_of, gather, ◌>>=◌}
 use Rattle.cpn_definitions.specs.Occurrence.{PlainElement, Needed, tokens_at, binds, needed_by, needs_of, threshold, same_need, thresholds, are_covered, covered}
 use Rattle.cpn_definitions.specs.Enabled.{PlainEntry, PlainFound, element_cmp, IsIncreasing, IsEarliest, entries_of, EnabledOf}
-use Rattle.cpn_definitions.specs.Sound.{is_sound, is_sound_but_arcs, has_sound_arcs, is_sound_transition, is_sound_arc, is_sound_expr, is_int_colour, is_bound_by, are_increasing}
+use Rattle.cpn_definitions.specs.Sound.{is_sound, is_sound_transition, is_sound_arc, is_sound_expr, is_int_colour, is_bound_by, are_increasing}
 use Rattle.cpn_definitions.proofs.Comparing.{same_value_true, same_value_refl}
-use Rattle.cpn_definitions.proofs.Untimed.{threshold_is_zero, covered_at_any_time}
+use Rattle.cpn_definitions.proofs.Untimed.{sound_but_arcs, threshold_is_zero, covered_at_any_time}
 use Rattle.cpn_definitions.proofs.Rising.{IsIn, Rises, in_from_contains, contains_from_in, in_append_left, in_append_right, in_map, in_map_from, in_filter, in_filter_from, passes_at, all_pass, one_that_passes, each_in, each_mapped, rises_filtered, rises_mapped}
 use Rattle.cpn_definitions.proofs.Assignments.{has_value, first_place, is_candidate, candidates, assignments, AreAssigned, binding_cmp, value_passes, assignments_have}
 
@@ -87,7 +87,7 @@ sound_arcs_placed n vars (arc ∷ arcs) all =
 pub sound_parts : (n : PlainNet) (t : ℕ) → is_sound n ≡ true → nat_lt t (length n.transitions) ≡ true → SoundParts n (transition_at n t)
 sound_parts n t sound lt =
     let tr = transition_at n t in
-    let whole = passes_at (is_sound_transition n) n.transitions tr (and_parts _ (list_all (is_sound_transition n) n.transitions) (and_parts (is_sound_but_arcs n) (list_all has_sound_arcs n.transitions) sound).0).1 (transition_in n.transitions t lt) in
+    let whole = passes_at (is_sound_transition n) n.transitions tr (and_parts _ (list_all (is_sound_transition n) n.transitions) (sound_but_arcs n sound)).1 (transition_in n.transitions t lt) in
     let arcs = and_parts _ (list_all (is_sound_arc n tr.vars) tr.outputs) whole in
     let ins = and_parts _ (list_all (is_sound_arc n tr.vars) tr.inputs) arcs.0 in
     let bound = and_parts _ (list_all (λ x. list_any (λ arc. is_bound_by x arc.expr) tr.inputs) tr.vars) ins.0 in

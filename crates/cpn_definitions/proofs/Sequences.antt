@@ -1,12 +1,11 @@
 -- Legal sequences and runs of claims, one occurrence longer.
-use Rattle.std.proofs.Common.{◌≡◌, ℕ, ◌+◌, ◌<◌, ◌≤◌, ◌⊎◌, Bool, true, false, cond, List, [], ◌∷◌, ◌++◌, Some, None, Option, refl, sym, ap, ◌∙◌, subst, inl, inr, arith, rules, ⊎_elim}
+use Rattle.std.proofs.Common.{◌≡◌, ℕ, ◌⊎◌, Bool, true, false, cond, List, [], ◌∷◌, ◌++◌, Some, None, Option, refl, subst, inl, arith, ⊎_elim}
 use Rattle.std.proofs.lemmas.Bool.{cases_lt}
 use Rattle.cpn_definitions.specs.Marking.{Marking}
-use Rattle.cpn_definitions.specs.Net.{PlainNet, transition_at}
-use Rattle.cpn_definitions.specs.Meaning.{Outcome, gives}
-use Rattle.cpn_definitions.specs.Occurrence.{PlainElement, Needed, Made, covered, after, exchanged, needs_of, outputs_of, are_covered, subtract, add_made}
+use Rattle.cpn_definitions.specs.Net.{PlainNet}
+use Rattle.cpn_definitions.specs.Occurrence.{covered, after, are_covered, subtract, add_made}
 use Rattle.cpn_definitions.specs.Legal.{LeastTime, TimedElement, Legal}
-use Rattle.cpn_definitions.specs.HoleRun.{PlainClaim, hole_run, added, Status}
+use Rattle.cpn_definitions.specs.HoleRun.{PlainClaim, hole_run, added}
 
 -- where an answer is there only if a test passes, and is there, the test passed
 pub passed : {A : Type 0} (b : Bool) (o : Option A) (y : A) → cond b o None ≡ Some y → (b ≡ true) × (o ≡ Some y)

@@ -1,5 +1,5 @@
 -- The outputs of a covered element of a sound net are no fault.
-use Rattle.std.proofs.Common.{◌≡◌, ℕ, zero, suc, ◌+◌, ◌<◌, ◌==◌, ◌⊎◌, Bool, true, false, not, cond, ◌&&◌, ◌||◌, nat_lt, ℤ, List, [], ◌∷◌, ◌++◌, length, Some, None, Option, is_none, refl, sym, ap, ◌∙◌, subst, inl, inr, arith, rules, ⊎_elim, slice_index_or, eqb-true}
+use Rattle.std.proofs.Common.{◌≡◌, ℕ, zero, suc, ◌<◌, ◌==◌, ◌⊎◌, Bool, true, false, ◌&&◌, ◌||◌, nat_lt, ℤ, List, [], ◌∷◌, length, Some, None, Option, is_none, refl, sym, ap, ◌∙◌, subst, inl, inr, arith, ⊎_elim, slice_index_or, eqb-true}
 use borrow.Author.Tests.{ltb-true}
 use Rattle.std.specs.List.{list_all, list_any}
 use Rattle.std.specs.Ordering.{int_eq, int_cmp}
@@ -10,9 +10,10 @@ use Rattle.cpn_definitions.specs.Value.{PlainValue}
 use Rattle.cpn_definitions.specs.Colour.{PlainShape, unit_shape, boolean_shape, int_shape, text_shape, constant_shape, tuple_shape, union_shape, list_shape, PlainColour, has_shape, admits}
 use Rattle.cpn_definitions.specs.Marking.{Marking}
 use Rattle.cpn_definitions.specs.Net.{PlainExpr, literal, variable, ArcInscription, one, PlainArc, PlainTransition, PlainNet, Coloured, nothing, no_transition, variable_at, transition_at}
-use Rattle.cpn_definitions.specs.Meaning.{PlainBinding, Outcome, gives, faults, no_meaning, ◌>>=◌, bound_value, given, meaning, PlainTerm, in_colour, terms_of, gather}
-use Rattle.cpn_definitions.specs.Occurrence.{PlainElement, Made, binds, covered, made_by, outputs_of, transition_delay}
-use Rattle.cpn_definitions.specs.Sound.{is_sound, is_sound_but_arcs, is_int_colour, is_int_shape, int_colour, least_int, greatest_int, is_sound_expr, is_sound_arc, is_sound_transition, has_no_guard, are_increasing, is_bound_by}
+use Rattle.cpn_definitions.specs.Meaning.{PlainBinding, Outcome, gives, ◌>>=◌, bound_value, terms_of, gather}
+use Rattle.cpn_definitions.specs.Occurrence.{PlainElement, binds, covered, made_by, outputs_of, transition_delay}
+use Rattle.cpn_definitions.specs.Sound.{is_sound, is_int_colour, is_int_shape, int_colour, least_int, greatest_int, is_sound_expr, is_sound_arc, is_sound_transition, has_no_guard, are_increasing, is_bound_by}
+use Rattle.cpn_definitions.proofs.Untimed.{sound_but_arcs}
 use Rattle.std.specs.declared.cmp.Ordering.{Ordering}
 use Rattle.std.specs.declared.cmp.Ordering.TheVariants.{Less, Equal, Greater}
 use Rattle.std.specs.Ordering.{is_eq}
@@ -151,7 +152,7 @@ pub record SoundAt (n : PlainNet) (t : PlainTransition) : Type 0 where
 pub sound_at : (n : PlainNet) (t : ℕ) → is_sound n ≡ true → SoundAt n (transition_at n t)
 sound_at n t sound =
     let tr = transition_at n t in
-    let a = and_parts (list_all (λ place. is_int_colour place.colour) n.places && list_all (λ x. is_int_colour x.colour) n.variables) (list_all (is_sound_transition n) n.transitions) (and_parts (is_sound_but_arcs n) _ sound).0 in
+    let a = and_parts (list_all (λ place. is_int_colour place.colour) n.places && list_all (λ x. is_int_colour x.colour) n.variables) (list_all (is_sound_transition n) n.transitions) (sound_but_arcs n sound) in
     let b = and_parts (list_all (λ place. is_int_colour place.colour) n.places) (list_all (λ x. is_int_colour x.colour) n.variables) a.0 in
     let here : is_sound_transition n tr ≡ true = transition_sound n n.transitions t a.1 in
     let c = and_parts _ (list_all (is_sound_arc n tr.vars) tr.outputs) here in

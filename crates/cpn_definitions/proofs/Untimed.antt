@@ -1,14 +1,14 @@
 -- In a sound net, where each place is untimed, being covered doesn't depend on the time.
-use Rattle.std.proofs.Common.{◌≡◌, ℕ, zero, suc, ◌+◌, ◌<◌, ◌≤◌, ◌⊎◌, Bool, true, false, not, cond, ◌&&◌, nat_lt, List, [], ◌∷◌, ◌++◌, length, map, Some, None, Option, refl, sym, ap, ◌∙◌, subst, inl, inr, arith, rules, ⊎_elim, slice_index_or}
+use Rattle.std.proofs.Common.{◌≡◌, ℕ, zero, suc, Bool, true, false, not, ◌&&◌, nat_lt, List, [], ◌∷◌, length, map, refl, sym, ap, ◌∙◌, slice_index_or}
 use Rattle.std.specs.List.{list_all, filter}
 use Rattle.std.proofs.Math.Path.{fun_ext}
 use Rattle.std.proofs.lemmas.Bool.{and_parts}
-use Rattle.cpn_definitions.specs.Marking.{Marking, Tokens, covers, stamps}
+use Rattle.cpn_definitions.specs.Marking.{Marking, covers, stamps}
 use Rattle.cpn_definitions.specs.Colour.{PlainColour}
-use Rattle.cpn_definitions.specs.Net.{PlainNet, Coloured, nothing, place_at, transition_at}
-use Rattle.cpn_definitions.specs.Meaning.{Outcome, gives, gives_and}
-use Rattle.cpn_definitions.specs.Occurrence.{PlainElement, Needed, is_timed, threshold, thresholds, are_covered, covered, binds, guard_holds, needs_of, tokens_at, same_need}
-use Rattle.cpn_definitions.specs.Sound.{is_sound, is_int_colour, is_int_shape}
+use Rattle.cpn_definitions.specs.Net.{PlainNet, Coloured, nothing, transition_at}
+use Rattle.cpn_definitions.specs.Meaning.{gives_and}
+use Rattle.cpn_definitions.specs.Occurrence.{PlainElement, Needed, is_timed, threshold, covered, binds, guard_holds, needs_of, tokens_at, same_need}
+use Rattle.cpn_definitions.specs.Sound.{is_sound, is_sound_but_arcs, has_sound_arcs, are_numbered, is_int_colour, is_int_shape}
 
 -- a colour set of integers is untimed
 int_is_untimed : (colour : PlainColour) → is_int_colour colour ≡ true → colour.timed ≡ false
@@ -24,9 +24,13 @@ untimed_at [] (suc p) all = refl
 untimed_at (place ∷ places) zero all = int_is_untimed place.colour (and_parts _ _ all).0
 untimed_at (place ∷ places) (suc p) all = untimed_at places p (and_parts (is_int_colour place.colour) _ all).1
 
+-- the colour sets and the transitions of a sound net are sound
+pub sound_but_arcs : (n : PlainNet) → is_sound n ≡ true → is_sound_but_arcs n ≡ true
+sound_but_arcs n sound = (and_parts (is_sound_but_arcs n) (list_all has_sound_arcs n.transitions) (and_parts (is_sound_but_arcs n && list_all has_sound_arcs n.transitions) (are_numbered n) sound).0).0
+
 -- each place of a sound net is untimed
 pub sound_is_untimed : (n : PlainNet) (p : ℕ) → is_sound n ≡ true → is_timed n p ≡ false
-sound_is_untimed n p sound = untimed_at n.places p (and_parts _ _ (and_parts _ _ (and_parts _ _ sound).0).0).0
+sound_is_untimed n p sound = untimed_at n.places p (and_parts _ _ (and_parts _ _ (sound_but_arcs n sound)).0).0
 
 -- the threshold of a need is 0 at each time
 pub threshold_is_zero : (n : PlainNet) (time : ℕ) (need : Needed) → is_sound n ≡ true → threshold n time need ≡ 0

@@ -1,6 +1,6 @@
 -- What an inscription means under a binding at a time: a value, or a fault.
 -- Source: our own profile of CPN ML; a binding is that of Jensen and Kristensen, chapter 4.
-use Rattle.std.specs.Prelude.{ℕ, ◌^◌, ◌==◌, pos, negsuc, Bool, true, false, if◌then◌else◌, nat_le, List, [], ◌∷◌, ◌++◌, Option, Some, None}
+use Rattle.std.specs.Prelude.{ℕ, ◌^◌, ◌==◌, pos, negsuc, Bool, false, if◌then◌else◌, nat_le, List, [], ◌∷◌, ◌++◌, Option, Some, None}
 use Rattle.cpn_definitions.specs.Value.{PlainValue, unit, boolean, int, constant, text, tuple, bare, applied, list}
 use Rattle.cpn_definitions.specs.Colour.{PlainColour, admits}
 use Rattle.cpn_definitions.specs.Net.{PlainExpr, literal, variable, ArcInscription, one, PlainArc}

@@ -6,9 +6,9 @@ use Rattle.std.specs.List.{filter, list_all, flat_map}
 use Rattle.cpn_definitions.specs.Value.{PlainValue}
 use Rattle.cpn_definitions.specs.Order.{same_value}
 use Rattle.cpn_definitions.specs.Colour.{admits}
-use Rattle.cpn_definitions.specs.Marking.{PlainToken, Tokens, Marking, add_token, without_token, stamps, covers}
+use Rattle.cpn_definitions.specs.Marking.{Tokens, Marking, add_token, without_token, stamps, covers}
 use Rattle.cpn_definitions.specs.Net.{PlainExpr, PlainArc, PlainTransition, PlainNet, place_at, variable_at, transition_at}
-use Rattle.cpn_definitions.specs.Meaning.{PlainBinding, Outcome, gives, faults, no_meaning, ◌>>=◌, gives_and, meaning, PlainTerm, terms_of, gather, is_true, delay_of}
+use Rattle.cpn_definitions.specs.Meaning.{PlainBinding, Outcome, gives, ◌>>=◌, gives_and, meaning, terms_of, gather, is_true, delay_of}
 
 -- A binding element: a transition by its number, and a binding.
 pub record PlainElement : Type 0 where

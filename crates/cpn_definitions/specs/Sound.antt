@@ -1,12 +1,11 @@
 -- Sound nets: those that the calls of the program take. Source: own choice.
 -- Today each colour set is that of all integers and untimed, and no transition has a guard or a delay.
-use Rattle.std.specs.Prelude.{◌≡◌, ◌||◌, ℕ, ◌+◌, ◌==◌, ◌^◌, ℤ, pos, neg_ℤ, negsuc, ◌-◌, Bool, true, false, not, ◌&&◌, nat_lt, nat_le, List, [], ◌∷◌, length, Option, is_none}
+use Rattle.std.specs.Prelude.{◌≡◌, ◌||◌, ℕ, ◌+◌, ◌==◌, ◌^◌, ℤ, pos, neg_ℤ, ◌-◌, Bool, true, false, not, ◌&&◌, nat_lt, nat_le, List, [], ◌∷◌, length, is_none}
 use Rattle.std.specs.List.{list_all, list_any}
 use Rattle.std.specs.Ordering.{int_eq}
-use Rattle.cpn_definitions.specs.Value.{PlainValue}
 use Rattle.cpn_definitions.specs.Colour.{PlainShape, unit_shape, boolean_shape, int_shape, text_shape, constant_shape, tuple_shape, union_shape, list_shape, PlainColour, admits}
 use Rattle.cpn_definitions.specs.Order.{same_value}
-use Rattle.cpn_definitions.specs.Marking.{PlainToken, Tokens, Marking, AreSorted}
+use Rattle.cpn_definitions.specs.Marking.{PlainToken, Marking, AreSorted}
 use Rattle.cpn_definitions.specs.Net.{PlainExpr, literal, variable, ArcInscription, one, PlainPattern, literal_pattern, variable_pattern, BindingTerm, PlainArc, PlainTransition, Coloured, PlainNet}
 
 -- the least and the greatest integer of 64 bits
@@ -85,10 +84,15 @@ abbrev pub is_sound_but_arcs : PlainNet → Bool
 is_sound_but_arcs n =
     list_all (λ place. is_int_colour place.colour) n.places && list_all (λ x. is_int_colour x.colour) n.variables && list_all (is_sound_transition n) n.transitions
 
+-- whether places, transitions and variables are each fewer than 2 ^ 32, so that each has a number of 32 bits
+abbrev pub are_numbered : PlainNet → Bool
+are_numbered n = nat_lt (length n.places) (2 ^ 32) && nat_lt (length n.transitions) (2 ^ 32) && nat_lt (length n.variables) (2 ^ 32)
+
 -- Sound: the colour sets of places and variables are that of the integers, each transition is sound, and
--- has at most 64 arcs, whose binding terms are those of their inscriptions.
+-- has at most 64 arcs, whose binding terms are those of their inscriptions; and places, transitions and
+-- variables each have a number of 32 bits.
 abbrev pub is_sound : PlainNet → Bool
-is_sound n = is_sound_but_arcs n && list_all has_sound_arcs n.transitions
+is_sound n = is_sound_but_arcs n && list_all has_sound_arcs n.transitions && are_numbered n
 
 -- whether a place of the colour set may hold the token: its value is admitted, and its stamp is 0 where the
 -- place is untimed

@@ -1,7 +1,7 @@
 -- What a run's journal says: the events that may happen, and the state that they lead to.
 -- Source: own choice. The occurrences of such a run are a legal occurrence sequence of Jensen and
 -- Kristensen, chapter 11, which is a theorem and no part of this definition.
-use Rattle.std.specs.Prelude.{◌≡◌, ◌≢◌, ℕ, suc, ◌<◌, ◌%◌, ◌&&◌, ◌==◌, Bool, true, false, List, [], ◌∷◌, ◌++◌, length, map, take, Option, Some, None, MatchOption, slice_get, slice_index_or, slice_set, if◌then◌else◌}
+use Rattle.std.specs.Prelude.{◌≡◌, ◌≢◌, ℕ, suc, ◌<◌, ◌%◌, ◌&&◌, ◌==◌, Bool, true, false, List, [], ◌∷◌, ◌++◌, length, take, Option, Some, None, MatchOption, slice_get, slice_set}
 use Rattle.std.specs.List.{list_any}
 use Rattle.cpn_definitions.specs.Marking.{Marking}
 use Rattle.cpn_definitions.specs.Net.{PlainNet, transition_at}
@@ -9,7 +9,7 @@ use Rattle.cpn_definitions.specs.Meaning.{Fault, Outcome, gives, faults, no_mean
 use Rattle.cpn_definitions.specs.Occurrence.{PlainElement, Needed, Made, covered, needs_of, outputs_of}
 use Rattle.cpn_definitions.specs.Enabled.{PlainEntry, Enabled, ready}
 use Rattle.cpn_definitions.specs.Legal.{TimedElement}
-use Rattle.cpn_definitions.specs.HoleRun.{PlainClaim, Status, open_claim, done_with, faulted_with, hole_run, unclaimed, settled, is_open, is_done, committed}
+use Rattle.cpn_definitions.specs.HoleRun.{PlainClaim, Status, open_claim, done_with, faulted_with, unclaimed, is_open, committed}
 use Rattle.cpn_definitions.specs.Draw.{word}
 
 -- The limits of a run: how many claims it may make, the last time that it may reach, and its seats.

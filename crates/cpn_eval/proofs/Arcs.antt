@@ -1,13 +1,12 @@
 -- What one arc gives, by the value of its token.
-use Rattle.std.proofs.Common.{◌≡◌, ℕ, ◌+◌, Bool, cond, List, [], ◌∷◌, ◌++◌, Option, Some, None, refl, sym, ap, ◌∙◌, replicate}
-use Rattle.std.specs.List.{flat_map}
+use Rattle.std.proofs.Common.{◌≡◌, ℕ, List, [], ◌∷◌, Some, None, refl, sym, ap, ◌∙◌}
 use Rattle.cpn_definitions.specs.Value.{PlainValue}
-use Rattle.cpn_definitions.specs.Net.{PlainExpr, ArcInscription, one, PlainArc, PlainNet}
+use Rattle.cpn_definitions.specs.Net.{ArcInscription, one, PlainArc, PlainNet}
 use Rattle.cpn_definitions.specs.Meaning.{PlainBinding, Outcome, gives, faults, no_meaning, ◌>>=◌, PlainTerm, terms_of, meaning, in_colour}
 use Rattle.cpn_definitions.specs.Colour.{PlainColour}
-use Rattle.cpn_definitions.specs.Occurrence.{Needed, Made, is_timed, needed_by, made_by}
+use Rattle.cpn_definitions.specs.Occurrence.{needed_by, made_by}
 use Rattle.cpn_eval.specs.Stamps.{stamp_at}
-use Rattle.cpn_eval.specs.Given.{as_option, meaning_in, one_value, token_value}
+use Rattle.cpn_eval.specs.Given.{as_option, one_value, token_value}
 
 -- the terms of one token, by its value
 abbrev pub one_term : PlainValue → List PlainTerm

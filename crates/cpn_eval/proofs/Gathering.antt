@@ -1,5 +1,5 @@
 -- What is gathered from the arcs, one arc after another.
-use Rattle.std.proofs.Common.{◌≡◌, List, [], ◌∷◌, ◌++◌, Option, Some, None, refl, ap, append_assoc}
+use Rattle.std.proofs.Common.{◌≡◌, List, ◌∷◌, ◌++◌, Some, None, refl, ap, append_assoc}
 use Rattle.cpn_definitions.specs.Net.{PlainArc}
 use Rattle.cpn_definitions.specs.Meaning.{Outcome, gives, faults, no_meaning, ◌>>=◌, gather}
 use Rattle.cpn_eval.specs.Given.{as_option, with_front}

@@ -1,9 +1,10 @@
 -- Lists of names: where a name stands, and when none is there twice.
-use Rattle.std.proofs.Common.{◌≡◌, ℕ, ◌+◌, ◌<◌, Bool, true, false, not, ◌&&◌, ◌||◌, List, [], ◌∷◌, ◌++◌, length, take, drop, get_or, refl, sym, ap, ◌∙◌, cond, if◌then◌else◌}
+use Rattle.std.proofs.Common.{◌≡◌, ℕ, ◌+◌, ◌^◌, ◌<◌, ◌≤◌, Bool, nat_lt, true, false, not, ◌&&◌, ◌||◌, List, [], ◌∷◌, ◌++◌, length, take, drop, get_or, refl, sym, ap, ◌∙◌, cond, if◌then◌else◌}
 use Rattle.std.specs.Prelude.{Some, None}
 use Rattle.std.specs.Borrow.{Bor}
 use Rattle.std.specs.List.{list_any, position, position_or_len}
 use Rattle.std.specs.Str.{bytes_eq}
+use Rattle.std.proofs.lemmas.Bool.{lt-ltb, le-ltb}
 use Rattle.std.proofs.lemmas.Cmp.{nat_list_eq_equiv}
 use Rattle.std.proofs.lemmas.List.{length-map, take-append-drop, take_more, map-append}
 use Rattle.std.proofs.lemmas.List.Folds.{list_any-append}
@@ -55,6 +56,16 @@ never : (b : Bool) → (b && false) ≡ false
 never true = refl
 never false = refl
 
+-- texts of which one is there twice are not apart
+not_apart : (texts : List (List ℕ)) → are_distinct texts ≡ false → apart texts ≡ None
+unfolding apart
+not_apart texts h = rw (h, never (nat_lt (length texts) (2 ^ 32))) refl
+
+-- names that are too many to have numbers of 32 bits are not apart
+pub too_many : (names : List (Bor (List ℕ))) → 2 ^ 32 ≤ length names → apart (texts_of names) ≡ None
+unfolding apart
+too_many names h = rw (length_seen names, le-ltb (length names) (2 ^ 32) h) refl
+
 module _ (names : List (Bor (List ℕ))) (i : ℕ) (d : Bor (List ℕ)) (lt : i < length names) where
   texts_more : texts_of (take (i + 1) names) ≡ texts_of (take i names) ++ (get_or names i d).now ∷ []
   texts_more = rw (take_more names i d lt) (simp map-append)
@@ -65,11 +76,10 @@ module _ (names : List (Bor (List ℕ))) (i : ℕ) (d : Bor (List ℕ)) (lt : i 
 
   -- the next name is one of those before it
   pub twice_at : list_any (λ k. bytes_eq (get_or names i d).now k.now) (take i names) ≡ true → apart (texts_of names) ≡ None
-  unfolding apart
   twice_at old =
       let front : are_distinct (texts_of (take (i + 1) names)) ≡ false = rw (texts_more, distinct_more (texts_of (take i names)) (get_or names i d).now, any_seen (get_or names i d).now (take i names), old) (never (are_distinct (texts_of (take i names)))) in
       let parts : texts_of names ≡ texts_of (take (i + 1) names) ++ texts_of (drop (i + 1) names) = ap texts_of (sym (take-append-drop (i + 1) names)) ∙ map-append (λ (k : Bor (List ℕ)). k.now) (take (i + 1) names) (drop (i + 1) names) in
-      rw (parts, distinct_front (texts_of (take (i + 1) names)) (texts_of (drop (i + 1) names)) front) refl
+      not_apart (texts_of names) (rw parts (distinct_front (texts_of (take (i + 1) names)) (texts_of (drop (i + 1) names)) front))
 
 -- ---- a loop that keeps each name that is new
 
@@ -91,6 +101,6 @@ module _ (names keys : List (Bor (List ℕ))) (i : ℕ) (d : Bor (List ℕ)) (ad
   pub keeps_more : (new : List (Bor (List ℕ))) → new ≡ (if list_any (λ k. bytes_eq (get_or names i d).now k.now) keys then keys else keys ++ get_or names i d ∷ []) → added ≡ true → new ≡ take (i + 1) names
   keeps_more new h fresh = h ∙ rw (not_true _ (sym tells ∙ fresh), kept, take_more names i d lt) refl
 
-pub apart_whole : (names : List (Bor (List ℕ))) → are_distinct (texts_of names) ≡ true → apart (texts_of names) ≡ Some (texts_of names)
+pub apart_whole : (names : List (Bor (List ℕ))) → length names < 2 ^ 32 → are_distinct (texts_of names) ≡ true → apart (texts_of names) ≡ Some (texts_of names)
 unfolding apart
-apart_whole names h = rw h refl
+apart_whole names few h = rw (length_seen names, lt-ltb (length names) (2 ^ 32) few, h) refl

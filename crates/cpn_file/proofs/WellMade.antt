@@ -1,26 +1,28 @@
 -- Each document that is read gives a sound net, and a marking of its places.
-use Rattle.std.proofs.Common.{◌≡◌, ℕ, zero, suc, Bool, true, false, ◌&&◌, List, [], ◌∷◌, length, map, replicate, refl, sym, ap, subst}
-use Rattle.std.specs.Prelude.{Option, Some, None, nat_le, ◌==◌, codes, if◌then◌else◌}
+use Rattle.std.proofs.Common.{◌≡◌, ℕ, zero, suc, ◌^◌, ◌<◌, Bool, nat_lt, true, ◌&&◌, List, [], ◌∷◌, length, map, replicate, refl, sym, ap, ◌∙◌, subst}
+use Rattle.std.specs.Prelude.{string_bytes, Option, Some, None, nat_le, ◌==◌, codes}
 use Rattle.std.specs.List.{list_all}
 use Rattle.std.specs.Str.{bytes_eq}
 use Rattle.std.specs.Ordering.{is_gt}
-use Rattle.std.proofs.lemmas.Bool.{and_parts}
+use Rattle.std.proofs.lemmas.Bool.{and_parts, ltb-true}
 use Rattle.std.proofs.lemmas.Cmp.{tied_itself}
 use Rattle.std.proofs.lemmas.List.{length-map, length-replicate}
-use Rattle.std.proofs.lemmas.Option.{same_Some}
+use Rattle.std.proofs.lemmas.Option.{same_Some, cond_some}
 use Rattle.serde_json.specs.Data.{Data, Items}
 use Rattle.cpn_definitions.specs.Value.{int}
 use Rattle.cpn_definitions.specs.Colour.{admits}
 use Rattle.cpn_definitions.specs.Marking.{PlainToken, AreSorted, MayPrecede, token_at}
 use Rattle.cpn_definitions.specs.Net.{PlainNet, PlainTransition}
-use Rattle.cpn_definitions.specs.Sound.{int_colour, is_int_colour, is_sound_transition, has_sound_arcs, may_hold, IsMarking}
+use Rattle.cpn_definitions.specs.Sound.{int_colour, is_int_colour, is_sound_transition, has_sound_arcs, are_numbered, may_hold, IsMarking}
 use Rattle.cpn_definitions.proofs.Comparing.{token_cmp_total}
 use Rattle.cpn_file.specs.Parts.{when, each_in, list_at, text_at, number_at, has_keys, only}
-use Rattle.cpn_file.specs.Document.{PlainPlace, PlainModule, PlainDocument, place_names, name_at, place_in, transition_in, arc_in, apart, are_distinct, arcs_among, variables_in, module_in, document_in}
-use Rattle.cpn_file.specs.Loading.{PlainLoaded, initial_tokens, place_of, variable_of, transitions_from, loaded_from, loaded_in}
+use Rattle.cpn_file.specs.Document.{PlainPlace, PlainModule, PlainDocument, place_names, name_at, place_in, transition_in, arc_in, are_distinct, are_apart, apart, arcs_among, variables_in, module_in, document_in}
+use Rattle.cpn_file.specs.Loading.{PlainLoaded, initial_tokens, place_of, variable_of, flattened, arcs_of, transition_with, transitions_from, loaded_from, loaded_in}
+use Rattle.cpn_file.specs.Views.{place_view, document_view}
 use Rattle.cpn_file.specs.WellLoaded.{IsWellLoaded, has_few_tokens}
 use Rattle.cpn_file.specs.declared.initials.Initial.{Initial}
 use Rattle.cpn_file.specs.declared.arcs.Arc.{Arc}
+use Rattle.cpn_file.specs.declared.modules.Document.{Document}
 use Rattle.cpn_file.proofs.Passing.{both, steps, all_weaker}
 use Rattle.cpn_file.proofs.Served.{each_passes, is_served_arc, is_served_initial, arc_served, place_served}
 use Rattle.cpn_file.proofs.Sounding.{transitions_sound}
@@ -68,18 +70,32 @@ marking_few (place ∷ places) h =
 
 -- ---- the document
 
--- whether the places' initial markings and the arcs of a document are as they are read
+-- whether the places' initial markings and the arcs of a document are as they are read, and its places,
+-- transitions and variables have numbers of 32 bits
 pub record IsServed (document : PlainDocument) : Type 0 where
   pub places : list_all (λ place. is_served_initial place.initial) document.top.places ≡ true
   pub arcs : list_all (is_served_arc (length document.top.places) (length document.variables)) document.top.arcs ≡ true
+  pub few_places : nat_lt (length document.top.places) (2 ^ 32) ≡ true
+  pub few_transitions : nat_lt (length document.top.transitions) (2 ^ 32) ≡ true
+  pub few_variables : nat_lt (length document.variables) (2 ^ 32) ≡ true
 
 apart_same : (names found : List (List ℕ)) → apart names ≡ Some found → found ≡ names
 unfolding apart
-apart_same names found h = by (are_distinct names) h
-  where
-    by : (b : Bool) → (if b then Some names else None) ≡ Some found → found ≡ names
-    by true k = sym (same_Some names found k)
-    by false k = cc
+apart_same names found h = sym (cond_some (are_apart names) names found h).1
+
+apart_few : (names found : List (List ℕ)) → apart names ≡ Some found → nat_lt (length names) (2 ^ 32) ≡ true
+unfolding apart
+apart_few names found h = (and_parts (nat_lt (length names) (2 ^ 32)) (are_distinct names) (cond_some (are_apart names) names found h).0).0
+
+-- the places, the transitions and the variables that arcs are read among have numbers of 32 bits
+names_few : (places transitions variables : List (List ℕ)) (items : Items) (arcs : List Arc) → arcs_among places transitions variables items ≡ Some arcs
+    → (nat_lt (length places) (2 ^ 32) ≡ true) × (nat_lt (length transitions) (2 ^ 32) ≡ true) × (nat_lt (length variables) (2 ^ 32) ≡ true)
+unfolding arcs_among
+names_few places transitions variables items arcs h =
+    let p = steps _ (apart places) arcs h in
+    let t = steps _ (apart transitions) arcs p.2 in
+    let v = steps _ (apart variables) arcs t.2 in
+    (apart_few places p.0 p.1, apart_few transitions t.0 t.1, apart_few variables v.0 v.1)
 
 arcs_served : (places transitions variables : List (List ℕ)) (items : Items) (arcs : List Arc) → arcs_among places transitions variables items ≡ Some arcs → list_all (is_served_arc (length places) (length variables)) arcs ≡ true
 unfolding arcs_among
@@ -104,10 +120,14 @@ module_served variables d top h =
     let arc_items = steps _ (list_at (codes "arcs") d) top transitions.2 in
     let arcs = steps _ (arcs_among (place_names places.0) transitions.0 variables arc_items.0) top arc_items.2 in
     let all = steps _ (has_keys 4 d) top arcs.2 in
+    let few = names_few (place_names places.0) transitions.0 variables arc_items.0 arcs.0 arcs.1 in
     let e = same_Some (record { name = name.0; places = places.0; transitions = transitions.0; arcs = arcs.0 }) top all.2 in
     subst (λ m. IsServed (record { variables = variables; top = m })) e (record {
       places = each_passes place_in (λ place. is_served_initial place.initial) place_served place_items.0 places.0 places.1;
       arcs = rw (← (length-map places.0 (λ (place : PlainPlace). place.name))) (arcs_served (place_names places.0) transitions.0 variables arc_items.0 arcs.0 arcs.1);
+      few_places = rw (← (length-map places.0 (λ (place : PlainPlace). place.name))) few.0;
+      few_transitions = few.1;
+      few_variables = few.2;
     })
 
 document_served : (d : Data) (document : PlainDocument) → document_in d ≡ Some document → IsServed document
@@ -140,6 +160,21 @@ parts_sound : (n : PlainNet) (ts : List PlainTransition) → list_all (λ t. is_
 parts_sound n ts h =
     (all_weaker (λ t. is_sound_transition n t && has_sound_arcs t) (is_sound_transition n) (λ t k. (and_parts (is_sound_transition n t) (has_sound_arcs t) k).0) ts h, all_weaker (λ t. is_sound_transition n t && has_sound_arcs t) has_sound_arcs (λ t k. (and_parts (is_sound_transition n t) (has_sound_arcs t) k).1) ts h)
 
+-- a transition is made of each name
+transitions_many : (count : ℕ) (top : List ℕ) (arcs : List Arc) (t : ℕ) (names : List (List ℕ)) (ts : List PlainTransition) → transitions_from count top arcs t names ≡ Some ts → length ts ≡ length names
+unfolding transitions_from
+transitions_many count top arcs t [] ts made = rw (← (same_Some [] ts made)) refl
+transitions_many count top arcs t (name ∷ names) ts made =
+    let first = steps _ (transition_with count (flattened top name) (arcs_of arcs t)) ts made in
+    let rest = steps _ (transitions_from count top arcs (suc t) names) ts first.2 in
+    rw (← (same_Some (first.0 ∷ rest.0) ts rest.2)) (ap (λ (k : ℕ). suc k) (transitions_many count top arcs (suc t) names rest.0 rest.1))
+
+net_numbered : (document : PlainDocument) (ts : List PlainTransition) → IsServed document → transitions_from (length document.variables) document.top.name document.top.arcs 0 document.top.transitions ≡ Some ts
+    → are_numbered (record { places = map (place_of document.top.name) document.top.places; transitions = ts; variables = map variable_of document.variables }) ≡ true
+net_numbered document ts served made =
+    rw (length-map document.top.places (place_of document.top.name), transitions_many (length document.variables) document.top.name document.top.arcs 0 document.top.transitions ts made, length-map document.variables variable_of)
+    (both _ _ (both _ _ served.few_places served.few_transitions) served.few_variables)
+
 -- the net and the initial marking of a document whose parts are as they are read
 from_served : (document : PlainDocument) (loaded : PlainLoaded) → IsServed document → loaded_from document ≡ Some loaded → IsWellLoaded loaded
 unfolding loaded_from
@@ -149,7 +184,7 @@ from_served document loaded served h =
     let e = same_Some (record { net = record { places = map (place_of document.top.name) document.top.places; transitions = transitions.0; variables = map variable_of document.variables }; initial = map (λ place. initial_tokens place.initial) document.top.places }) loaded transitions.2 in
     let sound = parts_sound net transitions.0 (transitions_sound net (length document.top.places) (length document.variables) (length-map document.top.places (place_of document.top.name)) (length-map document.variables variable_of) document.top.name document.top.arcs 0 document.top.transitions transitions.0 served.arcs transitions.1) in
     subst IsWellLoaded e (record {
-      sound = both _ _ (both _ _ (both _ _ (places_integers document.top.name document.top.places) (variables_integers document.variables)) sound.0) sound.1;
+      sound = both _ _ (both _ _ (both _ _ (both _ _ (places_integers document.top.name document.top.places) (variables_integers document.variables)) sound.0) sound.1) (net_numbered document transitions.0 served transitions.1);
       marking = marking_held document.top.name document.top.places served.places;
       places = simp length-map;
       few = marking_few document.top.places served.places;
@@ -161,3 +196,9 @@ unfolding loaded_in
 well_loaded d loaded h =
     let document = steps _ (document_in d) loaded h in
     from_served document.0 loaded (document_served d document.0 document.1) document.2
+
+-- the places and the variables of a document that the program read have numbers of 32 bits
+pub few_read : (d : Data) (document : Document) → document_in d ≡ Some (document_view document) → (length document.top.places.items < 2 ^ 32) × (length document.variables.items < 2 ^ 32)
+few_read d document h =
+    let served = document_served d (document_view document) h in
+    (ltb-true _ _ (sym (ap (λ (k : ℕ). nat_lt k (2 ^ 32)) (length-map document.top.places.items place_view)) ∙ served.few_places), ltb-true _ _ (sym (ap (λ (k : ℕ). nat_lt k (2 ^ 32)) (length-map document.variables.items string_bytes)) ∙ served.few_variables))

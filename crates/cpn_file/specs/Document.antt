@@ -1,5 +1,5 @@
 -- A net document of one module, key by key. Source: own choice.
-use Rattle.std.specs.Prelude.{ℕ, ◌==◌, pos, Bool, true, not, ◌&&◌, if◌then◌else◌, nat_le, List, [], ◌∷◌, length, map, Option, Some, None, option_map, option_and_then, is_none, codes}
+use Rattle.std.specs.Prelude.{ℕ, ◌^◌, ◌==◌, pos, Bool, true, not, ◌&&◌, if◌then◌else◌, nat_lt, nat_le, List, [], ◌∷◌, length, map, Option, Some, None, option_map, option_and_then, is_none, codes}
 use Rattle.std.specs.List.{list_any, position}
 use Rattle.std.specs.Option.{option_or}
 use Rattle.std.specs.Str.{bytes_eq}
@@ -23,9 +23,14 @@ abbrev pub are_distinct : List (List ℕ) → Bool
 are_distinct [] = true
 are_distinct (text ∷ texts) = not (is_one_of text texts) && are_distinct texts
 
--- the texts, where no text is there twice
+-- whether each of the texts has a number of 32 bits of its own: they are fewer than 2 ^ 32, and no text
+-- is there twice
+abbrev pub are_apart : List (List ℕ) → Bool
+are_apart texts = nat_lt (length texts) (2 ^ 32) && are_distinct texts
+
+-- the texts, where they are apart
 unfoldable pub apart : List (List ℕ) → Option (List (List ℕ))
-apart texts = if are_distinct texts then Some texts else None
+apart texts = if are_apart texts then Some texts else None
 
 -- the number of a name: its position among the names
 abbrev pub number_of_name : List ℕ → List (List ℕ) → Option ℕ
@@ -113,8 +118,8 @@ arc_in places transitions variables d = do
 
 -- ---- the module and the document
 
--- The arcs of a module, given the names of its places and transitions, and the variables: no name is there
--- twice among the places, among the transitions, or among the variables.
+-- The arcs of a module, given the names of its places and transitions, and the variables: each name has a
+-- number of 32 bits of its own among the places, among the transitions, or among the variables.
 unfoldable pub arcs_among : List (List ℕ) → List (List ℕ) → List (List ℕ) → Items → Option (List Arc)
 arcs_among places transitions variables items = do
   place_names ← apart places

@@ -1,6 +1,6 @@
 //! Arcs as a document writes them.
 
-ghost use Rattle.std.specs.Prelude.{◌≡◌};
+ghost use Rattle.std.specs.Prelude.{◌≡◌, ◌<◌, ◌^◌, length};
 ghost use Rattle.serde_json.specs.View.{view, items_view};
 ghost use Rattle.cpn_file.specs.Parts.{each_in};
 ghost use Rattle.cpn_file.specs.Document.{way_in, inscription_in, arc_in, arcs_among as arcs_in, place_names};
@@ -67,6 +67,7 @@ fn way_of(text: &str) -> Result<Way, DocError>
 
 #[tactic(auto, unfolding(crate::specs::Document::inscription_in))]
 fn inscription_of(variables: &IndexSet<&str>, text: &str) -> Result<Inscription, DocError>
+    requires few { length variables.now.keys < 2 ^ 32 }
     ensures { Gives (λ inscription. inscription) result (inscription_in (bytes_of variables.now.keys) text.now) }
 {
     match number_of(text) {
@@ -85,6 +86,9 @@ fn arc_of(
     transitions: &IndexSet<&str>,
     variables: &IndexSet<&str>,
 ) -> Result<Arc, DocError>
+    requires few_places { length places.now.keys < 2 ^ 32 }
+    requires few_transitions { length transitions.now.keys < 2 ^ 32 }
+    requires few_variables { length variables.now.keys < 2 ^ 32 }
     ensures { Gives (λ arc. arc) result (arc_in (bytes_of places.now.keys) (bytes_of transitions.now.keys) (bytes_of variables.now.keys) (view value.now)) }
 {
     let place = number_of_name(places, text_of(value, "place")?)?;
@@ -107,6 +111,9 @@ fn arcs_of(
     transitions: &IndexSet<&str>,
     variables: &IndexSet<&str>,
 ) -> Result<Vec<Arc>, DocError>
+    requires few_places { length places.now.keys < 2 ^ 32 }
+    requires few_transitions { length transitions.now.keys < 2 ^ 32 }
+    requires few_variables { length variables.now.keys < 2 ^ 32 }
     ensures { Gives (λ arcs. arcs.items) result (each_in (arc_in (bytes_of places.now.keys) (bytes_of transitions.now.keys) (bytes_of variables.now.keys)) (items_view list.now)) }
 {
     let mut arcs = Vec::new(alloc);
@@ -116,7 +123,8 @@ fn arcs_of(
     Ok(arcs)
 }
 
-/// The arcs of a list, in order, among places, transitions and variables of distinct names.
+/// The arcs of a list, in order, among places, transitions and variables that each have a number of 32
+/// bits of their own.
 #[tactic(auto, unfolding(crate::specs::Document::arcs_among))]
 pub(crate) fn arcs_among(
     alloc: Global,

@@ -1,6 +1,6 @@
 //! The net and the initial marking of a document.
 
-ghost use Rattle.std.specs.Prelude.{◌≡◌, map, IfOk};
+ghost use Rattle.std.specs.Prelude.{◌≡◌, ◌<◌, ◌^◌, length, map, IfOk};
 ghost use Rattle.cpn_core.specs.Nets.{place_view as net_place, variable_view, net_view};
 ghost use Rattle.cpn_file.specs.Loading.{PlainLoaded, place_of, variable_of, loaded_from};
 ghost use Rattle.cpn_file.specs.Loads.{loaded_view};
@@ -57,11 +57,11 @@ fn net_variables(alloc: Global, names: &[String]) -> Result<Vec<Variable>, Alloc
 /// The net and the initial marking of a document.
 #[tactic(auto, unfolding(crate::specs::Loading::loaded_from))]
 pub(crate) fn loaded_of(alloc: Global, document: &Document) -> Result<Loaded, DocError>
+    requires few_places { length document.now.top.places.items < 2 ^ 32 }
+    requires few_variables { length document.now.variables.items < 2 ^ 32 }
     ensures { Gives loaded_view result (loaded_from (document_view document.now)) }
 {
-    let Ok(count) = u32::try_from(document.variables.len()) else {
-        return Err(DocError::Memory);
-    };
+    let count = document.variables.len() as u32;
     let top = &document.top;
     let transitions = transitions_of(
         alloc,

@@ -1,6 +1,6 @@
 //! The initial marking of the net.
 
-ghost use Rattle.std.specs.Prelude.{◌≡◌, ◌<◌, [], Some, length, map, slice_index_or, slice_set, IfOk, OnOk};
+ghost use Rattle.std.specs.Prelude.{◌≡◌, ◌<◌, ◌^◌, [], Some, length, map, slice_index_or, slice_set, IfOk, OnOk};
 ghost use Rattle.cpn_definitions.specs.Value.{int};
 ghost use Rattle.cpn_core.specs.Views.{value_view};
 ghost use Rattle.cpn_file.specs.Loading.{initial_tokens};
@@ -32,15 +32,13 @@ fn add_tokens(marking: &mut PlainMarking, place: u32, written: Initial) -> Resul
 
 /// The initial marking of the places.
 pub(crate) fn marked(alloc: Global, places: &[PlacePart]) -> Result<PlainMarking, Memory>
+    requires few { length places.now < 2 ^ 32 }
     ensures { IfOk result (λ marking. marking ≡ map (λ place. initial_tokens place.initial) (places_view places.now)) }
 {
     let mut marking = PlainMarking::new(alloc, places.len())?;
     for (number, place) in places.iter().enumerate() {
         if let Some(initial) = place.initial {
-            match u32::try_from(number) {
-                Ok(number) => add_tokens(&mut marking, number, initial)?,
-                Err(_) => return Err(Memory),
-            }
+            add_tokens(&mut marking, number as u32, initial)?;
         }
     }
     Ok(marking)

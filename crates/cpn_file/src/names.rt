@@ -1,6 +1,6 @@
 //! The numbers of names.
 
-ghost use Rattle.std.specs.Prelude.{◌≡◌, IfOk};
+ghost use Rattle.std.specs.Prelude.{◌≡◌, ◌<◌, ◌^◌, length, IfOk};
 ghost use Rattle.cpn_file.specs.Names.{texts_of as bytes_of, strings_of};
 ghost use Rattle.cpn_file.specs.Document.{apart, number_of_name as named};
 ghost use Rattle.cpn_file.specs.Refusals.{Gives};
@@ -9,10 +9,14 @@ use crate::refusals::DocError;
 use indexmap::IndexSet;
 use std::alloc::{AllocError, Global};
 
-/// The names in order, each once.
+/// The names in order, each once and each with a number of 32 bits.
 pub(crate) fn numbered<'n>(alloc: Global, names: &[&'n str]) -> Result<IndexSet<&'n str>, DocError>
-    ensures { Gives (λ set. bytes_of set.keys) result (apart (bytes_of names.now)) }
+    ensures given { Gives (λ set. bytes_of set.keys) result (apart (bytes_of names.now)) }
+    ensures few { IfOk result (λ set. length set.keys < 2 ^ 32) }
 {
+    if u32::try_from(names.len()).is_err() {
+        return Err(DocError::NotYet);
+    }
     let mut set = IndexSet::new(alloc);
     for name in names {
         let (_, added) = set.insert_full(*name)?;
@@ -26,13 +30,11 @@ pub(crate) fn numbered<'n>(alloc: Global, names: &[&'n str]) -> Result<IndexSet<
 /// The number of a name.
 #[tactic(auto, using(crate::proofs::NameLists::number_seen))]
 pub(crate) fn number_of_name(names: &IndexSet<&str>, name: &str) -> Result<u32, DocError>
+    requires few { length names.now.keys < 2 ^ 32 }
     ensures { Gives (λ number. number) result (named name.now (bytes_of names.now.keys)) }
 {
     match names.get_index_of(name) {
-        Some(index) => match u32::try_from(index) {
-            Ok(number) => Ok(number),
-            Err(_) => Err(DocError::Memory),
-        },
+        Some(index) => Ok(index as u32),
         None => Err(DocError::NotYet),
     }
 }

@@ -10,7 +10,7 @@ use thiserror::Error;
 /// Why a document is not read.
 #[derive(Debug, Drop, Error)]
 pub enum DocError {
-    /// Memory ran out, or the document numbers more places or transitions than a `u32` counts.
+    /// Memory ran out.
     #[error("out of memory")]
     Memory,
     /// The bytes are no JSON value.

@@ -92,19 +92,9 @@ fn push_entries(
     Ok(())
 }
 
-/// The number of transitions of the net.
-fn transition_count(net: &Net) -> Result<u32, Memory>
-    ensures count { IfOk result (λ count. count ≡ length net.now.transitions.items) }
-{
-    match u32::try_from(net.transitions.len()) {
-        Ok(count) => Ok(count),
-        Err(_) => Err(Memory),
-    }
-}
-
 /// The enabled elements of a sound net: each binding element that is covered at some time not before the
 /// clock, once, by transition and then by binding, with the least such time. `Memory` comes where memory
-/// is wanted, and for a net of 2^32 transitions or more, which have no numbers; it leaves nothing behind.
+/// is wanted, and leaves nothing behind.
 /// Source: Jensen and Kristensen, chapter 11; the order is our own choice.
 pub fn enabled(
     alloc: Global,
@@ -117,8 +107,7 @@ pub fn enabled(
     ensures enabled { IfOk result (λ entries. Enabled (net_view net.now) marking.now clock (map entry_view entries.items)) }
 {
     let mut entries = Vec::new(alloc);
-    let count = transition_count(net)?;
-    for t in 0..count {
+    for t in 0..net.transitions.len() as u32 {
         let found = enabled_of(alloc, net, marking, t)?;
         push_entries(&mut entries, found, t, clock)?;
     }

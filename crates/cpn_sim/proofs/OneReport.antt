@@ -1,21 +1,19 @@
 -- A document has one report under the words.
 use Rattle.std.proofs.Common.{◌≡◌, ℕ, List, Some, None, Option, IfSome, sym, ◌∙◌, ap, subst}
 use Rattle.std.proofs.Math.Path.{ap₂}
+use Rattle.std.proofs.lemmas.Option.{same_Some}
 use Rattle.cpn_definitions.specs.Run.{PlainFinished, HasOutlook}
-use Rattle.cpn_sim.proofs.OneRun.{one_run, one_outlook}
+use Rattle.cpn_definitions.proofs.OneRun.{one_run, one_outlook}
 use Rattle.cpn_file.specs.Loading.{PlainLoaded}
 use Rattle.cpn_file.specs.Reads.{Reads}
 use Rattle.cpn_report.specs.Report.{report_text}
 use Rattle.cpn_sim.specs.Options.{PlainOptions, options_from}
 use Rattle.cpn_sim.specs.Reported.{IsReport, IsReportUnder, IsReportOf, setup_from}
 
-same_some : {A : Type 0} (o : Option A) (x y : A) → o ≡ Some x → o ≡ Some y → x ≡ y
-same_some o x y is is' = cc
-
 -- bytes are read as one net
 one_reading : (bytes : List ℕ) (l l' : PlainLoaded) → Reads bytes l → Reads bytes l' → l ≡ l'
 one_reading bytes l l' reads reads' =
-    let same : reads.0 ≡ reads'.0 = same_some _ reads.0 reads'.0 reads.1.1 reads'.1.1 in
+    let same : reads.0 ≡ reads'.0 = same_Some reads.0 reads'.0 (sym reads.1.1 ∙ reads'.1.1) in
     cc
 
 of_one_net : (loaded : PlainLoaded) (options : PlainOptions) (report other : List ℕ) → options.workers ≡ 1 → IsReportOf loaded options report → IsReportOf loaded options other → report ≡ other
@@ -39,7 +37,7 @@ AskForOne words = (options : PlainOptions) → options_from words ≡ Some optio
 pub one_report : (bytes : List ℕ) (words : List (List ℕ)) (report other : List ℕ) → AskForOne words → IsReport bytes words report → IsReport bytes words other → report ≡ other
 one_report bytes words report other one a b =
     let P : PlainOptions → Type 0 = λ o. IsReportUnder bytes o report in
-    under_one bytes b.options report other (one b.options b.words_are) (subst P (same_some _ a.options b.options a.words_are b.words_are) a.is_report) b.is_report
+    under_one bytes b.options report other (one b.options b.words_are) (subst P (same_Some a.options b.options (sym a.words_are ∙ b.words_are)) a.is_report) b.is_report
 
 -- what holds of a report holds of every report of the same document and words
 pub of_every_report : (words : List (List ℕ)) (left : Option (List ℕ)) (report : List ℕ) (P : List ℕ → Type 0) → AskForOne words

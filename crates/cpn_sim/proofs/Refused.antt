@@ -1,5 +1,6 @@
 -- What follows from a refusal and its cause, case by case.
-use Rattle.std.proofs.Common.{◌≡◌, ℕ, ◌<◌, ◌≤◌, ◌⊎◌, List, length, Option, Some, None, IfSome, refl, ap, ◌∙◌, subst, inl, inr, ⊎_elim, arith}
+use Rattle.std.proofs.Common.{◌≡◌, ℕ, ◌<◌, ◌≤◌, ◌⊎◌, List, length, Option, Some, None, IfSome, refl, sym, ap, ◌∙◌, subst, inl, inr, ⊎_elim, arith}
+use Rattle.std.proofs.lemmas.Option.{same_Some}
 use Rattle.cpn_file.specs.Loading.{PlainLoaded, loaded_in}
 use Rattle.cpn_file.specs.Reads.{IsJson, Reads, IsNotJson, IsNotYet}
 use Rattle.cpn_io.specs.Outside.{Rose}
@@ -62,11 +63,8 @@ read_is_served bytes loaded reads not_served =
     let b : IsJson bytes not_served.0 = not_served.1 in
     let x : loaded_in reads.0 ≡ Some loaded = reads.2 in
     let y : loaded_in not_served.0 ≡ None = not_served.2 in
-    clash (loaded_in reads.0) (loaded_in not_served.0) loaded (ap loaded_in (same_value _ reads.0 not_served.0 a.1 b.1)) x y
+    clash (loaded_in reads.0) (loaded_in not_served.0) loaded (ap loaded_in (same_Some reads.0 not_served.0 (sym a.1 ∙ b.1))) x y
   where
-    same_value : {A : Type 0} (o : Option A) (d e : A) → o ≡ Some d → o ≡ Some e → d ≡ e
-    same_value o d e is_d is_e = cc
-
     clash : {A : Type 0} (o p : Option A) (l : A) → o ≡ p → o ≡ Some l → p ≡ None → ⊥
     clash o p l same some none = cc
 

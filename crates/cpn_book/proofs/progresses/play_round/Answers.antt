@@ -1,13 +1,11 @@
 -- The round keeps the run under way, its draws those of the claims to come, and its marking's places.
-use Rattle.std.proofs.Common.{◌≡◌, ℕ, ◌+◌, ◌<◌, ◌%◌, List, length, map, refl, sym, ap, ◌∙◌, subst, arith, rules}
+use Rattle.std.proofs.Common.{◌≡◌, length, map, refl, ap, ◌∙◌, arith, rules}
 use Rattle.std.proofs.Math.Path.{ap₂}
-use Rattle.cpn_definitions.specs.Draw.{word, generator}
-use Rattle.cpn_core.specs.Nets.{net_view}
-use Rattle.cpn_core.specs.Occurrences.{element_view, entry_view}
+use Rattle.cpn_definitions.specs.Draw.{generator}
 use Rattle.cpn_eval.specs.Tokens.{needed_view, made_view}
 use Rattle.cpn_definitions.specs.Occurrence.{add_made, subtract}
 use Rattle.cpn_book.specs.Setups.{setup_view}
-use Rattle.cpn_book.proofs.RoundDone.{HasPlayed, played, got, length_subtract, length_add_made}
+use Rattle.cpn_book.proofs.RoundDone.{played, got, length_subtract, length_add_made}
 use Rattle.cpn_book.proofs.progresses.play_round.Goals as goal
 
 pub returns-clause-running : goal.returns-clause-running

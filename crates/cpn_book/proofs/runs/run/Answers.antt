@@ -1,10 +1,9 @@
 -- A run ends dead where nothing is enabled, and by its limit where all rounds were played.
-use Rattle.std.proofs.Common.{◌≡◌, ◌<◌, List, [], length, map, sym, subst, ap, ◌∙◌, arith, rules}
-use Rattle.cpn_definitions.specs.State.{dead, steps_made}
+use Rattle.std.proofs.Common.{◌≡◌, length, map, sym, subst, arith}
 use Rattle.cpn_definitions.specs.Run.{PlainFinished, IsRun}
 use Rattle.cpn_core.specs.Occurrences.{entry_view}
 use Rattle.cpn_book.specs.Setups.{setup_view}
-use Rattle.cpn_book.proofs.Finishing.{shown, ends_by_steps, ends_dead, none_from_length}
+use Rattle.cpn_book.proofs.Finishing.{ends_by_steps, ends_dead, none_from_length}
 use Rattle.cpn_book.proofs.runs.run.Goals as goal
 
 pub returns-then-is_empty-clause-run : goal.returns-then-is_empty-clause-run

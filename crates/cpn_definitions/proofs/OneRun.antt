@@ -2,13 +2,14 @@
 use Rattle.std.proofs.Common.{◌≡◌, ℕ, List, [], ◌∷◌, length, Some, None, Option, refl, sym, ap, ◌∙◌, subst}
 use Rattle.std.specs.Option.{MatchOption}
 use Rattle.std.proofs.Math.Path.{ap₂}
+use Rattle.std.proofs.lemmas.Option.{same_Some}
 use Rattle.cpn_definitions.specs.Marking.{Marking}
 use Rattle.cpn_definitions.specs.Enabled.{ready, next_time}
 use Rattle.cpn_definitions.specs.HoleRun.{settled, committed}
 use Rattle.cpn_definitions.specs.State.{PlainSetup, PlainEvent, claim_made, claim_completed, PlainEnd, dead, steps_made, fault_end, PlainCut, PlainState, first_state, Happens, Leads, IsState, HasCause, EndsBy, committed_occurrences}
 use Rattle.cpn_definitions.specs.Run.{PlainFinished, IsRun, Outlook, HasOutlook}
-use Rattle.cpn_sim.proofs.Unique.{enabled_is_unique}
-use Rattle.cpn_sim.proofs.OneJournal.{IsSameEnd, calm_journal}
+use Rattle.cpn_definitions.proofs.Unique.{enabled_is_unique}
+use Rattle.cpn_definitions.proofs.OneJournal.{IsSameEnd, calm_journal}
 
 -- with one seat there is at most one journal that has an end, and it leads to one state
 pub one_journal : (setup : PlainSetup) (J J' : List PlainEvent) (s s' : PlainState) (cause cause' : PlainEnd) → setup.limits.seats ≡ 1 → IsState setup J s → EndsBy setup s cause → IsState setup J' s' → EndsBy setup s' cause' → IsSameEnd J J' s s'
@@ -39,9 +40,6 @@ end_cause setup s cause no_cut ends =
     let P : Option PlainCut → Type 0 = λ cut. MatchOption cut (HasCause setup s cause) (λ c. cause ≡ c.cause) in
     subst P no_cut ends.has_cause
 
-same_marking : (o : Option Marking) (m m' : Marking) → o ≡ Some m → o ≡ Some m' → m ≡ m'
-same_marking o m m' is is' = cc
-
 same_finished : (r r' : PlainFinished) → r.journal ≡ r'.journal → r.occurrences ≡ r'.occurrences → r.marking ≡ r'.marking → r.clock ≡ r'.clock → r.cause ≡ r'.cause → r ≡ r'
 same_finished r r' j o m c e =
     ap₂ (λ journal occurrences. record r { journal = journal; occurrences = occurrences }) j o ∙ ap₂ (λ marking clock. record { journal = r'.journal; occurrences = r'.occurrences; marking = marking; clock = clock; cause = r.cause }) m c ∙ ap (λ cause. record r' { cause = cause }) e
@@ -55,7 +53,7 @@ one_run setup r r' one a b =
     let no_cut : b.state.cut ≡ None = leads_no_cut setup (first_state setup) r'.journal b.state b.reached in
     let causes : r.cause ≡ r'.cause = one_cause setup b.state r.cause r'.cause (end_cause setup b.state r.cause no_cut ends) (end_cause setup b.state r'.cause no_cut b.ends) in
     let Q : PlainState → Type 0 = λ s. settled setup.net setup.start (committed s.claims) s.claims ≡ Some r.marking in
-    let markings : r.marking ≡ r'.marking = same_marking _ r.marking r'.marking (subst Q same.states a.marking_is) b.marking_is in
+    let markings : r.marking ≡ r'.marking = same_Some r.marking r'.marking (sym (subst Q same.states a.marking_is) ∙ b.marking_is) in
     same_finished r r' same.journals (a.occurrences_are ∙ ap committed_occurrences same.states ∙ sym b.occurrences_are) markings (a.clock_is ∙ ap (λ (s : PlainState). s.clock) same.states ∙ sym b.clock_is) causes
 
 -- a marking at a clock has one outlook

@@ -4,6 +4,7 @@ use Rattle.std.specs.List.{list_any, filter}
 use Rattle.std.specs.Option.{MatchOption}
 use Rattle.std.proofs.Math.Path.{ap₂}
 use Rattle.std.proofs.lemmas.Bool.{and_parts}
+use Rattle.std.proofs.lemmas.Option.{same_Some}
 use Rattle.cpn_definitions.specs.Marking.{Marking}
 use Rattle.cpn_definitions.specs.Net.{PlainNet}
 use Rattle.cpn_definitions.specs.Meaning.{Outcome, gives, faults, no_meaning}
@@ -11,7 +12,7 @@ use Rattle.cpn_definitions.specs.Occurrence.{Made, covered, outputs_of}
 use Rattle.cpn_definitions.specs.Enabled.{PlainEntry, Enabled, ready}
 use Rattle.cpn_definitions.specs.HoleRun.{PlainClaim, Status, done_with, faulted_with, is_open}
 use Rattle.cpn_definitions.specs.State.{PlainSetup, PlainEvent, claim_made, claim_completed, PlainEnd, dead, steps_made, fault_end, PlainState, is_held_by, new_claim, status_after, PlainCut, IsDrawn, MayClaim, MayComplete, Happens, Leads, HasCause, EndsBy}
-use Rattle.cpn_sim.proofs.Unique.{enabled_is_unique}
+use Rattle.cpn_definitions.proofs.Unique.{enabled_is_unique}
 use Rattle.cpn_definitions.proofs.Rising.{IsIn, contains_from_in}
 
 -- no claim is open
@@ -83,19 +84,13 @@ drawn_same setup k k' clock xs ys x y same_k same_xs first second =
     let P : ℕ → Type 0 = λ n. IsDrawn setup.seed n (ready clock xs) x in
     let Q : List PlainEntry → Type 0 = λ zs. IsDrawn setup.seed k' (ready clock zs) x in
     let moved : IsDrawn setup.seed k' (ready clock ys) x = subst Q same_xs (subst P same_k first) in
-    some_same _ x y moved.position second.position
-  where
-    some_same : {A : Type 0} (o : Option A) (a b : A) → o ≡ Some a → o ≡ Some b → a ≡ b
-    some_same o a b is_a is_b = cc
-
-marking_same : (o : Option Marking) (m m' : Marking) → o ≡ Some m → o ≡ Some m' → m ≡ m'
-marking_same o m m' is is' = cc
+    same_Some x y (sym moved.position ∙ second.position)
 
 pub claim_is_determined : (setup : PlainSetup) (old : PlainState) (seat number seat' number' : ℕ) (new new' : PlainState) → setup.limits.seats ≡ 1 → MayClaim setup old seat number new → MayClaim setup old seat' number' new' → IsSameClaim seat number seat' number' new new'
 claim_is_determined setup old seat number seat' number' new new' one a b =
     let seats : seat ≡ seat' = (let p = a.seat_known in let q = b.seat_known in omega arith) in
     let numbers : number ≡ number' = a.next_number ∙ sym b.next_number in
-    let markings : a.marking ≡ b.marking = marking_same _ a.marking b.marking a.marking_is b.marking_is in
+    let markings : a.marking ≡ b.marking = same_Some a.marking b.marking (sym a.marking_is ∙ b.marking_is) in
     let P : Marking → Type 0 = λ m. Enabled setup.net m old.clock a.entries in
     let lists : a.entries ≡ b.entries = enabled_is_unique setup.net b.marking old.clock a.entries b.entries (subst P markings a.enabled) b.enabled in
     let drawn : a.drawn ≡ b.drawn = drawn_same setup number number' old.clock a.entries b.entries a.drawn b.drawn numbers lists a.drawn_is b.drawn_is in
@@ -178,10 +173,7 @@ completion_makes_calm setup old seat number new busy c =
 status_same : (n : PlainNet) (e e' : PlainClaim) (s s' : Status) → e ≡ e' → status_after (outputs_of n e.element e.time) ≡ Some s → status_after (outputs_of n e'.element e'.time) ≡ Some s' → s ≡ s'
 status_same n e e' s s' same is is' =
     let P : PlainClaim → Type 0 = λ k. status_after (outputs_of n k.element k.time) ≡ Some s in
-    both (status_after (outputs_of n e'.element e'.time)) s s' (subst P same is) is'
-  where
-    both : {A : Type 0} (o : Option A) (a b : A) → o ≡ Some a → o ≡ Some b → a ≡ b
-    both o a b is_a is_b = cc
+    same_Some s s' (sym (subst P same is) ∙ is')
 
 pub completion_is_determined : (setup : PlainSetup) (old : PlainState) (seat number seat' number' : ℕ) (new new' : PlainState) → IsBusy old → MayComplete setup old seat number new → MayComplete setup old seat' number' new' → IsSameClaim seat number seat' number' new new'
 completion_is_determined setup old seat number seat' number' new new' busy a b =
@@ -261,7 +253,7 @@ no_claim_at_end setup state steps_made seat number new has c =
     let all : length state.claims ≡ setup.limits.steps = has in
     absurd (omega arith)
 no_claim_at_end setup state dead seat number new has c =
-    let same : c.marking ≡ has.1.0 = marking_same _ c.marking has.1.0 c.marking_is has.1.1 in
+    let same : c.marking ≡ has.1.0 = same_Some c.marking has.1.0 (sym c.marking_is ∙ has.1.1) in
     let P : Marking → Type 0 = λ m. covered setup.net m c.drawn.earliest c.drawn.element ≡ true in
     clash (covered setup.net has.1.0 c.drawn.earliest c.drawn.element) (subst P same (drawn_covered setup state seat number new c)) (has.1.2 c.drawn.earliest c.drawn.element)
 no_claim_at_end setup state (fault_end e fault) seat number new has c = has
