@@ -118,9 +118,9 @@ pub fn tell(out: &mut String, tree: &Ast) -> Result<(), AllocError> {
             alternative,
         } => {
             tell_part(out, "(if ", condition)?;
-            tell_part(out, "( ", consequence)?;
+            tell_part(out, " ", consequence)?;
             tell_part(out, " ", alternative)?;
-            write!(out, "))")?;
+            write!(out, ")")?;
         }
         Form::Case { subject, arms } => {
             tell_part(out, "(case ", subject)?;
@@ -142,9 +142,9 @@ pub fn tell(out: &mut String, tree: &Ast) -> Result<(), AllocError> {
         } => {
             write!(out, "(fold {} {}", item.as_str(), sum.as_str())?;
             tell_part(out, " ", list)?;
-            tell_part(out, "( ", start)?;
+            tell_part(out, " ", start)?;
             tell_part(out, " ", body)?;
-            write!(out, "))")?;
+            write!(out, ")")?;
         }
     }
     Ok(())
