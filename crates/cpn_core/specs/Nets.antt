@@ -1,5 +1,5 @@
 -- The plain nets that the nets of the program stand for.
-use Rattle.std.specs.Prelude.{List, map, Option, Some, None, string_bytes}
+use Rattle.std.specs.Prelude.{List, map, string_bytes}
 use Rattle.std.specs.Option.{option_map}
 use Rattle.cpn_definitions.specs.Net.{PlainExpr, literal, variable, ArcInscription, one, PlainPattern, literal_pattern, variable_pattern, PlainArc, PlainTransition, Coloured, PlainNet}
 use Rattle.cpn_definitions.specs.Net as plain

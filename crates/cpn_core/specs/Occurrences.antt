@@ -1,5 +1,4 @@
 -- The plain elements and occurrences that those of the program stand for.
-use Rattle.std.specs.Prelude.{List, map}
 use Rattle.cpn_definitions.specs.Occurrence.{PlainElement}
 use Rattle.cpn_definitions.specs.Enabled.{PlainEntry}
 use Rattle.cpn_definitions.specs.State.{PlainEvent, claim_made, claim_completed, PlainEnd, dead, steps_made, PlainLimits, PlainOccurrence}
