@@ -11,21 +11,17 @@ mod declarations;
 mod depths;
 mod first_tokens;
 mod following_tokens;
-#[cfg(test)]
-mod inscription_tests;
 mod inscriptions;
 mod open_forms;
 mod open_patterns;
 mod operators;
-#[cfg(test)]
-mod parser_tests;
 mod parsers;
 mod pattern_parser;
 mod patterns;
 mod readers;
 mod refusals;
 #[cfg(test)]
-mod telling;
+mod tests;
 mod trees;
 
 pub use declaration_trees::{Alternative, Body, Decl, DeclForm, Parameter};

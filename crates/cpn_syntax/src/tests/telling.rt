@@ -1,4 +1,4 @@
-//! Trees as text, with all their parentheses, for the tests.
+//! Trees as text, with all their parentheses.
 
 use crate::operators::{Infix, Prefix};
 use crate::patterns::{Pat, PatForm};
