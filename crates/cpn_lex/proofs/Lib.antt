@@ -1,9 +1,9 @@
-pub mod Closing
-pub mod Finding
-pub mod Going
-pub mod Inside
-pub mod Longest
-pub mod Once
+pub mod StringEnds
+pub mod FrontTokens
+pub mod Goes
+pub mod StringPieces
+pub mod LongestSigns
+pub mod OneLexing
 mod Rows
-pub mod Runs
-pub mod Shapes
+pub mod ByteRuns
+pub mod FirstBytes

@@ -9,8 +9,8 @@ use Rattle.cpn_lex.specs.Token.{name, number, text, symbol}
 use Rattle.cpn_lex.specs.Lexis.{closed, plain, escaped, Spells, a_number, a_string, negative}
 use Rattle.cpn_lex.specs.Tokens.{stops, blank, token, Lexes}
 use Rattle.cpn_lex.specs.Refusals.{ends, past, bad_escaped, BreaksAt, no_string, Breaks}
-use Rattle.cpn_lex.proofs.Runs.{name_begins, number_begins}
-use Rattle.cpn_lex.proofs.Longest.{one_begins}
+use Rattle.cpn_lex.proofs.ByteRuns.{name_begins, number_begins}
+use Rattle.cpn_lex.proofs.LongestSigns.{one_begins}
 
 -- `~5` spells -5
 tilde_five : Spells (codes "~5") (number (negsuc 4))

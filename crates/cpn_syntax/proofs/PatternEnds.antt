@@ -12,8 +12,8 @@ use Rattle.cpn_syntax.specs.PatternCompletions.{end_pattern}
 use Rattle.cpn_syntax.specs.ReadPatterns.{wanting, whole, none_open, ReadPat, TakesPat}
 use Rattle.cpn_syntax.specs.PatternReadings.{IsReadAsPattern, BreaksOffInPattern}
 use Rattle.cpn_syntax.specs.PatternSteps.{PatBreaksOff}
-use Rattle.cpn_syntax.proofs.CompletingPats.{complete_pat}
-use Rattle.cpn_syntax.proofs.PatternMoves.{begins_too}
+use Rattle.cpn_syntax.proofs.PatternCompletions.{complete_pat}
+use Rattle.cpn_syntax.proofs.PatternSteps.{begins_too}
 
 pub reads_pattern : {p : PlainPat} {from to : Text} (t : PlainToken) → Leads ReadPat TakesPat (wanting []) from (whole p) (t ∷ to) → Is sign.Arrow t → IsReadAsPattern from to p
 reads_pattern t leads arrow = record {

@@ -9,8 +9,8 @@ use Rattle.cpn_syntax.specs.Inscriptions.{Spells, time_line}
 use Rattle.cpn_syntax.specs.Completions.{Closing, Closes, at_end, at_semicolon}
 use Rattle.cpn_syntax.specs.Readings.{IsReadAs, BreaksOffAt}
 use Rattle.cpn_syntax.specs.Fragments.{Whole, whole, Leaves, ReadsAs, Halts}
-use Rattle.cpn_syntax.proofs.Fragmenting.{Then, next, Can, split_front, split_whole, front_at, leaves_next, halts_next, whole_ends}
-use Rattle.cpn_syntax.proofs.TakingTokens.{a_sign, is_sign}
+use Rattle.cpn_syntax.proofs.Fragments.{Then, next, Can, split_front, split_whole, front_at, leaves_next, halts_next, whole_ends}
+use Rattle.cpn_syntax.proofs.Phrases.{a_sign, is_sign}
 
 -- ---- of two texts that are closed alike, one is the other
 

@@ -74,10 +74,10 @@ mutual
   pub data Has (close : Closing) : ℕ → ℕ → PlainAst → Opens → PlainAst → Text → Type 0 where
     -- an operator takes the part as its left operand
     go_on : {at k : ℕ} {c b : PlainAst} {st : Opens} {w : Text} (o : Infix) (t : PlainToken) → left o ≤ k → wants st ≤ precedence o → Is (sign_of o) t
-        → Wants close (behind at o c ∷ st) b w
+        → Wants close (behind at o t.at c ∷ st) b w
         → Has close at k c st b (t ∷ w)
     stamp : {at k : ℕ} {c b : PlainAst} {st : Opens} {w : Text} {z : ℤ} (t n : PlainToken) → 4 ≤ k → wants st ≤ 3 → Is sign.At t → IsNumber z n
-        → Has close at 3 (ast at (stamped c z)) st b w
+        → Has close at 3 (ast at (stamped c t.at z)) st b w
         → Has close at k c st b (t ∷ n ∷ w)
     first_term : {at k : ℕ} {c b : PlainAst} {st : Opens} {w : Text} (t : PlainToken) → 3 ≤ k → wants st ≤ 2 → Is sign.DoublePlus t
         → Wants close (terms at (c ∷ []) ∷ st) b w
@@ -86,9 +86,9 @@ mutual
         → Wants close (terms start (parts ++ c ∷ []) ∷ st) b w
         → Has close at k c (terms start parts ∷ st) b (t ∷ w)
     -- the innermost open form is complete
-    end_operand : {at k start : ℕ} {a c b : PlainAst} {o : Infix} {st : Opens} {w : Text} → right o ≤ k
-        → Has close start (precedence o) (ast start (infixed o a c)) st b w
-        → Has close at k c (behind start o a ∷ st) b w
+    end_operand : {at k start sign : ℕ} {a c b : PlainAst} {o : Infix} {st : Opens} {w : Text} → right o ≤ k
+        → Has close start (precedence o) (ast start (infixed o sign a c)) st b w
+        → Has close at k c (behind start o sign a ∷ st) b w
     end_prefix : {at k start : ℕ} {c b : PlainAst} {p : Prefix} {st : Opens} {w : Text} → 11 ≤ k
         → Has close start 11 (ast start (prefixed p c)) st b w
         → Has close at k c (front start p ∷ st) b w

@@ -43,8 +43,8 @@ abbrev mutual
   deepest_in (list parts) = deepest parts
   deepest_in (let_in locals a) = max (deepest_local locals) (depth a)
   deepest_in (prefixed p a) = depth a
-  deepest_in (infixed o a b) = max (depth a) (depth b)
-  deepest_in (stamped a z) = depth a
+  deepest_in (infixed o s a b) = max (depth a) (depth b)
+  deepest_in (stamped a s z) = depth a
   deepest_in (sum parts) = deepest parts
   deepest_in (if_else c a b) = max (max (depth c) (depth a)) (depth b)
   deepest_in (case_of a arms) = max (depth a) (deepest_arm arms)

@@ -16,7 +16,8 @@
 --
 -- The precedences are 0 for any inscription, 1 for one behind which a bar begins the next arm of a `case` around
 -- it, 2 sum, 3 late, 4 term, 5 or, 6 and, 7 cmp, 8 cons, 9 add, 10 mul, 11 pre. A repetition leans to the left.
--- Parentheses around one inscription add nothing to its tree. Source: own choice after CPN ML.
+-- Parentheses around one inscription add nothing to its tree. An operator between two operands, and the `@` of a time
+-- stamp, have the offset of their sign in the tree. Source: own choice after CPN ML.
 use Rattle.std.specs.Prelude.{ℕ, ℤ, ◌≤◌, true, false, List, [], ◌∷◌, ◌++◌}
 use Rattle.cpn_lex.specs.Token.{PlainToken}
 use Rattle.cpn_lex.specs.declared.symbols.Symbol.{Symbol}
@@ -131,11 +132,11 @@ mutual
     -- late := term @ num
     stamp_line : {l : ℕ} (t n : PlainToken) {a : PlainAst} {z : ℤ} (u : Text) → l ≤ 3
         → Spells 4 a u → Is sign.At t → IsNumber z n
-        → Spells l (ast (place u) (stamped a z)) (u ++ t ∷ n ∷ [])
+        → Spells l (ast (place u) (stamped a t.at z)) (u ++ t ∷ n ∷ [])
     -- the lines from late to mul, by their operators
     infix_line : {l : ℕ} (t : PlainToken) {a b : PlainAst} (u v : Text) (o : Infix) → l ≤ precedence o
         → Spells (left o) a u → Is (sign_of o) t → Spells (right o) b v
-        → Spells l (ast (place u) (infixed o a b)) (u ++ t ∷ v)
+        → Spells l (ast (place u) (infixed o t.at a b)) (u ++ t ∷ v)
     -- pre := not pre
     not_line : {l : ℕ} (t : PlainToken) {a : PlainAst} (u : Text) → l ≤ 11 → Is sign.Not t → Spells 11 a u
         → Spells l (ast t.at (prefixed front.Not a)) (t ∷ u)

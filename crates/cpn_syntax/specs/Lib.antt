@@ -3,6 +3,7 @@ pub mod Texts
 pub mod Trees
 pub mod DeclTrees
 pub mod Depth
+pub mod Shapes
 -- the grammar
 pub mod Patterns
 pub mod Inscriptions
@@ -15,6 +16,7 @@ pub mod Parses
 -- the trees of the program as plain ones
 pub mod PatViews
 pub mod AstViews
+pub mod ParsedViews
 -- reading from left to right: what is open, what was read, and what completes it
 pub mod Faults
 pub mod Unread

@@ -26,8 +26,8 @@ pub data PlainOpen : Type 0 where
   fold_body : ℕ → List ℕ → List ℕ → PlainAst → PlainAst → PlainOpen
   -- late {++ late} ++ _
   terms : ℕ → List PlainAst → PlainOpen
-  -- an infix operator behind its left operand
-  behind : ℕ → Infix → PlainAst → PlainOpen
+  -- an infix operator with the offset of its sign, behind its left operand
+  behind : ℕ → Infix → ℕ → PlainAst → PlainOpen
   -- a prefix operator
   front : ℕ → Prefix → PlainOpen
   -- ( {e ,} _
@@ -55,7 +55,7 @@ wanted (fold_list at item total) = 0
 wanted (fold_start at item total a) = 0
 wanted (fold_body at item total a s) = 0
 wanted (terms at parts) = 3
-wanted (behind at o a) = right o
+wanted (behind at o s a) = right o
 wanted (front at p) = 11
 wanted (group at parts) = 0
 wanted (items at parts) = 0

@@ -55,7 +55,7 @@ pub data Opening : PlainOpen → Text → Type 0 where
   read_terms : {a : PlainAst} {rest : List PlainAst} (u : Text) → Before 3 sign.DoublePlus (a ∷ rest) u
       → Opening (terms (place u) (a ∷ rest)) u
   read_operator : (t : PlainToken) (o : Infix) {a : PlainAst} (u : Text) → Spells (left o) a u → Is (sign_of o) t
-      → Opening (behind (place u) o a) (u ++ t ∷ [])
+      → Opening (behind (place u) o t.at a) (u ++ t ∷ [])
   read_not : (t : PlainToken) → Is sign.Not t → Opening (front t.at prefix.Not) (t ∷ [])
   read_negate : (t : PlainToken) → Is sign.Tilde t → Opening (front t.at prefix.Negate) (t ∷ [])
   read_component : (t n : PlainToken) {z : ℤ} → Is sign.Hash t → IsNumber z n → Opening (front t.at (prefix.Component z)) (t ∷ n ∷ [])
@@ -83,7 +83,7 @@ becomes (fold_list at item total) = 1
 becomes (fold_start at item total a) = 1
 becomes (fold_body at item total a s) = 1
 becomes (terms at parts) = 2
-becomes (behind at o a) = precedence o
+becomes (behind at o s a) = precedence o
 becomes (front at p) = 11
 becomes (group at parts) = 11
 becomes (items at parts) = 11

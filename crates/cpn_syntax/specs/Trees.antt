@@ -42,8 +42,10 @@ mutual
     list : PlainAsts → PlainForm
     let_in : PlainLocals → PlainAst → PlainForm
     prefixed : Prefix → PlainAst → PlainForm
-    infixed : Infix → PlainAst → PlainAst → PlainForm
-    stamped : PlainAst → ℤ → PlainForm
+    -- an operator with the offset of its sign, and its operands
+    infixed : Infix → ℕ → PlainAst → PlainAst → PlainForm
+    -- a token, the offset of the `@` behind it, and its time stamp
+    stamped : PlainAst → ℕ → ℤ → PlainForm
     sum : PlainAsts → PlainForm
     if_else : PlainAst → PlainAst → PlainAst → PlainForm
     case_of : PlainAst → PlainArms → PlainForm

@@ -1,6 +1,7 @@
-//! How deep trees are.
+//! Whether trees are deeper than so many levels. No more levels than these are looked at, so a question takes
+//! little of the machine's stack, however deep the tree is.
 
-ghost use Rattle.std.specs.Prelude.{◌≡◌, ◌-◌, ◌^◌, min, map};
+ghost use Rattle.std.specs.Prelude.{◌≡◌, ◌<◌, ◌≤◌, true, false, map};
 ghost use Rattle.cpn_syntax.specs.AstViews.{ast_view, form_view as plain_form, arm_view, arms_from, local_view, locals_from};
 ghost use Rattle.cpn_syntax.specs.DeclTrees.{decl_view};
 ghost use Rattle.cpn_syntax.specs.Depth.{depth, deepest_in, deepest, deepest_arm, deepest_local, pat_depth, deepest_in_pat, deepest_pat, decl_depth};
@@ -12,128 +13,150 @@ use crate::declaration_trees::{Decl, DeclForm};
 use crate::patterns::{Pat, PatForm};
 use crate::trees::{Arm, Ast, Form, LocalValue};
 
-/// The depth of a declaration.
-pub fn declared_depth(declaration: &Decl) -> u64
-    ensures { result ≡ min (decl_depth (decl_view declaration.now)) (2 ^ 64 - 1) }
+/// Whether a declaration is deeper than so many levels.
+pub fn is_declaration_deeper(declaration: &Decl, most: u8) -> bool
+    ensures deeper { result ≡ true → most < decl_depth (decl_view declaration.now) }
+    ensures within { result ≡ false → decl_depth (decl_view declaration.now) ≤ most }
 {
+    if most == 0 {
+        return true;
+    }
     match &declaration.form {
-        DeclForm::ColourSet { .. } => 1,
-        DeclForm::Variables { .. } => 1,
-        DeclForm::Value { value, .. } => tree_depth(value).saturating_add(1),
-        DeclForm::Function { body, .. } => tree_depth(body).saturating_add(1),
+        DeclForm::ColourSet { .. } => false,
+        DeclForm::Variables { .. } => false,
+        DeclForm::Value { value, .. } => is_deeper(value, most - 1),
+        DeclForm::Function { body, .. } => is_deeper(body, most - 1),
     }
 }
 
-/// The depth of an inscription.
+/// Whether an inscription is deeper than so many levels.
 #[cycle(depth)]
-pub fn tree_depth(tree: &Ast) -> u64
-    ensures { result ≡ min (depth (ast_view tree.now)) (2 ^ 64 - 1) }
+pub fn is_deeper(tree: &Ast, most: u8) -> bool
+    ensures deeper { result ≡ true → most < depth (ast_view tree.now) }
+    ensures within { result ≡ false → depth (ast_view tree.now) ≤ most }
 {
-    deepest_part(&tree.form).saturating_add(1)
+    if most == 0 {
+        return true;
+    }
+    is_form_deeper(&tree.form, most - 1)
 }
 
-/// The depth of the deepest of several inscriptions, or 0.
+/// Whether one of several inscriptions is deeper than so many levels.
 #[cycle(depth)]
-pub fn deepest_of(trees: &[Ast]) -> u64
-    ensures { result ≡ min (deepest (asts_from (map ast_view trees.now))) (2 ^ 64 - 1) }
+pub fn is_any_deeper(trees: &[Ast], most: u8) -> bool
+    ensures deeper { result ≡ true → most < deepest (asts_from (map ast_view trees.now)) }
+    ensures within { result ≡ false → deepest (asts_from (map ast_view trees.now)) ≤ most }
 {
-    let mut found: u64 = 0;
     for tree in trees {
-        found = found.max(tree_depth(tree));
+        if is_deeper(tree, most) {
+            return true;
+        }
     }
-    found
+    false
 }
 
-/// The depth of the deepest part of a form, or 0.
+/// Whether a part of a form is deeper than so many levels.
 #[cycle(depth)]
-fn deepest_part(form: &Form) -> u64
-    ensures { result ≡ min (deepest_in (plain_form form.now)) (2 ^ 64 - 1) }
+fn is_form_deeper(form: &Form, most: u8) -> bool
+    ensures deeper { result ≡ true → most < deepest_in (plain_form form.now) }
+    ensures within { result ≡ false → deepest_in (plain_form form.now) ≤ most }
 {
     match form {
-        Form::Call { arguments, .. } => deepest_of(arguments),
-        Form::Tuple(parts) => deepest_of(parts),
-        Form::List(parts) => deepest_of(parts),
-        Form::Let { values, body } => deepest_value(values).max(tree_depth(body)),
-        Form::Prefix { operand, .. } => tree_depth(operand),
-        Form::Infix { left, right, .. } => tree_depth(left).max(tree_depth(right)),
-        Form::Stamped { term, .. } => tree_depth(term),
-        Form::Sum(parts) => deepest_of(parts),
+        Form::Call { arguments, .. } => is_any_deeper(arguments, most),
+        Form::Tuple(parts) => is_any_deeper(parts, most),
+        Form::List(parts) => is_any_deeper(parts, most),
+        Form::Let { values, body } => is_value_deeper(values, most) || is_deeper(body, most),
+        Form::Prefix { operand, .. } => is_deeper(operand, most),
+        Form::Infix { left, right, .. } => is_deeper(left, most) || is_deeper(right, most),
+        Form::Stamped { term, .. } => is_deeper(term, most),
+        Form::Sum(parts) => is_any_deeper(parts, most),
         Form::If {
             condition,
             consequence,
             alternative,
-        } => tree_depth(condition)
-            .max(tree_depth(consequence))
-            .max(tree_depth(alternative)),
-        Form::Case { subject, arms } => tree_depth(subject).max(deepest_in_arms(arms)),
+        } => {
+            is_deeper(condition, most)
+                || is_deeper(consequence, most)
+                || is_deeper(alternative, most)
+        }
+        Form::Case { subject, arms } => is_deeper(subject, most) || is_arm_deeper(arms, most),
         Form::Fold {
             list,
             start,
             body,
             ..
-        } => tree_depth(list)
-            .max(tree_depth(start))
-            .max(tree_depth(body)),
-        _ => 0,
+        } => is_deeper(list, most) || is_deeper(start, most) || is_deeper(body, most),
+        _ => false,
     }
 }
 
-/// The depth of the deepest pattern or result of the arms.
+/// Whether a pattern or a result of the arms is deeper than so many levels.
 #[cycle(depth)]
-fn deepest_in_arms(arms: &[Arm]) -> u64
-    ensures { result ≡ min (deepest_arm (arms_from (map arm_view arms.now))) (2 ^ 64 - 1) }
+fn is_arm_deeper(arms: &[Arm], most: u8) -> bool
+    ensures deeper { result ≡ true → most < deepest_arm (arms_from (map arm_view arms.now)) }
+    ensures within { result ≡ false → deepest_arm (arms_from (map arm_view arms.now)) ≤ most }
 {
-    let mut found: u64 = 0;
     for arm in arms {
-        found = found
-            .max(pattern_depth(&arm.pattern))
-            .max(tree_depth(&arm.result));
+        if is_pattern_deeper(&arm.pattern, most) || is_deeper(&arm.result, most) {
+            return true;
+        }
     }
-    found
+    false
 }
 
-/// The depth of the deepest of the values.
+/// Whether one of the values is deeper than so many levels.
 #[cycle(depth)]
-fn deepest_value(values: &[LocalValue]) -> u64
-    ensures { result ≡ min (deepest_local (locals_from (map local_view values.now))) (2 ^ 64 - 1) }
+fn is_value_deeper(values: &[LocalValue], most: u8) -> bool
+    ensures deeper { result ≡ true → most < deepest_local (locals_from (map local_view values.now)) }
+    ensures within { result ≡ false → deepest_local (locals_from (map local_view values.now)) ≤ most }
 {
-    let mut found: u64 = 0;
     for local in values {
-        found = found.max(tree_depth(&local.value));
+        if is_deeper(&local.value, most) {
+            return true;
+        }
     }
-    found
+    false
 }
 
-/// The depth of a pattern.
+/// Whether a pattern is deeper than so many levels.
 #[cycle(pattern_depth)]
-fn pattern_depth(pattern: &Pat) -> u64
-    ensures { result ≡ min (pat_depth (pat_view pattern.now)) (2 ^ 64 - 1) }
+pub fn is_pattern_deeper(pattern: &Pat, most: u8) -> bool
+    ensures deeper { result ≡ true → most < pat_depth (pat_view pattern.now) }
+    ensures within { result ≡ false → pat_depth (pat_view pattern.now) ≤ most }
 {
-    deepest_in_pattern(&pattern.form).saturating_add(1)
+    if most == 0 {
+        return true;
+    }
+    is_pattern_form_deeper(&pattern.form, most - 1)
 }
 
-/// The depth of the deepest part of a pattern's form, or 0.
+/// Whether a part of a pattern's form is deeper than so many levels.
 #[cycle(pattern_depth)]
-fn deepest_in_pattern(form: &PatForm) -> u64
-    ensures { result ≡ min (deepest_in_pat (pat_form_view form.now)) (2 ^ 64 - 1) }
+fn is_pattern_form_deeper(form: &PatForm, most: u8) -> bool
+    ensures deeper { result ≡ true → most < deepest_in_pat (pat_form_view form.now) }
+    ensures within { result ≡ false → deepest_in_pat (pat_form_view form.now) ≤ most }
 {
     match form {
-        PatForm::Call { arguments, .. } => deepest_pattern(arguments),
-        PatForm::Tuple(parts) => deepest_pattern(parts),
-        PatForm::List(parts) => deepest_pattern(parts),
-        PatForm::Cons { head, tail } => pattern_depth(head).max(pattern_depth(tail)),
-        _ => 0,
+        PatForm::Call { arguments, .. } => is_any_pattern_deeper(arguments, most),
+        PatForm::Tuple(parts) => is_any_pattern_deeper(parts, most),
+        PatForm::List(parts) => is_any_pattern_deeper(parts, most),
+        PatForm::Cons { head, tail } => {
+            is_pattern_deeper(head, most) || is_pattern_deeper(tail, most)
+        }
+        _ => false,
     }
 }
 
-/// The depth of the deepest of several patterns, or 0.
+/// Whether one of several patterns is deeper than so many levels.
 #[cycle(pattern_depth)]
-fn deepest_pattern(patterns: &[Pat]) -> u64
-    ensures { result ≡ min (deepest_pat (pats_from (map pat_view patterns.now))) (2 ^ 64 - 1) }
+fn is_any_pattern_deeper(patterns: &[Pat], most: u8) -> bool
+    ensures deeper { result ≡ true → most < deepest_pat (pats_from (map pat_view patterns.now)) }
+    ensures within { result ≡ false → deepest_pat (pats_from (map pat_view patterns.now)) ≤ most }
 {
-    let mut found: u64 = 0;
     for pattern in patterns {
-        found = found.max(pattern_depth(pattern));
+        if is_pattern_deeper(pattern, most) {
+            return true;
+        }
     }
-    found
+    false
 }

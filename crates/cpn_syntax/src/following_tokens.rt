@@ -7,10 +7,11 @@ ghost use Rattle.cpn_syntax.specs.Unread.{unread, Reads, Begins};
 ghost use Rattle.cpn_syntax.specs.Trees.{ast, stamped};
 ghost use Rattle.cpn_syntax.specs.PatViews.{pat_view};
 ghost use Rattle.cpn_syntax.specs.AstViews.{ast_view, form_view, arm_view, local_view};
-ghost use Rattle.cpn_syntax.specs.OpenForms.{Opens, condition, consequence, alternative, subject, arm, fold_list, fold_start, fold_body, terms, behind, front, group, items, arguments, local, body};
+ghost use Rattle.cpn_lex.specs.Token.{PlainToken};
+ghost use Rattle.cpn_syntax.specs.OpenForms.{Opens, wants, condition, consequence, alternative, subject, arm, fold_list, fold_start, fold_body, terms, behind, front, group, items, arguments, local, body};
 ghost use Rattle.cpn_syntax.specs.OpenViews.{open_view, fold_view, opens_view, part_state};
 ghost use Rattle.cpn_syntax.specs.ReadForms.{have};
-ghost use Rattle.cpn_syntax.specs.Steps.{BreaksOff, StepIs, Closed, Unclosed, with_term};
+ghost use Rattle.cpn_syntax.specs.Steps.{BreaksOff, ComesOn, StepIs, Closed, Unclosed, next_state, with_term};
 ghost use Rattle.cpn_syntax.specs.Joints.{joint_sign, joint_left, joint_precedence, IsJoined, NothingJoins};
 ghost use Rattle.cpn_syntax.specs.declared.following_tokens.Joint.{Joint};
 ghost use Rattle.cpn_syntax.specs.declared.refusals.SyntaxError.TheVariants as errors;
@@ -83,10 +84,19 @@ fn joint_of(symbol: Symbol) -> Option<Joint>
     }
 }
 
-/// Reads the symbol that takes the part before it as its left operand: the part binds so tightly, and stands
+/// A sign that takes the part before it as its left operand.
+#[derive(Clone, Copy, Debug, PartialEq, Eq)]
+struct Joined {
+    /// What it joins the part with.
+    joint: Joint,
+    /// The offset of the sign.
+    sign: usize,
+}
+
+/// Reads the sign that takes the part before it as its left operand: the part binds so tightly, and stands
 /// in one that has to bind so tightly at least.
-fn accept_joint(reader: &mut Reader, least: u8, precedence: u8) -> Option<Joint>
-    ensures some { IfSome result (λ j. IsJoined precedence least j × Reads (Is (joint_sign j)) (unread reader.old) (unread reader.new)) }
+fn accept_joint(reader: &mut Reader, least: u8, precedence: u8) -> Option<Joined>
+    ensures some { IfSome result (λ j. IsJoined precedence least j.joint × Reads (λ t. Is (joint_sign j.joint) t × (j.sign ≡ t.at)) (unread reader.old) (unread reader.new)) }
     ensures none { result ≡ None → (unread reader.new ≡ unread reader.old) × NothingJoins precedence least (unread reader.old) }
 {
     let symbol = reader.peek_symbol()?;
@@ -94,8 +104,9 @@ fn accept_joint(reader: &mut Reader, least: u8, precedence: u8) -> Option<Joint>
     if joint.left() > precedence || joint.precedence() < least {
         return None;
     }
-    let _token = reader.next();
-    Some(joint)
+    let token = reader.next()?;
+    let sign = token.at;
+    Some(Joined { joint, sign })
 }
 
 /// Goes on behind a part: with an operator that takes it as its left operand, or else with the innermost form.
@@ -109,9 +120,7 @@ pub fn go_on(
     ensures stops { IfErr result (λ e. e ≢ errors.Memory → BreaksOff (part_state part (opens_view «open».old)) (unread reader.old) e) }
 {
     match accept_joint(reader, open.wanted(), part.precedence) {
-        Some(Joint::Infix(operator)) => Ok(Step::Next(Next::Form(behind(operator, part)))),
-        Some(Joint::Stamp) => Ok(Step::Next(Next::Part(stamp(alloc, reader, part)?))),
-        Some(Joint::Term) => Ok(Step::Next(Next::Form(add_term(alloc, open, part)?))),
+        Some(joined) => Ok(Step::Next(join(alloc, reader, open, joined, part)?)),
         None => match open.pop() {
             Some(form) => Ok(Step::Next(close(alloc, reader, form, part)?)),
             None => Ok(Step::Whole(part.tree)),
@@ -119,25 +128,47 @@ pub fn go_on(
     }
 }
 
+/// Goes on behind a part and the sign that takes it as its left operand.
+fn join(
+    alloc: Global,
+    reader: &mut Reader,
+    open: &mut OpenForms,
+    joined: Joined,
+    part: Part,
+) -> Result<Next, SyntaxError>
+    ensures next { IfOk result (λ n. (t : PlainToken) → IsJoined part.precedence (wants (opens_view «open».old)) joined.joint → Is (joint_sign joined.joint) t → joined.sign ≡ t.at
+        → ComesOn (part_state part (opens_view «open».old)) (t ∷ unread reader.old) (next_state n (opens_view «open».new)) (unread reader.new)) }
+    ensures stops { IfErr result (λ e. e ≢ errors.Memory → (t : PlainToken) → IsJoined part.precedence (wants (opens_view «open».old)) joined.joint → Is (joint_sign joined.joint) t → joined.sign ≡ t.at
+        → BreaksOff (part_state part (opens_view «open».old)) (t ∷ unread reader.old) e) }
+{
+    let sign = joined.sign;
+    match joined.joint {
+        Joint::Infix(operator) => Ok(Next::Form(behind(operator, sign, part))),
+        Joint::Stamp => Ok(Next::Part(stamp(alloc, reader, sign, part)?)),
+        Joint::Term => Ok(Next::Form(add_term(alloc, open, part)?)),
+    }
+}
+
 /// An operator behind its left operand.
-fn behind(operator: Infix, part: Part) -> Open
-    ensures { open_view result ≡ behind part.start operator (ast_view part.tree) }
+fn behind(operator: Infix, sign: usize, part: Part) -> Open
+    ensures { open_view result ≡ behind part.start operator sign (ast_view part.tree) }
 {
     Open::Behind {
         at: part.start,
         operator,
+        sign,
         left: part.tree,
     }
 }
 
-/// The number of a time stamp behind `@`.
-fn stamp(alloc: Global, reader: &mut Reader, part: Part) -> Result<Part, SyntaxError>
-    ensures stamped { IfOk result (λ p. (z : ℤ) × Reads (IsNumber z) (unread reader.old) (unread reader.new) × ((st : Opens) → part_state p st ≡ have part.start 3 (ast part.start (stamped (ast_view part.tree) z)) st)) }
+/// The number of a time stamp behind `@`, which stands at the offset.
+fn stamp(alloc: Global, reader: &mut Reader, sign: usize, part: Part) -> Result<Part, SyntaxError>
+    ensures stamped { IfOk result (λ p. (z : ℤ) × Reads (IsNumber z) (unread reader.old) (unread reader.new) × ((st : Opens) → part_state p st ≡ have part.start 3 (ast part.start (stamped (ast_view part.tree) sign z)) st)) }
     ensures refused { IfErr result (λ e. e ≢ errors.Memory → (e ≡ fault_at (unread reader.old)) × ((z : ℤ) → Begins (IsNumber z) (unread reader.old) → ⊥)) }
 {
     let stamp = reader.take_number()?;
     let term = Box::new(alloc, part.tree)?;
-    Ok(whole(part.start, 3, Form::Stamped { term, stamp }))
+    Ok(whole(part.start, 3, Form::Stamped { term, sign, stamp }))
 }
 
 /// The sum of the innermost form with a further term, or else a sum inside that form with its first one.
@@ -217,7 +248,12 @@ fn close(alloc: Global, reader: &mut Reader, form: Open, part: Part) -> Result<N
     ensures stops { IfErr result (λ e. Unclosed part (open_view form) (unread reader.old) e) }
 {
     match form {
-        Open::Behind { at, operator, left } => Ok(end_operand(alloc, at, operator, left, part)?),
+        Open::Behind {
+            at,
+            operator,
+            sign,
+            left,
+        } => Ok(end_operand(alloc, at, operator, sign, left, part)?),
         Open::Front { at, operator } => Ok(end_prefix(alloc, at, operator, part)?),
         Open::Terms { at, parts } => Ok(end_sum(at, parts, part)?),
         Open::Condition { at } => take_then(reader, at, part),
@@ -252,10 +288,11 @@ fn end_operand(
     alloc: Global,
     at: usize,
     operator: Infix,
+    sign: usize,
     left: Ast,
     part: Part,
 ) -> Result<Next, AllocError>
-    ensures { IfOk result (λ n. (text : Text) → Closed part (behind at operator (ast_view left)) text n text) }
+    ensures { IfOk result (λ n. (text : Text) → Closed part (behind at operator sign (ast_view left)) text n text) }
 {
     let left = Box::new(alloc, left)?;
     let right = Box::new(alloc, part.tree)?;
@@ -264,6 +301,7 @@ fn end_operand(
         operator.precedence(),
         Form::Infix {
             operator,
+            sign,
             left,
             right,
         },

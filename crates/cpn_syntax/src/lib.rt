@@ -15,6 +15,7 @@ mod inscriptions;
 mod open_forms;
 mod open_patterns;
 mod operators;
+mod parsed;
 mod parsers;
 mod pattern_parser;
 mod patterns;
@@ -26,6 +27,7 @@ mod trees;
 
 pub use declaration_trees::{Alternative, Body, Decl, DeclForm, Parameter};
 pub use operators::{Infix, Prefix};
+pub use parsed::{Declaration, Guard, Inscription};
 pub use parsers::{parse_decl, parse_delay, parse_expr, parse_guard, parse_mset};
 pub use patterns::{Pat, PatForm, Pats};
 pub use refusals::SyntaxError;

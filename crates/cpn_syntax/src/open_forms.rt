@@ -101,6 +101,8 @@ pub enum Open {
         at: usize,
         /// The operator.
         operator: Infix,
+        /// The offset of its sign.
+        sign: usize,
         /// Its left operand.
         left: Ast,
     },

@@ -13,6 +13,7 @@ ghost use Rattle.cpn_syntax.specs.Faults.{fault_at};
 ghost use Rattle.cpn_syntax.specs.Fragments.{Halts};
 ghost use Rattle.cpn_syntax.specs.Guards.{SpellsGuard, conjuncts_of};
 ghost use Rattle.cpn_syntax.specs.Inscriptions.{Spells};
+ghost use Rattle.cpn_syntax.specs.ParsedViews.{inscription_view, guard_view, declaration_view};
 ghost use Rattle.cpn_syntax.specs.Parses.{SpellsOnly, Parses};
 ghost use Rattle.cpn_syntax.specs.Texts.{Is};
 ghost use Rattle.cpn_syntax.specs.Trees.{PlainAst, PlainAsts, no_ast, more_asts, asts_from};
@@ -21,8 +22,9 @@ ghost use Rattle.cpn_syntax.specs.declared.refusals.SyntaxError.TheVariants as e
 
 use crate::declaration_trees::Decl;
 use crate::declarations::declaration;
-use crate::depths::{declared_depth, deepest_of, tree_depth};
+use crate::depths::{is_any_deeper, is_declaration_deeper, is_deeper};
 use crate::inscriptions::inscription;
+use crate::parsed::{Declaration, Guard, Inscription};
 use crate::readers::Reader;
 use crate::refusals::SyntaxError;
 use crate::trees::{Ast, Asts, Form};
@@ -30,7 +32,7 @@ use cpn_lex::{Symbol, Token, Tokens};
 use std::alloc::{AllocError, Global};
 
 /// How deep a tree may be.
-const MOST_LEVELS: u64 = 64;
+const MOST_LEVELS: u8 = 64;
 
 /// The declaration that the tokens are, up to its semicolon.
 ///
@@ -42,14 +44,14 @@ const MOST_LEVELS: u64 = 64;
 /// - [`SyntaxError::EndOfText`]: the tokens begin a declaration, and are none themselves.
 /// - [`SyntaxError::TooDeep`]: the tokens are a declaration, but its tree is deeper than 64.
 /// - [`SyntaxError::Memory`]: memory ran out.
-pub fn parse_decl(alloc: Global, tokens: &Tokens) -> Result<Decl, SyntaxError>
-    ensures { Parses decl_view SpellsDecl decl_depth (tokens_view tokens.now.items) result }
+pub fn parse_decl(alloc: Global, tokens: &Tokens) -> Result<Declaration, SyntaxError>
+    ensures { Parses declaration_view SpellsDecl decl_depth (tokens_view tokens.now.items) result }
 {
     let found = whole_declaration(alloc, tokens.as_slice())?;
-    if declared_depth(&found) > MOST_LEVELS {
+    if is_declaration_deeper(&found, MOST_LEVELS) {
         return Err(SyntaxError::TooDeep);
     }
-    Ok(found)
+    Ok(Declaration { tree: found })
 }
 
 /// The inscription that the tokens are, as it stands on an arc.
@@ -60,14 +62,14 @@ pub fn parse_decl(alloc: Global, tokens: &Tokens) -> Result<Decl, SyntaxError>
 /// - [`SyntaxError::EndOfText`]: the tokens begin an inscription, and are none themselves.
 /// - [`SyntaxError::TooDeep`]: the tokens are an inscription, but its tree is deeper than 64.
 /// - [`SyntaxError::Memory`]: memory ran out.
-pub fn parse_expr(alloc: Global, tokens: &Tokens) -> Result<Ast, SyntaxError>
-    ensures { Parses ast_view (Spells 0) depth (tokens_view tokens.now.items) result }
+pub fn parse_expr(alloc: Global, tokens: &Tokens) -> Result<Inscription, SyntaxError>
+    ensures { Parses inscription_view (Spells 0) depth (tokens_view tokens.now.items) result }
 {
     let found = whole_inscription(alloc, tokens.as_slice())?;
-    if tree_depth(&found) > MOST_LEVELS {
+    if is_deeper(&found, MOST_LEVELS) {
         return Err(SyntaxError::TooDeep);
     }
-    Ok(found)
+    Ok(Inscription { tree: found })
 }
 
 /// The inscription of a multiset that the tokens are, as it stands for an initial marking.
@@ -80,8 +82,8 @@ pub fn parse_expr(alloc: Global, tokens: &Tokens) -> Result<Ast, SyntaxError>
 /// - [`SyntaxError::EndOfText`]: the tokens begin an inscription, and are none themselves.
 /// - [`SyntaxError::TooDeep`]: the tokens are an inscription, but its tree is deeper than 64.
 /// - [`SyntaxError::Memory`]: memory ran out.
-pub fn parse_mset(alloc: Global, tokens: &Tokens) -> Result<Ast, SyntaxError>
-    ensures { Parses ast_view (Spells 0) depth (tokens_view tokens.now.items) result }
+pub fn parse_mset(alloc: Global, tokens: &Tokens) -> Result<Inscription, SyntaxError>
+    ensures { Parses inscription_view (Spells 0) depth (tokens_view tokens.now.items) result }
 {
     parse_expr(alloc, tokens)
 }
@@ -96,14 +98,14 @@ pub fn parse_mset(alloc: Global, tokens: &Tokens) -> Result<Ast, SyntaxError>
 /// - [`SyntaxError::EndOfText`]: the tokens begin a guard, and are none themselves.
 /// - [`SyntaxError::TooDeep`]: the tokens are a guard, but a conjunct is deeper than 64.
 /// - [`SyntaxError::Memory`]: memory ran out.
-pub fn parse_guard(alloc: Global, tokens: &Tokens) -> Result<Asts, SyntaxError>
-    ensures { Parses asts_view SpellsGuard deepest (tokens_view tokens.now.items) result }
+pub fn parse_guard(alloc: Global, tokens: &Tokens) -> Result<Guard, SyntaxError>
+    ensures { Parses guard_view SpellsGuard deepest (tokens_view tokens.now.items) result }
 {
     let found = whole_guard(alloc, tokens.as_slice())?;
-    if deepest_of(found.as_slice()) > MOST_LEVELS {
+    if is_any_deeper(found.as_slice(), MOST_LEVELS) {
         return Err(SyntaxError::TooDeep);
     }
-    Ok(found)
+    Ok(Guard { conjuncts: found })
 }
 
 /// The inscription of the delay that the tokens are, without the `@+` that may stand in front of it.
@@ -114,14 +116,14 @@ pub fn parse_guard(alloc: Global, tokens: &Tokens) -> Result<Asts, SyntaxError>
 /// - [`SyntaxError::EndOfText`]: the tokens begin a delay, and are none themselves.
 /// - [`SyntaxError::TooDeep`]: the tokens are a delay, but its tree is deeper than 64.
 /// - [`SyntaxError::Memory`]: memory ran out.
-pub fn parse_delay(alloc: Global, tokens: &Tokens) -> Result<Ast, SyntaxError>
-    ensures { Parses ast_view SpellsDelay depth (tokens_view tokens.now.items) result }
+pub fn parse_delay(alloc: Global, tokens: &Tokens) -> Result<Inscription, SyntaxError>
+    ensures { Parses inscription_view SpellsDelay depth (tokens_view tokens.now.items) result }
 {
     let found = whole_delay(alloc, tokens.as_slice())?;
-    if tree_depth(&found) > MOST_LEVELS {
+    if is_deeper(&found, MOST_LEVELS) {
         return Err(SyntaxError::TooDeep);
     }
-    Ok(found)
+    Ok(Inscription { tree: found })
 }
 
 /// The inscription that the tokens are, however deep.
@@ -196,7 +198,7 @@ fn conjuncts(alloc: Global, tree: Ast, bracketed: bool) -> Result<Asts, AllocErr
     if !bracketed {
         return alone(alloc, tree);
     }
-    let Ast { at, form } = tree;
+    let (at, form) = tree.into_parts();
     match form {
         Form::List(parts) => {
             if parts.is_empty() {

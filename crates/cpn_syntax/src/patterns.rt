@@ -1,10 +1,16 @@
-//! The trees of the patterns of a `case`.
+//! The trees of the patterns of a `case`. They are let go as those of inscriptions are.
+
+ghost use Rattle.std.specs.Prelude.{◌<◌, length};
+
+use crate::depths::is_pattern_deeper;
+
+/// The most levels of a part that is let go with calls inside one another.
+const FEW_LEVELS: u8 = 64;
 
 /// Several patterns, from left to right.
 pub type Pats = Vec<Pat>;
 
 /// A pattern, with the offset of its first token. Parentheses around one pattern add nothing to its tree.
-#[derive(Drop)]
 #[cycle(pattern)]
 pub struct Pat {
     /// The offset of its first token in the text.
@@ -47,4 +53,58 @@ pub enum PatForm {
         /// The list behind it.
         tail: Box<Pat>,
     },
+}
+
+impl Drop for Pat {
+    #[cycle(pattern)]
+    #[tactic(auto, using(crate::proofs::Sizes::most_left))]
+    fn drop(mut self) {
+        loop {
+            match self {
+                Pat { at: _, form } => match form {
+                    PatForm::Name(_name) => return,
+                    PatForm::Text(_text) => return,
+                    PatForm::Call {
+                        constructor: _constructor,
+                        arguments: mut parts,
+                    } => {
+                        if parts.is_empty() {
+                            return;
+                        }
+                        let index = deep_pattern(&parts);
+                        self = parts.remove(index);
+                    }
+                    PatForm::Tuple(mut parts) | PatForm::List(mut parts) => {
+                        if parts.is_empty() {
+                            return;
+                        }
+                        let index = deep_pattern(&parts);
+                        self = parts.remove(index);
+                    }
+                    PatForm::Cons { head, tail } => {
+                        if is_pattern_deeper(&tail, FEW_LEVELS) {
+                            self = Box::into_inner(tail);
+                        } else {
+                            self = Box::into_inner(head);
+                        }
+                    }
+                    PatForm::Any | PatForm::Number(_) | PatForm::Truth(_) | PatForm::Unit => return,
+                },
+            }
+        }
+    }
+}
+
+/// The index of the first deep pattern, or 0.
+fn deep_pattern(patterns: &[Pat]) -> usize
+    requires { 0 < length patterns.now }
+    ensures { result < length patterns.now }
+{
+    match patterns
+        .iter()
+        .position(|pattern| is_pattern_deeper(pattern, FEW_LEVELS))
+    {
+        Some(index) => index,
+        None => 0,
+    }
 }

@@ -5,8 +5,10 @@ use super::declarations::tell_declaration;
 use super::delays::tell_delay;
 use super::guards::tell_guard;
 use super::telling::tell;
+use crate::depths::is_deeper;
 use crate::parsers::{parse_decl, parse_delay, parse_expr, parse_guard, parse_mset};
 use crate::refusals::SyntaxError;
+use crate::trees::Ast;
 use cpn_lex::{Tokens, lex};
 use std::alloc::{AllocError, Global};
 use std::process::Abort;
@@ -26,55 +28,73 @@ pub enum Kind {
     Guard,
     /// Delays.
     Delay,
+    /// Inscriptions, of which is told how deep they are.
+    Depth,
 }
 
-/// Writes what the tokens are read as; gives why they are refused.
-fn tell_as(
-    out: &mut String,
-    alloc: Global,
-    kind: Kind,
-    tokens: &Tokens,
-) -> Result<Option<SyntaxError>, AllocError> {
-    match kind {
-        Kind::Inscription => match parse_expr(alloc, tokens) {
-            Ok(tree) => tell(out, &tree)?,
-            Err(error) => return Ok(Some(error)),
-        },
-        Kind::Beginnings => match parse_expr(alloc, tokens) {
-            Ok(tree) => tell_beginnings(out, &tree)?,
-            Err(error) => return Ok(Some(error)),
-        },
-        Kind::Multiset => match parse_mset(alloc, tokens) {
-            Ok(tree) => tell(out, &tree)?,
-            Err(error) => return Ok(Some(error)),
-        },
-        Kind::Declaration => match parse_decl(alloc, tokens) {
-            Ok(declaration) => tell_declaration(out, &declaration)?,
-            Err(error) => return Ok(Some(error)),
-        },
-        Kind::Guard => match parse_guard(alloc, tokens) {
-            Ok(conjuncts) => tell_guard(out, &conjuncts)?,
-            Err(error) => return Ok(Some(error)),
-        },
-        Kind::Delay => match parse_delay(alloc, tokens) {
-            Ok(tree) => tell_delay(out, &tree)?,
-            Err(error) => return Ok(Some(error)),
-        },
+/// Writes how deep a tree is.
+fn tell_depth(out: &mut String, tree: &Ast) -> Result<(), AllocError> {
+    for depth in 0..99u8 {
+        if !is_deeper(tree, depth) {
+            return write!(out, "{depth} deep");
+        }
     }
-    Ok(None)
+    Ok(())
+}
+
+/// What the tokens are read as.
+fn told(alloc: Global, kind: Kind, tokens: &Tokens) -> Result<String, SyntaxError> {
+    let mut out = String::new(alloc);
+    match kind {
+        Kind::Inscription => tell(&mut out, &parse_expr(alloc, tokens)?.tree)?,
+        Kind::Beginnings => tell_beginnings(&mut out, &parse_expr(alloc, tokens)?.tree)?,
+        Kind::Multiset => tell(&mut out, &parse_mset(alloc, tokens)?.tree)?,
+        Kind::Declaration => tell_declaration(&mut out, &parse_decl(alloc, tokens)?.tree)?,
+        Kind::Guard => tell_guard(&mut out, &parse_guard(alloc, tokens)?.conjuncts)?,
+        Kind::Delay => tell_delay(&mut out, &parse_delay(alloc, tokens)?.tree)?,
+        Kind::Depth => tell_depth(&mut out, &parse_expr(alloc, tokens)?.tree)?,
+    }
+    Ok(out)
+}
+
+/// The text that a row stands for: a number, a space and a piece between braces stand for so many times the piece.
+fn expanded(alloc: Global, row: &str) -> Result<String, AllocError> {
+    let mut text = String::new(alloc);
+    for part in row.split('}') {
+        match part.split_once('{') {
+            Some((before, repeated)) => {
+                text.push_str(before)?;
+                push_repeated(&mut text, repeated)?;
+            }
+            None => text.push_str(part)?,
+        }
+    }
+    Ok(text)
+}
+
+/// Writes a piece as often as the number in front of it says.
+fn push_repeated(text: &mut String, repeated: &str) -> Result<(), AllocError> {
+    if let Some((count, piece)) = repeated.split_once(' ') {
+        if let Ok(count) = count.parse::<u16>() {
+            for _ in 0..count {
+                text.push_str(piece)?;
+            }
+        }
+    }
+    Ok(())
 }
 
 /// What a text is read as, or why it is refused.
-fn answered(alloc: Global, kind: Kind, text: &str) -> Result<String, AllocError> {
+fn answered(alloc: Global, kind: Kind, row: &str) -> Result<String, AllocError> {
+    let text = expanded(alloc, row)?;
     let tokens = match lex(alloc, text.as_bytes()) {
         Ok(tokens) => tokens,
         Err(error) => return format!(in alloc; "{error:?}"),
     };
-    let mut told = String::new(alloc);
-    if let Some(error) = tell_as(&mut told, alloc, kind, &tokens)? {
-        write!(told, "{error:?}")?;
+    match told(alloc, kind, &tokens) {
+        Ok(told) => Ok(told),
+        Err(error) => format!(in alloc; "{error:?}"),
     }
-    Ok(told)
 }
 
 /// Checks each row of a table: a text, an arrow, and what it is read as. A row is a line.
@@ -89,6 +109,36 @@ pub fn check_each(
             Some((text, wanted)) => {
                 let answer = answered(alloc, kind, text)?;
                 assert_eq!(rt; answer.as_str(), wanted, "{text:?}");
+            }
+            None => assert!(rt; false, "{row:?} is no row"),
+        }
+    }
+    Ok(())
+}
+
+/// How a text is answered where its depth alone counts.
+fn outcome(answer: &str) -> &'static str {
+    if answer == "TooDeep" {
+        "too deep"
+    } else if answer == "EndOfText" || answer.starts_with("Unexpected") {
+        "wrong"
+    } else {
+        "read"
+    }
+}
+
+/// Checks of each row of a table whether its text is read, is too deep or is wrong.
+pub fn check_outcomes(
+    rt: &impl Abort,
+    alloc: Global,
+    kind: Kind,
+    table: &str,
+) -> Result<(), AllocError> {
+    for row in table.lines() {
+        match row.split_once(" -> ") {
+            Some((text, wanted)) => {
+                let answer = answered(alloc, kind, text)?;
+                assert_eq!(rt; outcome(answer.as_str()), wanted, "{text:?}");
             }
             None => assert!(rt; false, "{row:?} is no row"),
         }

@@ -28,34 +28,48 @@ fn sign(operator: Infix) -> &'static str {
     }
 }
 
+/// Writes a number.
+fn tell_number(out: &mut String, number: i64) -> Result<(), AllocError> {
+    write!(out, "{number}")
+}
+
+/// Writes a string in quotes.
+fn tell_text(out: &mut String, text: &str) -> Result<(), AllocError> {
+    write!(out, "{text:?}")
+}
+
+/// Writes `true` or `false`.
+fn tell_truth(out: &mut String, truth: bool) -> Result<(), AllocError> {
+    out.push_str(if truth { "true" } else { "false" })
+}
+
 /// Writes a pattern with all its parentheses.
 #[cycle(tell_pattern)]
 fn tell_pattern(out: &mut String, pattern: &Pat) -> Result<(), AllocError> {
     match &pattern.form {
-        PatForm::Any => write!(out, "_")?,
-        PatForm::Name(name) => write!(out, "{}", name.as_str())?,
-        PatForm::Number(number) => write!(out, "{number}")?,
-        PatForm::Text(text) => write!(out, "{:?}", text.as_str())?,
-        PatForm::Truth(truth) => write!(out, "{truth}")?,
+        PatForm::Any => out.push_str("_"),
+        PatForm::Name(name) => out.push_str(name.as_str()),
+        PatForm::Number(number) => tell_number(out, *number),
+        PatForm::Text(text) => tell_text(out, text.as_str()),
+        PatForm::Truth(truth) => tell_truth(out, *truth),
         PatForm::Call {
             constructor,
             arguments,
         } => {
-            write!(out, "{}", constructor.as_str())?;
-            tell_patterns(out, "(", arguments, ")")?;
+            out.push_str(constructor.as_str())?;
+            tell_patterns(out, "(", arguments, ")")
         }
-        PatForm::Unit => write!(out, "()")?,
-        PatForm::Tuple(parts) => tell_patterns(out, "<", parts, ">")?,
-        PatForm::List(items) => tell_patterns(out, "[", items, "]")?,
+        PatForm::Unit => out.push_str("()"),
+        PatForm::Tuple(parts) => tell_patterns(out, "<", parts, ">"),
+        PatForm::List(items) => tell_patterns(out, "[", items, "]"),
         PatForm::Cons { head, tail } => {
-            write!(out, "(:: ")?;
+            out.push_str("(:: ")?;
             tell_pattern(out, head)?;
-            write!(out, " ")?;
+            out.push_str(" ")?;
             tell_pattern(out, tail)?;
-            write!(out, ")")?;
+            out.push_str(")")
         }
     }
-    Ok(())
 }
 
 #[cycle(tell_pattern)]
@@ -65,73 +79,82 @@ fn tell_patterns(
     patterns: &[Pat],
     behind: &str,
 ) -> Result<(), AllocError> {
-    write!(out, "{before}")?;
+    out.push_str(before)?;
     for (index, pattern) in patterns.iter().enumerate() {
         if index > 0 {
-            write!(out, " ")?;
+            out.push_str(" ")?;
         }
         tell_pattern(out, pattern)?;
     }
-    write!(out, "{behind}")?;
-    Ok(())
+    out.push_str(behind)
 }
 
 /// Writes an inscription with all its parentheses.
 #[cycle(tell)]
 pub fn tell(out: &mut String, tree: &Ast) -> Result<(), AllocError> {
     match &tree.form {
-        Form::Number(number) => write!(out, "{number}")?,
-        Form::Text(text) => write!(out, "{:?}", text.as_str())?,
-        Form::Truth(truth) => write!(out, "{truth}")?,
-        Form::Empty => write!(out, "empty")?,
-        Form::Time => write!(out, "time")?,
-        Form::Name(name) => write!(out, "{}", name.as_str())?,
+        Form::Number(number) => tell_number(out, *number),
+        Form::Text(text) => tell_text(out, text.as_str()),
+        Form::Truth(truth) => tell_truth(out, *truth),
+        Form::Empty => out.push_str("empty"),
+        Form::Time => out.push_str("time"),
+        Form::Name(name) => out.push_str(name.as_str()),
         Form::Call {
             function,
             arguments,
         } => {
-            write!(out, "{}", function.as_str())?;
-            tell_each(out, "(", arguments, ")")?;
+            out.push_str(function.as_str())?;
+            tell_each(out, "(", arguments, ")")
         }
-        Form::Unit => write!(out, "()")?,
-        Form::Tuple(parts) => tell_each(out, "<", parts, ">")?,
-        Form::List(items) => tell_each(out, "[", items, "]")?,
-        Form::Sum(terms) => tell_each(out, "{", terms, "}")?,
-        Form::Prefix { operator, operand } => tell_prefix(out, *operator, operand)?,
+        Form::Unit => out.push_str("()"),
+        Form::Tuple(parts) => tell_each(out, "<", parts, ">"),
+        Form::List(items) => tell_each(out, "[", items, "]"),
+        Form::Sum(terms) => tell_each(out, "{", terms, "}"),
+        Form::Prefix { operator, operand } => {
+            tell_prefix(out, *operator)?;
+            tell(out, operand)?;
+            out.push_str(")")
+        }
         Form::Infix {
             operator,
             left,
             right,
+            ..
         } => {
-            write!(out, "({}", sign(*operator))?;
-            tell_part(out, " ", left)?;
-            tell_part(out, " ", right)?;
-            write!(out, ")")?;
+            out.push_str("(")?;
+            out.push_str(sign(*operator))?;
+            tell_part(out, left)?;
+            tell_part(out, right)?;
+            out.push_str(")")
         }
-        Form::Stamped { term, stamp } => {
-            tell_part(out, "(@ ", term)?;
-            write!(out, " {stamp})")?;
+        Form::Stamped { term, stamp, .. } => {
+            out.push_str("(@")?;
+            tell_part(out, term)?;
+            out.push_str(" ")?;
+            tell_number(out, *stamp)?;
+            out.push_str(")")
         }
         Form::If {
             condition,
             consequence,
             alternative,
         } => {
-            tell_part(out, "(if ", condition)?;
-            tell_part(out, " ", consequence)?;
-            tell_part(out, " ", alternative)?;
-            write!(out, ")")?;
+            out.push_str("(if")?;
+            tell_part(out, condition)?;
+            tell_part(out, consequence)?;
+            tell_part(out, alternative)?;
+            out.push_str(")")
         }
         Form::Case { subject, arms } => {
-            tell_part(out, "(case ", subject)?;
-            tell_arms(out, arms)?;
-            write!(out, ")")?;
+            out.push_str("(case")?;
+            tell_part(out, subject)?;
+            tell_arms(out, arms)
         }
         Form::Let { values, body } => {
-            write!(out, "(let ")?;
+            out.push_str("(let ")?;
             tell_values(out, values)?;
             tell(out, body)?;
-            write!(out, ")")?;
+            out.push_str(")")
         }
         Form::Fold {
             item,
@@ -140,33 +163,31 @@ pub fn tell(out: &mut String, tree: &Ast) -> Result<(), AllocError> {
             start,
             body,
         } => {
-            write!(out, "(fold {} {}", item.as_str(), sum.as_str())?;
-            tell_part(out, " ", list)?;
-            tell_part(out, " ", start)?;
-            tell_part(out, " ", body)?;
-            write!(out, ")")?;
+            tell_fold(out, item.as_str(), sum.as_str())?;
+            tell_part(out, list)?;
+            tell_part(out, start)?;
+            tell_part(out, body)?;
+            out.push_str(")")
         }
     }
-    Ok(())
 }
 
-#[cycle(tell)]
-fn tell_part(out: &mut String, before: &str, part: &Ast) -> Result<(), AllocError> {
-    write!(out, "{before}")?;
-    tell(out, part)?;
-    Ok(())
-}
-
-#[cycle(tell)]
-fn tell_prefix(out: &mut String, operator: Prefix, operand: &Ast) -> Result<(), AllocError> {
+fn tell_prefix(out: &mut String, operator: Prefix) -> Result<(), AllocError> {
     match operator {
-        Prefix::Not => write!(out, "(not ")?,
-        Prefix::Negate => write!(out, "(~ ")?,
-        Prefix::Component(number) => write!(out, "(#{number} ")?,
+        Prefix::Not => out.push_str("(not "),
+        Prefix::Negate => out.push_str("(~ "),
+        Prefix::Component(number) => write!(out, "(#{number} "),
     }
-    tell(out, operand)?;
-    write!(out, ")")?;
-    Ok(())
+}
+
+fn tell_fold(out: &mut String, item: &str, sum: &str) -> Result<(), AllocError> {
+    write!(out, "(fold {item} {sum}")
+}
+
+#[cycle(tell)]
+fn tell_part(out: &mut String, part: &Ast) -> Result<(), AllocError> {
+    out.push_str(" ")?;
+    tell(out, part)
 }
 
 #[cycle(tell)]
@@ -176,34 +197,34 @@ fn tell_each(
     parts: &[Ast],
     behind: &str,
 ) -> Result<(), AllocError> {
-    write!(out, "{before}")?;
+    out.push_str(before)?;
     for (index, part) in parts.iter().enumerate() {
         if index > 0 {
-            write!(out, " ")?;
+            out.push_str(" ")?;
         }
         tell(out, part)?;
     }
-    write!(out, "{behind}")?;
-    Ok(())
+    out.push_str(behind)
 }
 
 #[cycle(tell)]
 fn tell_arms(out: &mut String, arms: &[Arm]) -> Result<(), AllocError> {
     for arm in arms {
-        write!(out, " | ")?;
+        out.push_str(" | ")?;
         tell_pattern(out, &arm.pattern)?;
-        write!(out, " => ")?;
+        out.push_str(" => ")?;
         tell(out, &arm.result)?;
     }
-    Ok(())
+    out.push_str(")")
 }
 
 #[cycle(tell)]
 fn tell_values(out: &mut String, values: &[LocalValue]) -> Result<(), AllocError> {
     for value in values {
-        write!(out, "{} = ", value.name.as_str())?;
+        out.push_str(value.name.as_str())?;
+        out.push_str(" = ")?;
         tell(out, &value.value)?;
-        write!(out, "; ")?;
+        out.push_str("; ")?;
     }
     Ok(())
 }

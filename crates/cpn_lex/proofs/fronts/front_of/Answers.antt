@@ -1,5 +1,5 @@
 -- Where no name, number, string or sign stands, no token does.
-use Rattle.cpn_lex.proofs.Going.{none_at}
+use Rattle.cpn_lex.proofs.Goes.{none_at}
 use Rattle.cpn_lex.proofs.fronts.front_of.Goals as goal
 
 pub returns-in-None-clause-err : goal.returns-in-None-clause-err

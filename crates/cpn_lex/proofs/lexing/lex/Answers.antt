@@ -8,7 +8,7 @@ use Rattle.cpn_lex.specs.Token.{PlainToken, tokens_view}
 use Rattle.cpn_lex.specs.Tokens.{Lexes}
 use Rattle.cpn_lex.specs.Refusals.{Breaks}
 use Rattle.cpn_lex.specs.Fronts.{Says}
-use Rattle.cpn_lex.proofs.Once.{lexes_once, lexes_or_breaks, breaks_once}
+use Rattle.cpn_lex.proofs.OneLexing.{lexes_once, lexes_or_breaks, breaks_once}
 use Rattle.cpn_lex.proofs.lexing.lex.Goals as goal
 
 only_tokens : (bytes : List ℕ) (r : Result (Vec Token Global) LexError) → IfOk r (λ found. Lexes bytes (tokens_view found.items)) → IfErr r (Says (Breaks bytes)) →

@@ -3,7 +3,7 @@ use Rattle.std.proofs.Common.{◌≡◌, ◌-◌, [], ◌∷◌, length, take, d
 use Rattle.std.proofs.lemmas.List.{length-drop, take_all, map-append}
 use Rattle.cpn_lex.specs.Token.{kind_view, token_view, tokens_view}
 use Rattle.cpn_lex.specs.Tokens.{stops}
-use Rattle.cpn_lex.proofs.Going.{goes_blank, goes_token}
+use Rattle.cpn_lex.proofs.Goes.{goes_blank, goes_token}
 use Rattle.cpn_lex.proofs.lexing.tokens_of.Goals as goal
 
 pub text-init : goal.text-init

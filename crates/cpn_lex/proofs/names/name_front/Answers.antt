@@ -1,6 +1,6 @@
 -- The longest run of bytes of names is a name or a reserved word.
 use Rattle.cpn_lex.specs.Lexis.{is_name_byte}
-use Rattle.cpn_lex.proofs.Runs.{run_passes, name_begins}
+use Rattle.cpn_lex.proofs.ByteRuns.{run_passes, name_begins}
 use Rattle.cpn_lex.proofs.names.name_front.Goals as goal
 
 pub name_text-requires : goal.name_text-requires

@@ -5,7 +5,7 @@ use Rattle.std.proofs.lemmas.Bool.Decides.{nat_tests}
 use Rattle.std.specs.List.{list_all}
 use Rattle.std.specs.Str.{IsAscii}
 use Rattle.cpn_lex.specs.Lexis.{is_name_byte}
-use Rattle.cpn_lex.proofs.Runs.{and_true}
+use Rattle.cpn_lex.proofs.ByteRuns.{and_true}
 use Rattle.cpn_lex.proofs.names.name_text.Goals as goal
 
 name_byte_is_ascii : (byte : ℕ) → is_name_byte byte ≡ true → byte < 128

@@ -12,7 +12,7 @@ use Rattle.cpn_lex.specs.Lexis.{is_digit, is_tilde}
 use Rattle.cpn_lex.specs.Fronts.{Begins, begins_with, begins_number, signed}
 use Rattle.cpn_lex.specs.Refusals.{BreaksAt, too_large}
 use Rattle.cpn_lex.specs.declared.refusals.LexError.TheVariants.{NumberTooLarge}
-use Rattle.cpn_lex.proofs.Runs.{run_passes, number_begins}
+use Rattle.cpn_lex.proofs.ByteRuns.{run_passes, number_begins}
 use Rattle.cpn_lex.proofs.numbers.number_front.Goals as goal
 
 counted : (b : Bool) (n : ℕ) → FitsSigned w64 (signed b (min n (2 ^ 64 - 1))) → min n (2 ^ 64 - 1) ≡ n

@@ -1,6 +1,6 @@
 -- The sign of two bytes is the longest, and else the sign of one.
 use Rattle.std.proofs.Common.{sym}
-use Rattle.cpn_lex.proofs.Longest.{two_begin, one_begins, none_begins}
+use Rattle.cpn_lex.proofs.LongestSigns.{two_begin, one_begins, none_begins}
 use Rattle.cpn_lex.proofs.signs.sign_front.Goals as goal
 
 pub returns-in-Some-clause-some : goal.returns-in-Some-clause-some

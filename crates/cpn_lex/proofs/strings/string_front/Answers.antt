@@ -2,7 +2,7 @@
 use Rattle.std.proofs.Common.{◌≡◌, ℕ, ◌<◌, true, List, [], ◌∷◌, ◌++◌, get_or, refl, arith}
 use Rattle.std.proofs.lemmas.Bool.Decides.{nat_tests}
 use Rattle.cpn_lex.specs.Lexis.{is_escapable, is_plain}
-use Rattle.cpn_lex.proofs.Inside.{inside_starts, inside_plain, inside_escaped, inside_closed, inside_ends, inside_ends_escaped, inside_bad, inside_bad_escape}
+use Rattle.cpn_lex.proofs.StringPieces.{inside_starts, inside_plain, inside_escaped, inside_closed, inside_ends, inside_ends_escaped, inside_bad, inside_bad_escape}
 use Rattle.cpn_lex.proofs.strings.string_front.Goals as goal
 
 -- an ASCII byte as a character is that byte

@@ -1,6 +1,6 @@
 -- The string is read up to here.
 use Rattle.std.proofs.Common.{◌-◌, length, string_bytes}
-use Rattle.cpn_lex.proofs.Inside.{IsInside}
+use Rattle.cpn_lex.proofs.StringPieces.{IsInside}
 use Rattle.cpn_lex.proofs.strings.string_front.Given as goal
 
 abbrev pub invariant-inside : goal.invariant-inside

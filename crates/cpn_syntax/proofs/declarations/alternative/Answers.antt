@@ -1,10 +1,11 @@
+-- `N [: N]`.
 use Rattle.std.proofs.Common.{[]}
 use Rattle.std.proofs.lemmas.Result.{err_from_is_err_and}
 use Rattle.cpn_syntax.specs.Fragments.{whole}
 use Rattle.cpn_syntax.specs.Phrases.{absent}
-use Rattle.cpn_syntax.proofs.Fragmenting.{next, leaves_on, leaves_to_halt, optional_yes, optional_no}
-use Rattle.cpn_syntax.proofs.TakingTokens.{name_next, no_name_next}
-use Rattle.cpn_syntax.proofs.DeclaringParts.{alternative_begins, no_colon}
+use Rattle.cpn_syntax.proofs.Fragments.{next, leaves_on, leaves_to_halt, optional_yes, optional_no}
+use Rattle.cpn_syntax.proofs.Phrases.{name_next, no_name_next}
+use Rattle.cpn_syntax.proofs.DeclarationParts.{alternative_begins, no_colon}
 use Rattle.cpn_syntax.proofs.declarations.alternative.Goals as goal
 
 pub returns-in_err-constructor-clause-stops : goal.returns-in_err-constructor-clause-stops

@@ -1,3 +1,4 @@
+-- `alt {+ alt}` behind `union`.
 use Rattle.std.proofs.Common.{◌∷◌, map}
 use Rattle.std.proofs.lemmas.List.{map-append}
 use Rattle.std.proofs.lemmas.Result.{err_from_is_err_and}
@@ -6,8 +7,8 @@ use Rattle.cpn_lex.specs.declared.symbols.Symbol.TheVariants as sign
 use Rattle.cpn_syntax.specs.Texts.{Text, Is}
 use Rattle.cpn_syntax.specs.DeclTrees.{alternative_view}
 use Rattle.cpn_syntax.specs.Endings.{No, EndsBody}
-use Rattle.cpn_syntax.proofs.Fragmenting.{each_begins, part_and_sign, last_part, no_part}
-use Rattle.cpn_syntax.proofs.DeclaringParts.{ends_body}
+use Rattle.cpn_syntax.proofs.Fragments.{each_begins, part_and_sign, last_part, no_part}
+use Rattle.cpn_syntax.proofs.DeclarationParts.{ends_body}
 use Rattle.cpn_syntax.proofs.declarations.alternatives.Goals as goal
 
 -- what ends a body goes on neither an alternative nor a union

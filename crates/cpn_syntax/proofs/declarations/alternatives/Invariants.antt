@@ -1,3 +1,4 @@
+-- `alt {+ alt}` behind `union`.
 use Rattle.std.proofs.Common.{map, length}
 use Rattle.cpn_lex.specs.declared.symbols.Symbol.TheVariants as sign
 use Rattle.cpn_syntax.specs.DeclTrees.{alternative_view}
@@ -6,7 +7,7 @@ use Rattle.cpn_syntax.specs.Endings.{EndsBody}
 use Rattle.cpn_syntax.specs.Fragments.{Leaves}
 use Rattle.cpn_syntax.specs.Phrases.{Each}
 use Rattle.cpn_syntax.specs.Unread.{unread}
-use Rattle.cpn_syntax.proofs.Fragmenting.{More}
+use Rattle.cpn_syntax.proofs.Fragments.{More}
 use Rattle.cpn_syntax.proofs.declarations.alternatives.Given as goal
 
 abbrev pub invariant-loop-alternatives : goal.invariant-loop-alternatives

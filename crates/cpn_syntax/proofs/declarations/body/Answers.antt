@@ -1,8 +1,9 @@
+-- The body of a colour set.
 use Rattle.std.proofs.Common.{refl, ap, sym, ◌∙◌}
 use Rattle.cpn_lex.specs.Token as token
 use Rattle.cpn_lex.specs.Token.{token_view, kind_view}
-use Rattle.cpn_syntax.proofs.TakingTokens.{is_name_token, is_symbol_token}
-use Rattle.cpn_syntax.proofs.DeclaringParts.{named_read, no_body_at_end, no_body_of}
+use Rattle.cpn_syntax.proofs.Phrases.{is_name_token, is_symbol_token}
+use Rattle.cpn_syntax.proofs.DeclarationParts.{named_read, no_body_at_end, no_body_of}
 use Rattle.cpn_syntax.proofs.declarations.body.Goals as goal
 
 pub returns-in_default-clause-stops : goal.returns-in_default-clause-stops

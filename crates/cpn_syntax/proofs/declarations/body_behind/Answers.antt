@@ -1,3 +1,4 @@
+-- The body of a colour set that begins with a symbol.
 use Rattle.std.proofs.Common.{[], refl, ap}
 use Rattle.std.proofs.lemmas.Result.{err_from_is_err_and}
 use Rattle.cpn_lex.specs.Token as token
@@ -5,9 +6,9 @@ use Rattle.cpn_lex.specs.declared.symbols.Symbol.TheVariants as sign
 use Rattle.cpn_syntax.specs.DeclTrees.{enumeration, union}
 use Rattle.cpn_syntax.specs.Endings.{EndsBody}
 use Rattle.cpn_syntax.specs.Fragments.{whole}
-use Rattle.cpn_syntax.proofs.Fragmenting.{leaves_on, leaves_to_halt, leaves_next, halts_next, whole_ends}
-use Rattle.cpn_syntax.proofs.TakingTokens.{name_next, no_name_next}
-use Rattle.cpn_syntax.proofs.DeclaringParts.{body_begins, ends_body, no_body, no_body_by}
+use Rattle.cpn_syntax.proofs.Fragments.{leaves_on, leaves_to_halt, leaves_next, halts_next, whole_ends}
+use Rattle.cpn_syntax.proofs.Phrases.{name_next, no_name_next}
+use Rattle.cpn_syntax.proofs.DeclarationParts.{body_begins, ends_body, no_body, no_body_by}
 use Rattle.cpn_syntax.proofs.declarations.body_behind.Goals as goal
 
 pub returns-in-Unit-clause-read : goal.returns-in-Unit-clause-read

@@ -1,11 +1,12 @@
+-- `N = body [timed]` behind `colset`.
 use Rattle.std.proofs.Common.{[]}
 use Rattle.std.proofs.lemmas.Result.{err_from_is_err_and}
 use Rattle.cpn_lex.specs.declared.symbols.Symbol.TheVariants as sign
 use Rattle.cpn_syntax.specs.Fragments.{whole}
 use Rattle.cpn_syntax.specs.Phrases.{absent}
-use Rattle.cpn_syntax.proofs.Fragmenting.{next, leaves_on, leaves_to_halt, leaves_next, halts_next, optional_read}
-use Rattle.cpn_syntax.proofs.TakingTokens.{name_next, no_name_next, sign_next, no_sign_next, can_sign}
-use Rattle.cpn_syntax.proofs.DeclaringParts.{form_begins, can_body_next, body_ends, no_timed}
+use Rattle.cpn_syntax.proofs.Fragments.{next, leaves_on, leaves_to_halt, leaves_next, halts_next, optional_read}
+use Rattle.cpn_syntax.proofs.Phrases.{name_next, no_name_next, sign_next, no_sign_next, can_sign}
+use Rattle.cpn_syntax.proofs.DeclarationParts.{form_begins, can_body_next, body_ends, no_timed}
 use Rattle.cpn_syntax.proofs.declarations.colour_set.Goals as goal
 
 pub returns-in_err-name-clause-stops : goal.returns-in_err-name-clause-stops

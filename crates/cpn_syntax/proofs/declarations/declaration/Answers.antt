@@ -1,11 +1,12 @@
+-- Reads a declaration with its semicolon.
 use Rattle.std.proofs.Common.{[], refl}
 use Rattle.std.proofs.lemmas.Result.{err_from_is_err_and}
 use Rattle.cpn_lex.specs.Token.{token_view}
 use Rattle.cpn_syntax.specs.Completions.{Closes, semicolon}
 use Rattle.cpn_syntax.specs.Fragments.{whole}
-use Rattle.cpn_syntax.proofs.Fragmenting.{leaves_on, leaves_to_halt, leaves_next, halts_next}
-use Rattle.cpn_syntax.proofs.TakingTokens.{is_symbol_token, symbol_token, sign_next, no_sign_next, can_sign}
-use Rattle.cpn_syntax.proofs.DeclaringParts.{decl_begins, semicolon_ends, no_decl_at_end, no_decl_of}
+use Rattle.cpn_syntax.proofs.Fragments.{leaves_on, leaves_to_halt, leaves_next, halts_next}
+use Rattle.cpn_syntax.proofs.Phrases.{is_symbol_token, symbol_token, sign_next, no_sign_next, can_sign}
+use Rattle.cpn_syntax.proofs.DeclarationParts.{decl_begins, semicolon_ends, no_decl_at_end, no_decl_of}
 use Rattle.cpn_syntax.proofs.declarations.declaration.Goals as goal
 
 pub returns-in_default-clause-stops : goal.returns-in_default-clause-stops

@@ -1,7 +1,8 @@
+-- What is declared behind a symbol.
 use Rattle.std.proofs.Common.{refl, ap}
 use Rattle.cpn_lex.specs.Token as token
 use Rattle.cpn_lex.specs.declared.symbols.Symbol.TheVariants as sign
-use Rattle.cpn_syntax.proofs.DeclaringParts.{no_form, no_form_by, with_token}
+use Rattle.cpn_syntax.proofs.DeclarationParts.{no_form, no_form_by, with_token}
 use Rattle.cpn_syntax.proofs.declarations.form.Goals as goal
 
 pub returns-in-Colset-clause-read : goal.returns-in-Colset-clause-read

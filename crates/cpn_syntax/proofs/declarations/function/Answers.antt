@@ -1,11 +1,12 @@
+-- `N ( N : N {, N : N} ) : N = e` behind `fun`.
 use Rattle.std.proofs.Common.{[]}
 use Rattle.std.proofs.lemmas.Result.{err_from_is_err_and}
 use Rattle.cpn_lex.specs.declared.symbols.Symbol.TheVariants as sign
 use Rattle.cpn_syntax.specs.Fragments.{whole}
-use Rattle.cpn_syntax.proofs.Fragmenting.{leaves_on, leaves_to_halt, leaves_next, halts_next, sign_ends}
-use Rattle.cpn_syntax.proofs.TakingTokens.{name_next, no_name_next, sign_next, no_sign_next, can_name, can_sign}
+use Rattle.cpn_syntax.proofs.Fragments.{leaves_on, leaves_to_halt, leaves_next, halts_next, sign_ends}
+use Rattle.cpn_syntax.proofs.Phrases.{name_next, no_name_next, sign_next, no_sign_next, can_name, can_sign}
 use Rattle.cpn_syntax.proofs.WholeInscriptions.{can_inscription_next, inscription_next, no_inscription_next}
-use Rattle.cpn_syntax.proofs.DeclaringParts.{form_begins, can_parameters}
+use Rattle.cpn_syntax.proofs.DeclarationParts.{form_begins, can_parameters}
 use Rattle.cpn_syntax.proofs.declarations.function.Goals as goal
 
 pub returns-in_err-name-clause-stops : goal.returns-in_err-name-clause-stops

@@ -1,10 +1,11 @@
+-- `[with num .
 use Rattle.std.proofs.Common.{rules, []}
 use Rattle.std.proofs.lemmas.Result.{err_from_is_err_and}
 use Rattle.cpn_lex.specs.declared.symbols.Symbol.TheVariants as sign
 use Rattle.cpn_syntax.specs.Fragments.{whole}
-use Rattle.cpn_syntax.proofs.Fragmenting.{leaves_on, leaves_to_halt, optional_yes, optional_no}
-use Rattle.cpn_syntax.proofs.TakingTokens.{number_next, no_number_next, sign_next, no_sign_next, can_number, can_sign}
-use Rattle.cpn_syntax.proofs.DeclaringParts.{body_begins, int_alone, range_read}
+use Rattle.cpn_syntax.proofs.Fragments.{leaves_on, leaves_to_halt, optional_yes, optional_no}
+use Rattle.cpn_syntax.proofs.Phrases.{number_next, no_number_next, sign_next, no_sign_next, can_number, can_sign}
+use Rattle.cpn_syntax.proofs.DeclarationParts.{body_begins, int_alone, range_read}
 use Rattle.cpn_syntax.proofs.declarations.int_body.Goals as goal
 
 pub returns-then-not-accept-clause-read : goal.returns-then-not-accept-clause-read

@@ -1,9 +1,10 @@
+-- Names, each but the first behind the separator.
 use Rattle.std.proofs.Common.{map, string_bytes}
 use Rattle.std.proofs.lemmas.List.{map-append}
 use Rattle.std.proofs.lemmas.Result.{err_from_is_err_and}
 use Rattle.cpn_syntax.specs.Endings.{Anything}
-use Rattle.cpn_syntax.proofs.Fragmenting.{each_begins, part_and_sign, last_part, no_part}
-use Rattle.cpn_syntax.proofs.TakingTokens.{name_read, name_halts}
+use Rattle.cpn_syntax.proofs.Fragments.{each_begins, part_and_sign, last_part, no_part}
+use Rattle.cpn_syntax.proofs.Phrases.{name_read, name_halts}
 use Rattle.cpn_syntax.proofs.declarations.names.Goals as goal
 
 pub loop-names-init : goal.loop-names-init

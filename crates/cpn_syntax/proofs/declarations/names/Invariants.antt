@@ -1,10 +1,11 @@
+-- Names, each but the first behind the separator.
 use Rattle.std.proofs.Common.{map, string_bytes, length}
 use Rattle.cpn_syntax.specs.Endings.{No}
 use Rattle.cpn_syntax.specs.Fragments.{Leaves}
 use Rattle.cpn_syntax.specs.Phrases.{One, Names}
 use Rattle.cpn_syntax.specs.Texts.{IsName}
 use Rattle.cpn_syntax.specs.Unread.{unread}
-use Rattle.cpn_syntax.proofs.Fragmenting.{More}
+use Rattle.cpn_syntax.proofs.Fragments.{More}
 use Rattle.cpn_syntax.proofs.declarations.names.Given as goal
 
 abbrev pub invariant-loop-names : goal.invariant-loop-names

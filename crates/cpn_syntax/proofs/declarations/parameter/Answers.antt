@@ -1,9 +1,10 @@
+-- `N : N`.
 use Rattle.std.proofs.Common.{[]}
 use Rattle.std.proofs.lemmas.Result.{err_from_is_err_and}
 use Rattle.cpn_syntax.specs.Fragments.{whole}
-use Rattle.cpn_syntax.proofs.Fragmenting.{leaves_on, leaves_to_halt}
-use Rattle.cpn_syntax.proofs.TakingTokens.{name_next, no_name_next, sign_next, no_sign_next, can_name, can_sign}
-use Rattle.cpn_syntax.proofs.DeclaringParts.{parameter_begins}
+use Rattle.cpn_syntax.proofs.Fragments.{leaves_on, leaves_to_halt}
+use Rattle.cpn_syntax.proofs.Phrases.{name_next, no_name_next, sign_next, no_sign_next, can_name, can_sign}
+use Rattle.cpn_syntax.proofs.DeclarationParts.{parameter_begins}
 use Rattle.cpn_syntax.proofs.declarations.parameter.Goals as goal
 
 pub returns-in_err-name-clause-stops : goal.returns-in_err-name-clause-stops

@@ -1,11 +1,12 @@
+-- `N * N {* N}` behind `product`.
 use Rattle.std.proofs.Common.{◌∷◌, [], string_bytes}
 use Rattle.std.proofs.lemmas.Result.{err_from_is_err_and}
 use Rattle.cpn_lex.specs.declared.symbols.Symbol.TheVariants as sign
 use Rattle.cpn_syntax.specs.DeclTrees.{product}
 use Rattle.cpn_syntax.specs.Fragments.{whole}
-use Rattle.cpn_syntax.proofs.Fragmenting.{leaves_on, leaves_to_halt, leaves_next, halts_next, whole_ends}
-use Rattle.cpn_syntax.proofs.TakingTokens.{name_next, no_name_next, sign_next, no_sign_next, can_sign, can_names}
-use Rattle.cpn_syntax.proofs.DeclaringParts.{body_begins, ends_body}
+use Rattle.cpn_syntax.proofs.Fragments.{leaves_on, leaves_to_halt, leaves_next, halts_next, whole_ends}
+use Rattle.cpn_syntax.proofs.Phrases.{name_next, no_name_next, sign_next, no_sign_next, can_sign, can_names}
+use Rattle.cpn_syntax.proofs.DeclarationParts.{body_begins, ends_body}
 use Rattle.cpn_syntax.proofs.declarations.product.Goals as goal
 
 pub returns-in_err-first-clause-stops : goal.returns-in_err-first-clause-stops

@@ -1,12 +1,10 @@
--- The deepest pattern so far and those that are left are as deep as all of them, up to the greatest number.
-use Rattle.std.proofs.Common.{◌≡◌, ◌-◌, ◌^◌, ◌<◌, min, max, map, drop}
+-- As deep as all the patterns, above so many levels, are those that are left.
+use Rattle.std.proofs.Common.{◌≡◌, max, map, drop}
 use Rattle.cpn_syntax.specs.Depth.{deepest_pat}
 use Rattle.cpn_syntax.specs.PatViews.{pat_view}
 use Rattle.cpn_syntax.specs.Trees.{pats_from}
 use Rattle.cpn_syntax.proofs.depths.+pattern_depth.Given as goal
 
-abbrev pub invariant-deepest_pattern-loop-pattern : goal.invariant-deepest_pattern-loop-pattern
-invariant-deepest_pattern-loop-pattern l = record {
-  total : min (max l.found (deepest_pat (pats_from (map pat_view (drop l.pattern-index l.patterns))))) (2 ^ 64 - 1) ≡ min (deepest_pat (pats_from (map pat_view l.patterns))) (2 ^ 64 - 1);
-  small : l.found < 2 ^ 64;
-}
+abbrev pub invariant-is_any_pattern_deeper-loop-pattern : goal.invariant-is_any_pattern_deeper-loop-pattern
+invariant-is_any_pattern_deeper-loop-pattern l =
+    max l.most (deepest_pat (pats_from (map pat_view (drop l.pattern-index l.patterns)))) ≡ max l.most (deepest_pat (pats_from (map pat_view l.patterns)))

@@ -1,3 +1,4 @@
+-- Reads the tokens that begin a part which has to bind so tightly.
 use Rattle.std.proofs.Common.{rules, refl, sym, ap, ◌∙◌, [], ◌∷◌, subst}
 use Rattle.cpn_lex.specs.Token as token
 use Rattle.cpn_lex.specs.Token.{token_view}
@@ -5,9 +6,9 @@ use Rattle.cpn_syntax.specs.Trees.{ast, number}
 use Rattle.cpn_syntax.specs.ReadForms.{want, have, Takes}
 use Rattle.cpn_syntax.specs.Steps.{Comes}
 use Rattle.cpn_syntax.specs.Unread.{unread}
-use Rattle.cpn_syntax.proofs.Beginning.{begins_never}
-use Rattle.cpn_syntax.proofs.Levels as levels
-use Rattle.cpn_syntax.proofs.Starting as starting
+use Rattle.cpn_syntax.proofs.Wants.{begins_never}
+use Rattle.cpn_syntax.proofs.FormViews as levels
+use Rattle.cpn_syntax.proofs.FirstSteps as starting
 use Rattle.cpn_syntax.proofs.first_tokens.begin.Goals as goal
 
 pub returns-in_default-clause-stops : goal.returns-in_default-clause-stops

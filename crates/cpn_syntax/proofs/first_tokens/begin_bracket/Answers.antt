@@ -1,8 +1,9 @@
+-- `[]`, or the bracket of a list.
 use Rattle.std.proofs.Common.{refl}
 use Rattle.cpn_lex.specs.Token as token
 use Rattle.cpn_lex.specs.declared.symbols.Symbol.TheVariants as sign
-use Rattle.cpn_syntax.proofs.Levels as levels
-use Rattle.cpn_syntax.proofs.Starting as starting
+use Rattle.cpn_syntax.proofs.FormViews as levels
+use Rattle.cpn_syntax.proofs.FirstSteps as starting
 use Rattle.cpn_syntax.proofs.first_tokens.begin_bracket.Goals as goal
 
 pub returns-then-accept-clause-begun : goal.returns-then-accept-clause-begun

@@ -1,8 +1,9 @@
+-- `N , N over` behind `foldl`.
 use Rattle.std.proofs.Common.{refl}
 use Rattle.std.proofs.lemmas.Result.{err_from_is_err_and}
 use Rattle.cpn_lex.specs.Token as token
 use Rattle.cpn_lex.specs.declared.symbols.Symbol.TheVariants as sign
-use Rattle.cpn_syntax.proofs.Starting as starting
+use Rattle.cpn_syntax.proofs.FirstSteps as starting
 use Rattle.cpn_syntax.proofs.first_tokens.begin_fold.Goals as goal
 
 pub returns-in_err-item-clause-stops : goal.returns-in_err-item-clause-stops

@@ -1,3 +1,4 @@
+-- What a symbol and the tokens behind it begin.
 use Rattle.std.proofs.Common.{rules, arith, ◌≤◌, ◌<◌, refl, ap, ◌∷◌, subst, true, false}
 use Rattle.std.proofs.lemmas.Result.{err_from_is_err_and, IfOk-weaker, IfErr-weaker}
 use Rattle.cpn_lex.specs.Token as token
@@ -6,9 +7,9 @@ use Rattle.cpn_syntax.specs.OpenForms.{front, wants}
 use Rattle.cpn_syntax.specs.ReadForms.{want}
 use Rattle.cpn_syntax.specs.Steps.{Comes}
 use Rattle.cpn_syntax.specs.Unread.{unread}
-use Rattle.cpn_syntax.proofs.Beginning.{begins_with}
-use Rattle.cpn_syntax.proofs.Levels as levels
-use Rattle.cpn_syntax.proofs.Starting as starting
+use Rattle.cpn_syntax.proofs.Wants.{begins_with}
+use Rattle.cpn_syntax.proofs.FormViews as levels
+use Rattle.cpn_syntax.proofs.FirstSteps as starting
 use Rattle.cpn_syntax.proofs.first_tokens.begin_symbol.Goals as goal
 use Rattle.cpn_syntax.proofs.first_tokens.begin_symbol.Goals.{in_default-via-in-If+else-least-le1, in_default-via-in-Case+else-least-eq0, in_default-via-in-Foldl+else-least-le1-2, in_default-via-in_default}
 

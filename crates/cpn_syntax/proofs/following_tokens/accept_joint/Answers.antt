@@ -1,6 +1,8 @@
+-- Reads the sign that takes the part before it as its left operand: the part binds so tightly, and stands in one that
+-- has to bind so tightly at least.
 use Rattle.std.proofs.Common.{arith, refl, ap}
 use Rattle.cpn_syntax.specs.Joints.{joint_sign, joint_left, joint_precedence}
-use Rattle.cpn_syntax.proofs.Joining.{one_symbol, joins_as}
+use Rattle.cpn_syntax.proofs.Joints.{one_symbol, joins_as}
 use Rattle.cpn_syntax.proofs.following_tokens.accept_joint.Goals as goal
 use Rattle.cpn_syntax.proofs.following_tokens.accept_joint.Goals.{then-left-precedence-via-then-left-precedence, then-left-precedence-via-else-left-precedence+then-precedence-least}
 

@@ -1,12 +1,13 @@
+-- The next arm behind a bar, or the whole `case`.
 use Rattle.std.proofs.Common.{arith, ap, ◌∙◌, ◌≡◌, ◌≤◌}
 use Rattle.std.proofs.lemmas.Result.{err_from_is_err_and}
 use Rattle.cpn_lex.specs.declared.symbols.Symbol.TheVariants as sign
 use Rattle.cpn_syntax.specs.Texts.{Is}
 use Rattle.cpn_syntax.specs.Unread.{unread, Begins}
 use Rattle.cpn_syntax.specs.AstViews.{ast_view}
-use Rattle.cpn_syntax.proofs.Levels as levels
-use Rattle.cpn_syntax.proofs.Repeating.{arms_with_last}
-use Rattle.cpn_syntax.proofs.GoingOn as going
+use Rattle.cpn_syntax.proofs.FormViews as levels
+use Rattle.cpn_syntax.proofs.LastParts.{arms_with_last}
+use Rattle.cpn_syntax.proofs.PartSteps as going
 use Rattle.cpn_syntax.proofs.following_tokens.close_arm.Goals as goal
 use Rattle.cpn_syntax.proofs.following_tokens.close_arm.Goals.{else-part-ge1-via-then-part-ge1+else-accept, else-part-ge1-via-else-part-ge1}
 

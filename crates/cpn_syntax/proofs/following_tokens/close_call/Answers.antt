@@ -1,8 +1,9 @@
+-- The next argument behind a comma, or the whole call.
 use Rattle.std.proofs.lemmas.Result.{err_from_is_err_and}
 use Rattle.cpn_syntax.specs.AstViews.{ast_view}
-use Rattle.cpn_syntax.proofs.Levels as levels
-use Rattle.cpn_syntax.proofs.Repeating.{asts_with_last}
-use Rattle.cpn_syntax.proofs.GoingOn as going
+use Rattle.cpn_syntax.proofs.FormViews as levels
+use Rattle.cpn_syntax.proofs.LastParts.{asts_with_last}
+use Rattle.cpn_syntax.proofs.PartSteps as going
 use Rattle.cpn_syntax.proofs.following_tokens.close_call.Goals as goal
 
 pub returns-then-accept-clause-closed : goal.returns-then-accept-clause-closed

@@ -1,8 +1,9 @@
+-- `end` behind the body of a `let`.
 use Rattle.std.proofs.lemmas.Result.{err_from_is_err_and}
 use Rattle.cpn_syntax.specs.AstViews.{ast_view}
-use Rattle.cpn_syntax.proofs.Levels as levels
-use Rattle.cpn_syntax.proofs.Repeating.{all_locals}
-use Rattle.cpn_syntax.proofs.GoingOn as going
+use Rattle.cpn_syntax.proofs.FormViews as levels
+use Rattle.cpn_syntax.proofs.LastParts.{all_locals}
+use Rattle.cpn_syntax.proofs.PartSteps as going
 use Rattle.cpn_syntax.proofs.following_tokens.take_end.Goals as goal
 
 pub returns-in_err-take-clause-stops : goal.returns-in_err-take-clause-stops

@@ -1,11 +1,12 @@
+-- Reads an inscription as far as it reaches.
 use Rattle.std.proofs.Common.{refl, sym, ap, ◌∙◌, [], subst}
 use Rattle.std.proofs.lemmas.Result.{err_from_is_err_and}
 use Rattle.cpn_syntax.specs.OpenViews.{opens_view, part_state}
 use Rattle.cpn_syntax.specs.ReadForms.{want}
 use Rattle.cpn_syntax.specs.Steps.{Comes, IsAll, StepIs, next_state}
 use Rattle.cpn_syntax.specs.Unread.{unread}
-use Rattle.cpn_syntax.proofs.Progressing.{leads_on, leads_to_stop}
-use Rattle.cpn_syntax.proofs.Whole as whole
+use Rattle.cpn_syntax.proofs.Progress.{leads_on, leads_to_stop}
+use Rattle.cpn_syntax.proofs.WholeReadings as whole
 use Rattle.cpn_syntax.proofs.inscriptions.inscription.Goals as goal
 
 pub returns-in_err-next-clause-stops : goal.returns-in_err-next-clause-stops

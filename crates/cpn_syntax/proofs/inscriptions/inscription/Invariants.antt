@@ -1,3 +1,4 @@
+-- Reads an inscription as far as it reaches.
 use Rattle.std.proofs.Common.{[]}
 use Rattle.cpn_syntax.specs.OpenViews.{opens_view}
 use Rattle.cpn_syntax.specs.ReadForms.{want}

@@ -1,8 +1,9 @@
+-- The inscription of the delay that the tokens are, however deep.
 use Rattle.std.proofs.lemmas.Result.{err_from_is_err_and}
-use Rattle.cpn_syntax.proofs.Fragmenting.{leaves_on, leaves_to_halt}
-use Rattle.cpn_syntax.proofs.Parsing.{all_read, left_over}
+use Rattle.cpn_syntax.proofs.Fragments.{leaves_on, leaves_to_halt}
+use Rattle.cpn_syntax.proofs.Parses.{all_read, left_over}
 use Rattle.cpn_syntax.proofs.WholeInscriptions.{inscription_read, inscription_halts}
-use Rattle.cpn_syntax.proofs.Delaying.{delay_begins}
+use Rattle.cpn_syntax.proofs.Delays.{delay_begins}
 use Rattle.cpn_syntax.proofs.parsers.whole_delay.Goals as goal
 
 pub returns-in_err-found-clause-stops : goal.returns-in_err-found-clause-stops

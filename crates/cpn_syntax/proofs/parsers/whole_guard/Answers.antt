@@ -1,5 +1,6 @@
+-- The conjuncts of the guard that the tokens are, however deep.
 use Rattle.std.proofs.lemmas.Result.{err_from_is_err_and}
-use Rattle.cpn_syntax.proofs.Guarding.{guard_read, guard_halts}
+use Rattle.cpn_syntax.proofs.Guards.{guard_read, guard_halts}
 use Rattle.cpn_syntax.proofs.parsers.whole_guard.Goals as goal
 
 pub returns-in_err-tree-clause-stops : goal.returns-in_err-tree-clause-stops

@@ -1,5 +1,6 @@
+-- The inscription that the tokens are, however deep.
 use Rattle.std.proofs.lemmas.Result.{err_from_is_err_and}
-use Rattle.cpn_syntax.proofs.Parsing.{all_read, left_over}
+use Rattle.cpn_syntax.proofs.Parses.{all_read, left_over}
 use Rattle.cpn_syntax.proofs.WholeInscriptions.{inscription_read, inscription_halts}
 use Rattle.cpn_syntax.proofs.parsers.whole_inscription.Goals as goal
 

@@ -4,8 +4,8 @@ use Rattle.cpn_lex.specs.Token.{token_view, kind_view}
 use Rattle.cpn_lex.specs.Token as token
 use Rattle.cpn_syntax.specs.OpenPatViews.{opens_view}
 use Rattle.cpn_syntax.specs.Unread.{unread}
-use Rattle.cpn_syntax.proofs.PatLevels.{view_number, view_text}
-use Rattle.cpn_syntax.proofs.PatternMoves.{number_comes, text_comes, end_stops}
+use Rattle.cpn_syntax.proofs.PatternViews.{view_number, view_text}
+use Rattle.cpn_syntax.proofs.PatternSteps.{number_comes, text_comes, end_stops}
 use Rattle.cpn_syntax.proofs.pattern_parser.begin.Goals as goal
 
 pub returns-in_default-clause-stops : goal.returns-in_default-clause-stops

@@ -2,8 +2,8 @@
 use Rattle.std.proofs.Common.{string_bytes}
 use Rattle.cpn_syntax.specs.OpenPatViews.{opens_view}
 use Rattle.cpn_syntax.specs.Unread.{unread}
-use Rattle.cpn_syntax.proofs.PatLevels.{view_name}
-use Rattle.cpn_syntax.proofs.PatternMoves.{name_comes, call_comes}
+use Rattle.cpn_syntax.proofs.PatternViews.{view_name}
+use Rattle.cpn_syntax.proofs.PatternSteps.{name_comes, call_comes}
 use Rattle.cpn_syntax.proofs.pattern_parser.begin_name.Goals as goal
 
 pub returns-then-not-accept-clause-comes : goal.returns-then-not-accept-clause-comes

@@ -2,9 +2,9 @@
 use Rattle.cpn_syntax.specs.OpenPatViews.{opens_view}
 use Rattle.cpn_syntax.specs.Unread.{unread}
 use Rattle.std.proofs.Common.{true, false}
-use Rattle.cpn_syntax.proofs.PatLevels.{view_any, view_truth, view_unit, view_list}
-use Rattle.cpn_syntax.proofs.InvertingPats.{begins_no_part}
-use Rattle.cpn_syntax.proofs.PatternMoves.{underscore_comes, true_comes, false_comes, unit_comes, no_items_come, round_comes, square_comes, sign_stops}
+use Rattle.cpn_syntax.proofs.PatternViews.{view_any, view_truth, view_unit, view_list}
+use Rattle.cpn_syntax.proofs.PatternInversions.{begins_no_part}
+use Rattle.cpn_syntax.proofs.PatternSteps.{underscore_comes, true_comes, false_comes, unit_comes, no_items_come, round_comes, square_comes, sign_stops}
 use Rattle.cpn_syntax.proofs.pattern_parser.begin_sign.Goals as goal
 
 pub returns-in-Underscore-clause-comes : goal.returns-in-Underscore-clause-comes

@@ -2,7 +2,7 @@
 use Rattle.cpn_syntax.specs.OpenPatViews.{opens_view}
 use Rattle.cpn_syntax.specs.PatViews.{pat_view}
 use Rattle.cpn_syntax.specs.Unread.{unread}
-use Rattle.cpn_syntax.proofs.PatternMoves.{cons_comes, comes_from_end, each_comes, each_stops, whole_comes, end_cons_comes}
+use Rattle.cpn_syntax.proofs.PatternSteps.{cons_comes, comes_from_end, each_comes, each_stops, whole_comes, end_cons_comes}
 use Rattle.cpn_syntax.proofs.pattern_parser.go_on.Goals as goal
 
 pub returns-then-accept_cons-clause-comes : goal.returns-then-accept_cons-clause-comes

@@ -3,7 +3,7 @@ use Rattle.std.proofs.lemmas.Result.{err_from_is_err_and}
 use Rattle.cpn_syntax.specs.OpenPatViews.{parts_view, bracket_view, opens_view}
 use Rattle.cpn_syntax.specs.PatViews.{pat_view}
 use Rattle.cpn_syntax.specs.Unread.{unread}
-use Rattle.cpn_syntax.proofs.PatternMoves.{comma_comes, bracket_ends, inside_stops}
+use Rattle.cpn_syntax.proofs.PatternSteps.{comma_comes, bracket_ends, inside_stops}
 use Rattle.cpn_syntax.proofs.pattern_parser.go_on_inside.Goals as goal
 
 pub returns-then-accept-clause-comes : goal.returns-then-accept-clause-comes

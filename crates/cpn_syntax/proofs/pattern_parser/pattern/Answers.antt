@@ -2,7 +2,7 @@
 use Rattle.std.proofs.lemmas.Result.{err_from_is_err_and}
 use Rattle.cpn_syntax.specs.PatViews.{pat_view}
 use Rattle.cpn_syntax.specs.Unread.{unread}
-use Rattle.cpn_syntax.proofs.Progressing.{leads_to_stop}
+use Rattle.cpn_syntax.proofs.Progress.{leads_to_stop}
 use Rattle.cpn_syntax.proofs.PatternEnds.{reads_pattern, whole_stops, breaks_pattern}
 use Rattle.cpn_syntax.proofs.pattern_parser.pattern.Goals as goal
 

@@ -1,6 +1,6 @@
 -- Each turn of the loop leads on from where the ones before it came to.
 use Rattle.std.proofs.lemmas.Result.{err_from_is_err_and}
-use Rattle.cpn_syntax.proofs.Progressing.{leads_on, leads_to_stop}
+use Rattle.cpn_syntax.proofs.Progress.{leads_on, leads_to_stop}
 use Rattle.cpn_syntax.proofs.pattern_parser.whole_pattern.Goals as goal
 
 pub returns-in_err-step-in-Wants-clause-stops : goal.returns-in_err-step-in-Wants-clause-stops

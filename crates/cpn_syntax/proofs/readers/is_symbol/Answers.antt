@@ -1,3 +1,4 @@
+-- Whether the token is the symbol.
 use denote.Enum.Bare.{same_true}
 use Rattle.std.proofs.Common.{ap, sym, ◌∙◌}
 use Rattle.cpn_lex.specs.Token.{kind_view}

@@ -6,7 +6,7 @@ use Rattle.cpn_syntax.specs.PatViews.{pat_view}
 use Rattle.cpn_syntax.specs.OpenPatterns.{round, bracketed}
 use Rattle.cpn_syntax.specs.OpenPatViews.{parts_view}
 use Rattle.cpn_syntax.specs.declared.patterns.Pat.{Pat}
-use Rattle.cpn_syntax.proofs.PatLevels.{view_pat, view_tuple, view_list, view_call}
+use Rattle.cpn_syntax.proofs.PatternViews.{view_pat, view_tuple, view_list, view_call}
 use Rattle.cpn_syntax.proofs.open_patterns.Bracket.around.Goals as goal
 use Rattle.cpn_syntax.proofs.open_patterns.Bracket.around.Goals.{in-Round+else-is_empty+in_ok-with_last-in-Round, in-Square+in_ok-with_last-in-Square, in-Call+in_ok-with_last-in-Call}
 

@@ -1,3 +1,4 @@
+-- Reads the symbol if it is next, and says whether it was.
 use Rattle.std.proofs.Common.{ap}
 use Rattle.cpn_lex.specs.Token.{tokens_view, token_view}
 use Rattle.cpn_syntax.proofs.readers.Reader.accept.Goals as goal

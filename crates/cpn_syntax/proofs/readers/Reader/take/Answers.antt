@@ -1,3 +1,4 @@
+-- Reads the symbol, and gives the offset of its token.
 use Rattle.std.proofs.Common.{ap, refl}
 use Rattle.cpn_lex.specs.Token.{tokens_view, token_view}
 use Rattle.cpn_syntax.proofs.readers.Reader.take.Goals as goal

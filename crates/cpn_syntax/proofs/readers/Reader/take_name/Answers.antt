@@ -1,3 +1,4 @@
+-- Reads a name.
 use Rattle.std.proofs.Common.{ap, sym, ◌∙◌}
 use Rattle.cpn_lex.specs.Token as token
 use Rattle.cpn_lex.specs.Token.{tokens_view, kind_view, token_view}

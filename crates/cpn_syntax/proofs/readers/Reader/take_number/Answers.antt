@@ -1,3 +1,4 @@
+-- Reads a number.
 use Rattle.std.proofs.Common.{rules, ap, ◌∙◌}
 use Rattle.cpn_lex.specs.Token as token
 use Rattle.cpn_lex.specs.Token.{tokens_view, kind_view, token_view}
