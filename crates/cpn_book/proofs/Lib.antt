@@ -1,4 +1,4 @@
 pub mod Soonest
-pub mod RoundDone
-pub mod Starting
-pub mod Finishing
+pub mod ReadyEntries
+pub mod PlayedRounds
+pub mod EndedRuns

@@ -1,7 +1,7 @@
 -- What a book shows.
-use Rattle.cpn_definitions.specs.State.{PlainSetup}
+use Rattle.cpn_runs.specs.State.{PlainSetup}
+use Rattle.cpn_runs.specs.FinishedViews.{setup_view}
 use Rattle.cpn_book.specs.declared.books.Book.{Book}
-use Rattle.cpn_book.specs.Setups.{setup_view}
 
 -- the setup that the book's run starts from
 abbrev pub setup_in : Book → PlainSetup

@@ -1,4 +1,4 @@
-pub mod Setups
 pub mod Progress
 pub mod Playable
 pub mod Books
+pub mod Shown

@@ -1,12 +1,19 @@
 -- Setups that a run of one seat may start from. Source: own choice.
-use Rattle.std.specs.Prelude.{◌≡◌, ◌<◌, ◌≤◌, ◌^◌, true, length}
-use Rattle.cpn_definitions.specs.Sound.{is_sound}
-use Rattle.cpn_definitions.specs.State.{PlainSetup}
+use Rattle.std.specs.Prelude.{◌≡◌, ◌≤◌}
+use Rattle.cpn_definitions.specs.Sound.{IsSound, IsUntimed, IsFaultless, IsMarking}
+use Rattle.cpn_definitions.specs.Times.{last_time}
+use Rattle.cpn_runs.specs.Bounds.{most_steps}
+use Rattle.cpn_runs.specs.State.{PlainSetup}
 
--- A setup that a run of one seat may start from: its net is sound, its marking has an entry for each place,
--- its clock is in range, and it has a seat.
+-- A setup that a run of one seat may start from: its net is sound, and it starts from a marking of the net's places at a
+-- clock in range, with one seat. The net is untimed and faultless: the clock of a run does not move yet, and no claim is
+-- cut.
 pub record IsPlayable (setup : PlainSetup) : Type 0 where
-  pub sound : is_sound setup.net ≡ true
-  pub entries : length setup.start ≡ length setup.net.places
-  pub clock : setup.clock ≤ 2 ^ 62
-  pub seat : 0 < setup.limits.seats
+  pub sound : IsSound setup.net
+  pub untimed : IsUntimed setup.net
+  pub faultless : IsFaultless setup.net
+  pub marking : IsMarking setup.net.places setup.start
+  pub clock : setup.clock ≤ setup.limits.until
+  pub until : setup.limits.until ≤ last_time
+  pub steps : setup.limits.steps ≤ most_steps
+  pub seat : setup.limits.seats ≡ 1

@@ -1,16 +1,21 @@
 //! Books: runs of one seat, from their start to their end.
 
-ghost use Rattle.std.specs.Prelude.{◌≡◌, ◌≤◌, ◌<◌, ◌^◌, true, length, map, IfOk};
-ghost use Rattle.cpn_definitions.specs.Sound.{is_sound, IsMarking};
-ghost use Rattle.cpn_definitions.specs.Run.{IsRun, IsLegalRun, HasOutlook};
-ghost use Rattle.cpn_core.specs.Nets.{net_view};
-ghost use Rattle.cpn_core.specs.Finished.{setup_of, outcome_of, outlook_view};
+ghost use Rattle.std.specs.Prelude.{◌≡◌, map, IfOk};
+ghost use Rattle.cpn_runs.specs.Run.{IsRun};
+ghost use Rattle.cpn_core.specs.Elements.{entry_view};
+ghost use Rattle.cpn_runs.specs.Views.{end_view};
+ghost use Rattle.cpn_runs.specs.FinishedViews.{setup_view, outlook_view, finished_view};
 ghost use Rattle.cpn_book.specs.Playable.{IsPlayable};
-ghost use Rattle.cpn_book.specs.Setups.{setup_view};
+ghost use Rattle.cpn_book.specs.Books.{setup_in};
+ghost use Rattle.cpn_book.specs.Shown.{shown};
 
-use crate::runs::run;
-use crate::setups::Setup;
-use cpn_core::{Finished, Memory};
+use crate::draws::Draws;
+use crate::outlooks::outlook;
+use crate::progresses::Progress;
+use crate::rounds::play_round;
+use cpn_core::{Entry, Memory};
+use cpn_runs::{End, Finished, Outlook, Setup};
+use cpn_search::enabled;
 use std::alloc::Global;
 
 /// A run of one seat.
@@ -20,35 +25,67 @@ use std::alloc::Global;
 pub struct Book {
     alloc: Global,
     setup: Setup,
-    ghost playable: { IsPlayable (setup_view setup) },
 }
 
 impl Book {
-    ghost use Rattle.cpn_book.specs.Books.{setup_in};
-
     /// A book at the start of its run.
     pub fn start(alloc: Global, setup: Setup) -> Result<Book, Memory>
-        requires sound { is_sound (net_view setup.net.value) ≡ true }
-        requires marking { IsMarking (net_view setup.net.value).places setup.start }
-        requires clock { setup.clock ≤ setup.limits.until }
-        requires until { setup.limits.until ≤ 2 ^ 62 }
-        requires steps { setup.limits.steps ≤ 1000000 }
-        requires seats { setup.limits.seats ≡ 1 }
+        requires playable { IsPlayable (setup_view setup) }
         ensures setup { IfOk result (λ book. setup_in book ≡ setup_view setup) }
     {
         Ok(Book { alloc, setup })
     }
 
-    /// The run from its start to its end, each claim being completed before the next.
+    /// The run from its start to its end, each claim being completed before the next is made: until the limit
+    /// of claims is reached or nothing is enabled.
     pub fn run_alone(self) -> Result<Finished, Memory>
-        ensures setup { IfOk result (λ f. setup_of f ≡ setup_in self) }
-        // The journal leads to a state that ends by the cause, and the rest is what that state has.
-        ensures run { IfOk result (λ f. IsRun (setup_in self) (outcome_of f)) }
-        // The occurrences are a legal occurrence sequence from the start to the last marking.
-        ensures legal { IfOk result (λ f. IsLegalRun (setup_in self) (outcome_of f)) }
-        ensures opening { IfOk result (λ f. HasOutlook (setup_in self) (setup_in self).start (setup_in self).clock (outlook_view f.opening)) }
-        ensures closing { IfOk result (λ f. HasOutlook (setup_in self) f.marking f.clock (outlook_view f.closing)) }
+        requires playable { IsPlayable (setup_in self) }
+        ensures setup { IfOk result (λ f. setup_view f.setup ≡ setup_in self) }
+        // The journal leads to a state that ends by the cause, the occurrences are a legal occurrence sequence,
+        // and the rest is what that state has.
+        ensures run { IfOk result (λ f. IsRun (setup_in self) (finished_view f)) }
     {
-        run(self.alloc, self.setup)
+        let Book { alloc, setup } = self;
+        let mut progress = Progress {
+            marking: setup.start.copy()?,
+            occurrences: Vec::new(alloc),
+            journal: Vec::new(alloc),
+            draws: Draws::new(setup.seed),
+        };
+        let mut entries = enabled(alloc, &setup.net, &progress.marking, setup.clock)?;
+        let opening = outlook(&entries, setup.clock);
+        'rounds: for _number in 0..setup.limits.steps {
+            if entries.is_empty() {
+                return Ok(finished(setup, progress, opening, &entries, End::Dead));
+            }
+            play_round(alloc, &setup, &entries, &mut progress)?;
+            entries = enabled(alloc, &setup.net, &progress.marking, setup.clock)?;
+        }
+        Ok(finished(setup, progress, opening, &entries, End::Steps))
+    }
+}
+
+/// The run that has ended, with what is enabled at its end.
+fn finished(
+    setup: Setup,
+    progress: Progress,
+    opening: Outlook,
+    entries: &[Entry],
+    cause: End,
+) -> Finished
+    ensures setup { setup_view result.setup ≡ setup_view setup }
+    ensures shown { finished_view result ≡ shown (setup_view setup) progress (outlook_view opening) (map entry_view entries.now) (end_view cause) }
+{
+    let closing = outlook(entries, setup.clock);
+    let clock = setup.clock;
+    Finished {
+        setup,
+        opening,
+        journal: progress.journal,
+        occurrences: progress.occurrences,
+        marking: progress.marking,
+        clock,
+        cause,
+        closing,
     }
 }

@@ -1,7 +1,7 @@
 //! The draws of a run's claims.
 
 ghost use Rattle.std.specs.Prelude.{◌≡◌, ℕ, ◌+◌, ◌<◌, ◌%◌};
-ghost use Rattle.cpn_definitions.specs.Draw.{generator, word};
+ghost use Rattle.cpn_runs.specs.Draw.{generator, word};
 
 use rand_core::SeedableRng;
 use rand_core::utils::NextWord;
@@ -15,7 +15,7 @@ pub struct Draws {
 
 impl Draws {
     /// The draws of a seed, before its word 0.
-    #[tactic(auto, unfolding(cpn_definitions::specs::Draw::generator))]
+    #[tactic(auto, unfolding(cpn_runs::specs::Draw::generator))]
     pub fn new(seed: u64) -> Draws
         ensures { result.generator ≡ generator seed 0 }
     {
@@ -25,7 +25,7 @@ impl Draws {
     }
 
     /// The next word modulo `n`.
-    #[tactic(auto, unfolding(cpn_definitions::specs::Draw::generator, cpn_definitions::specs::Draw::word))]
+    #[tactic(auto, unfolding(cpn_runs::specs::Draw::generator, cpn_runs::specs::Draw::word))]
     pub fn pick(&mut self, n: u64) -> u64
         requires { 0 < n }
         ensures drawn { (seed k : ℕ) → self.old.generator ≡ generator seed k → result ≡ word seed k % n }

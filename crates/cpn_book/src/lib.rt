@@ -6,11 +6,8 @@
 
 mod books;
 mod draws;
-mod moves;
 mod outlooks;
 mod progresses;
-mod runs;
-mod setups;
+mod rounds;
 
 pub use books::Book;
-pub use setups::Setup;

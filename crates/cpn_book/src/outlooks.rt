@@ -2,14 +2,16 @@
 
 ghost use Rattle.std.specs.Prelude.{◌≡◌, Some, length, map};
 ghost use Rattle.cpn_definitions.specs.Enabled.{ready, next_time, or_sooner};
-ghost use Rattle.cpn_core.specs.Occurrences.{entry_view};
+ghost use Rattle.cpn_core.specs.Elements.{entry_view};
+ghost use Rattle.cpn_runs.specs.FinishedViews.{outlook_view};
+ghost use Rattle.cpn_book.specs.Shown.{outlook_at};
 
-use cpn_core::{Entry, Outlook};
+use cpn_core::Entry;
+use cpn_runs::Outlook;
 
 /// The number of the ready entries, and the next time.
 pub fn outlook(entries: &[Entry], clock: u64) -> Outlook
-    ensures ready { result.ready ≡ length (ready clock (map entry_view entries.now)) }
-    ensures next { result.next ≡ next_time (map entry_view entries.now) }
+    ensures outlook { outlook_view result ≡ outlook_at clock (map entry_view entries.now) }
 {
     Outlook {
         ready: ready_count(entries, clock),
@@ -17,7 +19,8 @@ pub fn outlook(entries: &[Entry], clock: u64) -> Outlook
     }
 }
 
-fn ready_count(entries: &[Entry], clock: u64) -> u64
+/// How many entries are ready.
+pub fn ready_count(entries: &[Entry], clock: u64) -> u64
     ensures { result ≡ length (ready clock (map entry_view entries.now)) }
 {
     let mut count = 0u64;

@@ -3,3 +3,10 @@ pub mod Items
 pub mod Shapes
 pub mod Placing
 pub mod Taking
+pub mod TokenPlaces
+pub mod InsertPlaces
+pub mod Thresholds
+pub mod Earliest
+pub mod Ranks
+pub mod StampRanks
+pub mod NeedPlaces

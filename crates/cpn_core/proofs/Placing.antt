@@ -1,13 +1,16 @@
--- Tokens of a place that are found by comparing, added, taken and counted, seen as plain tokens.
-use Rattle.std.proofs.Common.{◌≡◌, ℕ, zero, suc, ◌+◌, ◌-◌, ◌<◌, ◌≤◌, Bool, true, false, List, [], ◌∷◌, ◌++◌, length, get_or, take, drop, insert, remove, count_by, sym, ap, ap₂, subst, ◌∙◌, arith, is_gt}
-use Rattle.std.specs.List.{AllWithin}
+-- Tokens of a place that are found by comparing, added and taken, seen as plain tokens.
+use Rattle.std.proofs.Common.{◌≡◌, ℕ, zero, suc, ◌+◌, ◌-◌, ◌<◌, ◌≤◌, Bool, true, false, List, [], ◌∷◌, ◌++◌, length, get_or, take, drop, insert, remove, sym, ap, ap₂, subst, ◌∙◌, arith, is_gt}
+use Rattle.std.specs.List.{AllByRecursion}
 use Rattle.std.specs.List.Sorted.{IsPartitionPoint, IsPartitionedBy}
 use Rattle.std.proofs.lemmas.List.{map-append, length-map, take-map, drop-map, get_or-map}
+use Rattle.std.proofs.lemmas.Cmp.{upto}
 use Rattle.cpn_definitions.specs.Value.{PlainValue}
+use Rattle.cpn_definitions.specs.Lists.{IsInOrder}
 use Rattle.cpn_definitions.specs.Order.{value_cmp, same_value}
-use Rattle.cpn_definitions.specs.Marking.{PlainToken, token_at, token_cmp, add_token, without_token, is_taken_by, AreSorted, Precedes, DoesNotPrecede, IsPlaceOf}
-use Rattle.cpn_definitions.proofs.Comparing.{value_not_above}
-use Rattle.cpn_definitions.proofs.Searching.{IsStartOf, sorted_places, precedes_none_until, precedes_from, added_at, taken_here, other_here, none_here, start_first, counted_between}
+use Rattle.cpn_definitions.specs.Marking.{PlainToken, Tokens, MayPrecede, token_at, token_cmp, add_token, without_token, AreSorted}
+use Rattle.cpn_core.specs.Positions.{IsPlaceOf}
+use Rattle.cpn_definitions.specs.ValueOrder.{token_cmp_total, value_not_above}
+use Rattle.cpn_core.proofs.TokenPlaces.{sorted_places, added_at, taken_here, other_here, none_here}
 use Rattle.cpn_core.specs.declared.places.Token.{Token}
 use Rattle.cpn_core.specs.Views.{value_view}
 use Rattle.cpn_core.specs.Tokens.{token_view, tokens_view}
@@ -35,11 +38,18 @@ view_remove ks i = map-append token_view (take i ks) (drop (suc i) ks) ∙ ap₂
 
 -- ---- searching
 
-pub none_until : (t : PlainToken) (ks : List Token) (m : ℕ) (k : Token) → AreSorted (tokens_view ks) → m < length ks → k ≡ get_or ks m k → DoesNotPrecede t (token_view k) → AllWithin (DoesNotPrecede t) (tokens_view ks) 0 (m + 1)
-none_until t ks m k sorted lt e h = precedes_none_until t (tokens_view ks) m (token_view k) sorted (within ks m lt) (entry ks m k lt e) h
+-- sorted tokens are in order
+pub sorted_in_order : (ks : Tokens) → AreSorted ks → IsInOrder token_cmp ks
+sorted_in_order [] sorted = tt
+sorted_in_order (k ∷ ks) sorted = (none_before k ks sorted.0 sorted.1, sorted_in_order ks sorted.1)
+  where
+    further : (k l : PlainToken) (ms : Tokens) → is_gt (token_cmp k l) ≡ false → MayPrecede l ms → MayPrecede k ms
+    further k l [] h before = tt
+    further k l (m ∷ ms) h before = upto token_cmp_total k l m h before
 
-pub each_from : (t : PlainToken) (ks : List Token) (m : ℕ) (k : Token) → AreSorted (tokens_view ks) → m < length ks → k ≡ get_or ks m k → Precedes t (token_view k) → AllWithin (Precedes t) (tokens_view ks) m (length (tokens_view ks))
-each_from t ks m k sorted lt e h = precedes_from t (tokens_view ks) m (token_view k) sorted (within ks m lt) (entry ks m k lt e) h
+    none_before : (k : PlainToken) (ls : Tokens) → MayPrecede k ls → AreSorted ls → AllByRecursion (λ l. is_gt (token_cmp k l) ≡ false) ls
+    none_before k [] before sorted = tt
+    none_before k (l ∷ ls) before sorted = (before, none_before k ls (further k l ls before sorted.0) sorted.1)
 
 -- ---- dividing by a test of values
 
@@ -96,11 +106,3 @@ module _ (v : PlainValue) (t : ℕ) (ks : List Token) where
 
   pub none_is_before : (place : ℕ) → place ≡ 0 → IsPlaceOf (token_at v t) (tokens_view ks) place → without_token v t (tokens_view ks) ≡ tokens_view ks
   none_is_before place e found = none_here v t (tokens_view ks) (subst (IsPlaceOf (token_at v t) (tokens_view ks)) e found)
-
-  -- ---- counting
-
-  pub starts_ahead : (first place : ℕ) → first ≤ length ks → IsStartOf v (tokens_view ks) first → IsPlaceOf (token_at v t) (tokens_view ks) place → first ≤ place
-  starts_ahead first place short start found = start_first v t (tokens_view ks) first place (up_to ks first short) start found
-
-  pub counted : (first place : ℕ) → first ≤ length ks → place ≤ length ks → IsStartOf v (tokens_view ks) first → IsPlaceOf (token_at v t) (tokens_view ks) place → place - first ≡ count_by (is_taken_by v t) (tokens_view ks)
-  counted first place short within start found = counted_between v t (tokens_view ks) first place (up_to ks first short) start found (up_to ks place within)

@@ -4,6 +4,12 @@ pub mod Colours
 pub mod Pairs
 pub mod BindingCode
 pub mod Nets
-pub mod Occurrences
+pub mod Elements
 pub mod Tokens
-pub mod Finished
+pub mod Code
+pub mod Positions
+pub mod Faults
+pub mod InsertPlaces
+pub mod NeedsViews
+pub mod OutputsViews
+pub mod NeedPositions

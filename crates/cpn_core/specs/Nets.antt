@@ -1,10 +1,13 @@
 -- The plain nets that the nets of the program stand for.
-use Rattle.std.specs.Prelude.{List, map, string_bytes}
+use Rattle.std.specs.Prelude.{ℕ, List, map, string_bytes, String, Vec}
 use Rattle.std.specs.Option.{option_map}
-use Rattle.cpn_definitions.specs.Net.{PlainExpr, literal, variable, ArcInscription, one, PlainPattern, literal_pattern, variable_pattern, PlainArc, PlainTransition, Coloured, PlainNet}
+use Rattle.std.specs.declared.alloc.Global.{Global}
+use Rattle.cpn_definitions.specs.Net.{PlainExpr, literal, variable, PlainFunction, Functions, ArcInscription, one, PlainPattern, literal_pattern, variable_pattern, PlainArc, PlainTransition, Coloured, PlainNet}
 use Rattle.cpn_definitions.specs.Net as plain
 use Rattle.cpn_core.specs.declared.nets.Expr.{Expr}
 use Rattle.cpn_core.specs.declared.nets.Expr.TheVariants as exprs
+use Rattle.cpn_core.specs.declared.nets.Function.{Function}
+use Rattle.cpn_core.specs.declared.nets.Funs.{Funs}
 use Rattle.cpn_core.specs.declared.nets.MExpr.{MExpr}
 use Rattle.cpn_core.specs.declared.nets.MExpr.TheVariants as multisets
 use Rattle.cpn_core.specs.declared.nets.Pat.{Pat}
@@ -21,6 +24,12 @@ use Rattle.cpn_core.specs.Colours.{colour_view}
 abbrev pub expr_view : Expr → PlainExpr
 expr_view (exprs.Lit v) = literal (value_view v)
 expr_view (exprs.Var x) = variable x
+
+abbrev pub function_view : Function → PlainFunction
+function_view f = record { parameters = f.parameters; body = expr_view f.body }
+
+abbrev pub funs_view : Funs → Functions
+funs_view funs = map function_view funs.functions.items
 
 abbrev pub multiset_view : MExpr → ArcInscription
 multiset_view (multisets.One e) = one (expr_view e)
@@ -44,8 +53,12 @@ place_view place = record { name = string_bytes place.name; colour = colour_view
 abbrev pub variable_view : Variable → Coloured
 variable_view x = record { name = string_bytes x.name; colour = colour_view x.colour }
 
+-- the names of a list of lists of names
+abbrev pub names_view : List (Vec (String Global) Global) → List (List (List ℕ))
+names_view lists = map (λ names. map string_bytes names.items) lists
+
 abbrev pub net_view : Net → PlainNet
-net_view n = record { places = map place_view n.places.items; transitions = map transition_view n.transitions.items; variables = map variable_view n.variables.items }
+net_view n = record { places = map place_view n.places.items; transitions = map transition_view n.transitions.items; variables = map variable_view n.variables.items; constants = names_view n.constants.items; constructors = names_view n.constructors.items; functions = funs_view n.funs.value }
 
 abbrev pub arcs_view : List PlaceArc → List PlainArc
 arcs_view arcs = map arc_view arcs

@@ -5,7 +5,7 @@ use Rattle.std.specs.Ordering.{is_eq, as_partial_cmp}
 use Rattle.std.specs.Cmp.{IsTotalOrder, IsEquivalence, IsPartialEquivalence, IsPartialOrder, partial_equiv_from_equiv, partial_order_from_total}
 use Rattle.std.proofs.lemmas.Cmp.{on_total, eq_by_cmp_equiv}
 use Rattle.cpn_definitions.specs.Order.{value_cmp}
-use Rattle.cpn_definitions.proofs.Comparing.{value_cmp_total}
+use Rattle.cpn_definitions.specs.ValueOrder.{value_cmp_total}
 use Rattle.cpn_core.specs.declared.values.Value.{Value}
 use Rattle.cpn_core.specs.Views.{value_view}
 

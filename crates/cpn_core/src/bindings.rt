@@ -4,8 +4,8 @@ ghost use Rattle.std.specs.Prelude.{◌≡◌, [], ◌∷◌, ◌++◌, IfOk, If
 ghost use Rattle.cpn_definitions.specs.Meaning.{bound_value};
 ghost use Rattle.cpn_core.specs.Views.{value_view};
 
-use crate::memory_wanted::Memory;
 use crate::values::Value;
+use cpn_memory::Memory;
 use smallvec::SmallVec;
 use std::alloc::Global;
 use std::marker::Model;

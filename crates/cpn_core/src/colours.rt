@@ -5,8 +5,8 @@ ghost use Rattle.cpn_definitions.specs.Colour.{PlainShape, union_shape, is_print
 ghost use Rattle.cpn_core.specs.Views.{value_view, values_view, constructor_view};
 ghost use Rattle.cpn_core.specs.Colours.{shape_view, shapes_view, constructors_view, colour_view};
 
-use crate::memory_wanted::Memory;
 use crate::values::{Value, Values};
+use cpn_memory::Memory;
 
 /// The shape of the values of a colour set. Source: the colour sets of CPN ML, Jensen and Kristensen,
 /// chapter 3.
@@ -223,7 +223,7 @@ fn copy_constructors(constructors: &Vec<Option<Shape>>) -> Result<Vec<Option<Sha
 #[cfg(test)]
 mod tests {
     use super::*;
-    use crate::texts::Text;
+    use cpn_memory::Text;
     use std::alloc::Global;
     use std::test::Fail;
 

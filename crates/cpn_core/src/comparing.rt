@@ -162,9 +162,8 @@ fn compare_each(left: &Values, right: &Values) -> Ordering
 
 #[cfg(test)]
 mod tests {
-    use crate::memory_wanted::Memory;
-    use crate::texts::Text;
     use crate::values::Value;
+    use cpn_memory::{Memory, Text};
     use std::alloc::Global;
     use std::test::Fail;
 

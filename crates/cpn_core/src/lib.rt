@@ -1,33 +1,37 @@
-//! The data of nets and runs: values with their order, colour sets with the values that they admit, texts,
-//! markings as sorted tokens with time stamps, nets with their inscriptions, bindings, events and
-//! occurrences. Each stands for the plain data of the definitions, and its calls answer exactly what the
-//! definitions say. The crate evaluates no inscription, knows nothing of what is enabled, and reads and
-//! writes nothing outside the program.
+//! The data of nets: values with their order, colour sets with the values that they admit, markings as sorted
+//! tokens with time stamps, nets with their inscriptions, bindings, and the tokens that a binding element
+//! needs and makes. Each stands for the plain data of the definitions, and its calls answer exactly what the
+//! definitions say. `Memory` and `Text` of `cpn_memory` are passed on. The crate evaluates no inscription,
+//! knows nothing of what is enabled, and reads and writes nothing outside the program.
 #![tactic(auto)]
 
 mod bindings;
 mod colours;
 mod comparing;
-mod events;
+mod entries;
+mod exchanges;
+mod faults;
 mod markings;
-mod memory_wanted;
+mod needed;
+mod needs;
 mod nets;
-mod occurrences;
+mod outputs;
 mod places;
-mod runs;
-mod texts;
+mod stamps;
 mod values;
 
 pub use bindings::{Binding, Element, Pair};
 pub use colours::{Colour, Shape};
-pub use events::{End, Event, Limits};
+pub use cpn_memory::{Memory, Text};
+pub use entries::{Entry, Found, FoundBinding};
+pub use faults::EvalFault;
 pub use markings::PlainMarking;
-pub use memory_wanted::Memory;
+pub use needed::Needed;
+pub use needs::Needs;
 pub use nets::{
-    ArcExpr, BindingTerm, Expr, Guard, MExpr, Net, Pat, Place, PlaceArc, Transition, Variable,
+    ArcExpr, BindingTerm, Expr, Function, Funs, Guard, MExpr, Net, Pat, Place, PlaceArc,
+    Transition, Variable,
 };
-pub use occurrences::{Entry, Found, FoundBinding, Occurrence};
+pub use outputs::{Made, Outputs};
 pub use places::Token;
-pub use runs::{Finished, Outlook};
-pub use texts::Text;
 pub use values::{Value, Values, copy_values};

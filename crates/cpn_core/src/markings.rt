@@ -1,12 +1,12 @@
 // Markings: the tokens of each place of a net.
-ghost use Rattle.std.specs.Prelude.{◌≡◌, ◌<◌, [], length, replicate, count_by, slice_index_or, slice_set, ◌↔◌, IsSome, IfSome, IfOk, OnOk, OnErr};
-ghost use Rattle.cpn_definitions.specs.Marking.{token_at, add_token, without_token, is_taken_by, AreSorted, stamps, without_latest};
+ghost use Rattle.std.specs.Prelude.{◌≡◌, ◌<◌, [], length, replicate, ◌↔◌, IsSome, IfSome, IfOk, OnOk, OnErr};
+ghost use Rattle.cpn_definitions.specs.Marking.{token_at, tokens_at, on_place, add_token, without_token, AreSorted, stamps, without_latest};
 ghost use Rattle.cpn_core.specs.Views.{value_view};
 ghost use Rattle.cpn_core.specs.Tokens.{tokens_view};
 
-use crate::memory_wanted::Memory;
 use crate::places::{Place, Token};
 use crate::values::Value;
+use cpn_memory::Memory;
 use std::alloc::Global;
 use std::marker::Model;
 
@@ -20,7 +20,7 @@ pub struct PlainMarking {
 
 impl Model for PlainMarking {
     ghost use Rattle.cpn_definitions.specs.Marking.{Marking};
-    ghost use Rattle.cpn_definitions.specs.Code.{marking_code};
+    ghost use Rattle.cpn_core.specs.Code.{marking_code};
 
     ghost Value = { Marking };
 
@@ -52,8 +52,8 @@ impl PlainMarking {
     /// The tokens of a place, in order.
     pub fn tokens(&self, place: u32) -> &[Token]
         requires in_range { place < length self.now }
-        ensures items { tokens_view result.now ≡ slice_index_or self.now place [] }
-        ensures sorted { AreSorted (slice_index_or self.now place []) }
+        ensures items { tokens_view result.now ≡ tokens_at self.now place }
+        ensures sorted { AreSorted (tokens_at self.now place) }
     {
         let held = &self.places[place as usize];
         held.tokens()
@@ -62,7 +62,7 @@ impl PlainMarking {
     /// The tokens of the place at a position, in order; `None` past the last place.
     pub fn get(&self, position: usize) -> Option<&[Token]>
         ensures present { IsSome result ↔ (position < length self.now) }
-        ensures items { IfSome result (λ tokens. tokens_view tokens.now ≡ slice_index_or self.now position []) }
+        ensures items { IfSome result (λ tokens. tokens_view tokens.now ≡ tokens_at self.now position) }
     {
         match self.places.get(position) {
             Some(held) => Some(held.tokens()),
@@ -73,7 +73,7 @@ impl PlainMarking {
     /// Adds a token of the value with the time stamp to a place. After `Memory` the marking is as it was.
     pub fn add(&mut self, place: u32, value: Value, stamp: u64) -> Result<(), Memory>
         requires in_range { place < length self.old }
-        ensures added { OnOk result (self.new ≡ slice_set self.old place (add_token (token_at (value_view value) stamp) (slice_index_or self.old place []))) }
+        ensures added { OnOk result (self.new ≡ on_place place (add_token (token_at (value_view value) stamp)) self.old) }
         ensures unchanged { OnErr result (self.new ≡ self.old) }
         ensures places { length self.new ≡ length self.old }
     {
@@ -85,24 +85,13 @@ impl PlainMarking {
     /// none the marking stays as it is. It takes no memory.
     pub fn take(&mut self, place: u32, value: &Value, latest: u64)
         requires in_range { place < length self.old }
-        ensures taken { self.new ≡ slice_set self.old place (without_token (value_view value.now) latest (slice_index_or self.old place [])) }
+        ensures taken { self.new ≡ on_place place (without_token (value_view value.now) latest) self.old }
         // The timed subtraction: the value's stamps there lose their largest one that is not above `latest`.
-        ensures stamps { stamps (value_view value.now) (slice_index_or self.new place []) ≡ without_latest latest (stamps (value_view value.now) (slice_index_or self.old place [])) }
+        ensures stamps { stamps (value_view value.now) (tokens_at self.new place) ≡ without_latest latest (stamps (value_view value.now) (tokens_at self.old place)) }
         ensures places { length self.new ≡ length self.old }
     {
         let held = &mut self.places[place as usize];
         held.take(value, latest);
-    }
-
-    /// How many tokens of the value in a place have a stamp that is not above `latest`: as often as that
-    /// the value can be taken there at that threshold.
-    pub fn count(&self, place: u32, value: &Value, latest: u64) -> usize
-        requires in_range { place < length self.now }
-        ensures number { result ≡ count_by (is_taken_by (value_view value.now) latest) (slice_index_or self.now place []) }
-        ensures sorted { AreSorted (slice_index_or self.now place []) }
-    {
-        let held = &self.places[place as usize];
-        held.count(value, latest)
     }
 
     /// A marking of its own with the same tokens.
@@ -131,9 +120,6 @@ mod tests {
         marking.add(1, Value::Int(6), 9)?;
         let copy = marking.copy()?;
         assert_eq!(rt; marking.len(), 2);
-        for (latest, count) in [(0, 0), (1, 1), (3, 1), (4, 2)] {
-            assert_eq!(rt; marking.count(1, &Value::Int(7), latest), count);
-        }
         marking.take(1, &Value::Int(7), 0);
         marking.take(1, &Value::Int(7), 4);
         let mut left = Vec::new(rt.alloc());

@@ -2,6 +2,7 @@
 
 use crate::colours::Colour;
 use crate::values::Value;
+use std::sync::Arc;
 
 /// An inscription.
 ///
@@ -12,6 +13,22 @@ pub enum Expr {
     Lit(Value),
     /// The variable of a number, which means the value that it is bound to.
     Var(u32),
+}
+
+/// A function that inscriptions may call.
+#[derive(Drop)]
+pub struct Function {
+    /// How many parameters it has.
+    pub parameters: u32,
+    /// Its body.
+    pub body: Expr,
+}
+
+/// The functions of a net; a function's number is its position.
+#[derive(Drop)]
+pub struct Funs {
+    /// The functions, in the order of their declarations.
+    pub functions: Vec<Function>,
 }
 
 /// An inscription of an arc, whose value is a multiset of tokens.
@@ -112,4 +129,10 @@ pub struct Net {
     pub transitions: Vec<Transition>,
     /// The variables in the order of their declarations; a variable's number is its position.
     pub variables: Vec<Variable>,
+    /// The names of the constants of each enumeration, by its number.
+    pub constants: Vec<Vec<String>>,
+    /// The names of the constructors of each union, by its number.
+    pub constructors: Vec<Vec<String>>,
+    /// The functions that inscriptions may call.
+    pub funs: Arc<Funs>,
 }

@@ -1,15 +1,16 @@
 // The tokens of one place, sorted by value and then by time stamp.
-ghost use Rattle.std.specs.Prelude.{◌≡◌, ◌+◌, ◌<◌, ◌≤◌, List, [], length, count_by, map, MatchOption, IfOk, OnOk, OnErr};
+ghost use Rattle.std.specs.Prelude.{◌≡◌, ◌+◌, ◌<◌, ◌≤◌, List, [], length, map, MatchOption, IfOk, OnOk, OnErr};
 ghost use Rattle.std.specs.List.{remove};
 ghost use Rattle.std.specs.Ordering.{is_lt};
 ghost use Rattle.cpn_definitions.specs.Order.{same_value, before};
-ghost use Rattle.cpn_definitions.specs.Marking.{token_at, token_cmp, add_token, without_token, is_taken_by, AreSorted, IsPlaceOf};
-ghost use Rattle.cpn_definitions.proofs.Searching.{IsStartOf};
+ghost use Rattle.cpn_definitions.specs.Marking.{token_at, token_cmp, add_token, without_token, AreSorted};
+ghost use Rattle.cpn_core.specs.Positions.{IsPlaceOf};
+ghost use Rattle.cpn_core.specs.Positions.{IsStartOf};
 ghost use Rattle.cpn_core.specs.Views.{value_view};
 ghost use Rattle.cpn_core.specs.Tokens.{token_view, tokens_view};
 
-use crate::memory_wanted::Memory;
 use crate::values::Value;
+use cpn_memory::Memory;
 use std::alloc::Global;
 use std::cmp::Ordering;
 use std::marker::Model;
@@ -31,7 +32,7 @@ pub struct Place {
 
 impl Model for Place {
     ghost use Rattle.cpn_definitions.specs.Marking.{Tokens, AreSorted};
-    ghost use Rattle.cpn_definitions.specs.Code.{tokens_code};
+    ghost use Rattle.cpn_core.specs.Code.{tokens_code};
 
     ghost Value = { Tokens };
 
@@ -82,14 +83,6 @@ impl Place {
         }
     }
 
-    // How many tokens of the value have a stamp that is not above `latest`.
-    pub fn count(&self, value: &Value, latest: u64) -> usize
-        ensures number { result ≡ count_by (is_taken_by (value_view value.now) latest) self.now }
-        ensures sorted { AreSorted self.now }
-    {
-        count_to_take(self.tokens.as_slice(), value, latest)
-    }
-
     // A place of its own with the same tokens.
     pub fn copy(&self) -> Result<Place, Memory>
         ensures same { IfOk result (λ place. place ≡ self.now) }
@@ -108,7 +101,7 @@ fn comes_before(value: &Value, stamp: u64, other: &Token) -> bool
 }
 
 // Whether the token has the value.
-fn has_value(token: &Token, value: &Value) -> bool
+pub fn has_value(token: &Token, value: &Value) -> bool
     ensures { result ≡ same_value (value_view value.now) (value_view token.now.value) }
 {
     *value == token.value
@@ -120,17 +113,7 @@ fn place_for(tokens: &[Token], value: &Value, stamp: u64) -> usize
     ensures within { result ≤ length tokens.now }
     ensures place { IsPlaceOf (token_at (value_view value.now) stamp) (tokens_view tokens.now) result }
 {
-    let mut low = 0;
-    let mut high = tokens.len();
-    while low < high {
-        let middle = low + (high - low) / 2;
-        if comes_before(value, stamp, &tokens[middle]) {
-            high = middle;
-        } else {
-            low = middle + 1;
-        }
-    }
-    low
+    tokens.partition_point(|token| !comes_before(value, stamp, token))
 }
 
 // Where the token stands that is to be taken: the latest of the value whose stamp is not above `latest`.
@@ -159,22 +142,12 @@ fn is_below(token: &Token, value: &Value) -> bool
 }
 
 // Where the tokens of the value begin among sorted tokens, after those of each value before it.
-fn start_of_value(tokens: &[Token], value: &Value) -> usize
+pub fn start_of_value(tokens: &[Token], value: &Value) -> usize
     requires sorted { AreSorted (tokens_view tokens.now) }
     ensures within { result ≤ length tokens.now }
     ensures start { IsStartOf (value_view value.now) (tokens_view tokens.now) result }
 {
     tokens.partition_point(|token| is_below(token, value))
-}
-
-// How many tokens of the value have a stamp that is not above `latest`: those from its first token to its place.
-fn count_to_take(tokens: &[Token], value: &Value, latest: u64) -> usize
-    requires sorted { AreSorted (tokens_view tokens.now) }
-    ensures number { result ≡ count_by (is_taken_by (value_view value.now) latest) (tokens_view tokens.now) }
-{
-    let first = start_of_value(tokens, value);
-    let place = place_for(tokens, value, latest);
-    place - first
 }
 
 fn copy_tokens(tokens: &Vec<Token>) -> Result<Vec<Token>, Memory>

@@ -3,8 +3,7 @@ ghost use Rattle.std.specs.Prelude.{◌≡◌, ◌+◌, ◌-◌, ◌^◌, min, I
 ghost use Rattle.cpn_definitions.specs.Value.{nodes_of, nodes_of_all};
 ghost use Rattle.cpn_core.specs.Views.{value_view, values_view};
 
-use crate::memory_wanted::Memory;
-use crate::texts::Text;
+use cpn_memory::{Memory, Text};
 
 /// Several values, one after another: the items of a tuple or of a list.
 pub type Values = Vec<Value>;

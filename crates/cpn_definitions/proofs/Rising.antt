@@ -2,16 +2,12 @@
 use Rattle.std.proofs.Common.{◌≡◌, ℕ, zero, suc, ◌<◌, ◌⊎◌, Bool, true, false, cond, ◌||◌, List, [], ◌∷◌, ◌++◌, map, length, slice_index_or, refl, sym, ap, ◌∙◌, subst, inl, inr, ⊎_elim, arith, Contains, Ordering, Less}
 use Rattle.std.specs.List.{filter, flat_map, list_all, list_any, AllByRecursion}
 use Rattle.std.proofs.lemmas.Bool.{cond_both, and_parts}
+use Rattle.cpn_definitions.specs.Lists.{Rises}
 
 -- x is in the list, by recursion on the list
 abbrev pub IsIn : {X : Type 0} → X → List X → Type 0
 IsIn x [] = ⊥
 IsIn x (y ∷ ys) = (y ≡ x) ⊎ IsIn x ys
-
--- each of the list comes before all that follow
-abbrev pub Rises : {X : Type 0} → (X → X → Ordering) → List X → Type 0
-Rises c [] = Unit {0}
-Rises c (x ∷ xs) = AllByRecursion (λ y. c x y ≡ Less) xs × Rises c xs
 
 -- each of the first list comes before each of the second
 abbrev pub AllBefore : {X : Type 0} → (X → X → Ordering) → List X → List X → Type 0

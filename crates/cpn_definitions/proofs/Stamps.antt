@@ -11,7 +11,7 @@ use Rattle.std.proofs.lemmas.List.Sums.{sum_by-cons}
 use Rattle.cpn_definitions.specs.Value.{PlainValue}
 use Rattle.cpn_definitions.specs.Order.{value_cmp, same_value}
 use Rattle.cpn_definitions.specs.Marking.{PlainToken, Tokens, token_cmp, add_token, without_token, without_latest, begins_by, covers, stamps, is_taken_by, MayPrecede, AreSorted}
-use Rattle.cpn_definitions.proofs.Comparing.{token_cmp_total, value_itself, same_value_true, same_value_refl}
+use Rattle.cpn_definitions.specs.ValueOrder.{token_cmp_total, value_itself, same_value_true, same_value_refl}
 
 -- ---- stamps in rising order
 

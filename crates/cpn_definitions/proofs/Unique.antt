@@ -1,4 +1,4 @@
--- There is one list of enabled elements, and with one seat one journal that has an end.
+-- Enabled has one list for a net, a marking and a clock; and two rising lists of the same items are the same.
 use Rattle.std.proofs.Common.{◌≡◌, ℕ, ◌⊎◌, List, [], ◌∷◌, map, refl, sym, ap, ◌∙◌, subst, inl, inr, Ordering, Less, Greater}
 use Rattle.std.specs.List.{AllByRecursion}
 use Rattle.std.specs.Ordering.{ordering_reverse}
@@ -6,11 +6,12 @@ use Rattle.std.specs.Cmp.{IsTotalOrder}
 use Rattle.std.proofs.lemmas.Cmp.{lists_total, on_total, nat_cmp_total, then_total}
 use Rattle.std.proofs.Math.Path.{ap₂}
 use Rattle.cpn_definitions.specs.Value.{PlainValue}
-use Rattle.cpn_definitions.proofs.Comparing.{value_cmp_total}
+use Rattle.cpn_definitions.specs.ValueOrder.{value_cmp_total}
+use Rattle.cpn_definitions.specs.Lists.{Rises}
 use Rattle.cpn_definitions.specs.Marking.{Marking}
 use Rattle.cpn_definitions.specs.Net.{PlainNet}
-use Rattle.cpn_definitions.specs.Enabled.{PlainEntry, element_cmp, IsIncreasing, Enabled}
-use Rattle.cpn_definitions.proofs.Rising.{IsIn, Rises, in_from_contains, contains_from_in}
+use Rattle.cpn_definitions.specs.Enabled.{PlainEntry, entry_cmp, Enabled}
+use Rattle.cpn_definitions.proofs.Rising.{IsIn, in_from_contains, contains_from_in}
 
 -- in a total order no two come before each other
 asymmetric : {X : Type 0} (c : X → X → Ordering) → IsTotalOrder c → (x y : X) → c x y ≡ Less → c y x ≡ Less → ⊥
@@ -47,18 +48,10 @@ rising_is_unique c total (x ∷ xs) (y ∷ ys) rx ry to from =
     let same : x ≡ y = same_first c total x y xs ys rx.0 ry.0 (to x (inl refl)) (from y (inl refl)) in
     ap₂ (λ z zs. z ∷ zs) same (rising_is_unique c total xs ys rx.1 ry.1 (λ z in'. in_rest c total x y z xs ys same rx.0 in' (to z (inr in'))) (λ z in'. in_rest c total y x z ys xs (sym same) ry.0 in' (from z (inr in'))))
 
--- how two entries compare, by their elements
-abbrev pub entry_cmp : PlainEntry → PlainEntry → Ordering
-entry_cmp x y = element_cmp x.element y.element
-
-entry_cmp_total : IsTotalOrder entry_cmp
+pub entry_cmp_total : IsTotalOrder entry_cmp
 entry_cmp_total = then_total (on_total (λ (x : PlainEntry). x.element.transition) nat_cmp_total) (on_total (λ (x : PlainEntry). map (λ (pair : ℕ × PlainValue). pair.1) x.element.binding) (lists_total value_cmp_total))
-
-increasing_rises : (entries : List PlainEntry) → IsIncreasing entries → Rises entry_cmp entries
-increasing_rises [] is = tt
-increasing_rises (x ∷ xs) is = (is.0, increasing_rises xs is.1)
 
 -- Enabled determines its list
 pub enabled_is_unique : (n : PlainNet) (m : Marking) (clock : ℕ) (xs ys : List PlainEntry) → Enabled n m clock xs → Enabled n m clock ys → xs ≡ ys
 enabled_is_unique n m clock xs ys ex ey =
-    rising_is_unique entry_cmp entry_cmp_total xs ys (increasing_rises xs ex.in_order) (increasing_rises ys ey.in_order) (λ x in'. in_from_contains ys x ((ey.exact x).1 ((ex.exact x).0 (contains_from_in xs x in')))) (λ x in'. in_from_contains xs x ((ex.exact x).1 ((ey.exact x).0 (contains_from_in ys x in'))))
+    rising_is_unique entry_cmp entry_cmp_total xs ys ex.rising ey.rising (λ x in'. in_from_contains ys x ((ey.exact x).1 ((ex.exact x).0 (contains_from_in xs x in')))) (λ x in'. in_from_contains xs x ((ex.exact x).1 ((ey.exact x).0 (contains_from_in ys x in'))))

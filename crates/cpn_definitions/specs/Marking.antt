@@ -1,8 +1,7 @@
 -- Markings, and the timed order and subtraction of tokens.
 -- Source: timed multisets of Jensen and Kristensen, chapter 11; which stamp is taken is our own choice.
-use Rattle.std.specs.Prelude.{◌≡◌, ℕ, Bool, true, false, ◌&&◌, if◌then◌else◌, nat_le, List, [], ◌∷◌}
+use Rattle.std.specs.Prelude.{◌≡◌, ℕ, Bool, true, false, ◌&&◌, if◌then◌else◌, nat_le, List, [], ◌∷◌, slice_index_or, slice_set}
 use Rattle.std.specs.List.{list_any}
-use Rattle.std.specs.List.Sorted.{IsPartitionPoint}
 use Rattle.std.specs.declared.cmp.Ordering.{Ordering}
 use Rattle.std.specs.Ordering.{ordering_then, nat_cmp, is_lt, is_gt}
 use Rattle.cpn_definitions.specs.Value.{PlainValue}
@@ -25,6 +24,14 @@ Tokens = List PlainToken
 abbrev pub Marking : Type 0
 Marking = List Tokens
 
+-- the tokens on a place; there is none past the last place
+abbrev pub tokens_at : Marking → ℕ → Tokens
+tokens_at m p = slice_index_or m p []
+
+-- a marking with the tokens of one place changed
+abbrev pub on_place : ℕ → (Tokens → Tokens) → Marking → Marking
+on_place p change m = slice_set m p (change (tokens_at m p))
+
 -- how two tokens compare: by value, then by stamp
 abbrev pub token_cmp : PlainToken → PlainToken → Ordering
 token_cmp t u = ordering_then (value_cmp t.value u.value) (nat_cmp t.stamp u.stamp)
@@ -38,19 +45,6 @@ MayPrecede t (u ∷ us) = is_gt (token_cmp t u) ≡ false
 abbrev pub AreSorted : Tokens → Type 0
 AreSorted [] = Unit {0}
 AreSorted (t ∷ ts) = MayPrecede t ts × AreSorted ts
-
--- the token comes before another
-abbrev pub Precedes : PlainToken → PlainToken → Type 0
-Precedes t u = is_lt (token_cmp t u) ≡ true
-
--- the token does not come before another
-abbrev pub DoesNotPrecede : PlainToken → PlainToken → Type 0
-DoesNotPrecede t u = is_lt (token_cmp t u) ≡ false
-
--- the place of a token among sorted tokens: it comes before none of those ahead of the place, and before each
--- from the place on
-abbrev pub IsPlaceOf : PlainToken → Tokens → ℕ → Type 0
-IsPlaceOf t ks = IsPartitionPoint (DoesNotPrecede t) (Precedes t) ks
 
 -- the tokens of a place with one more, at its place in the order
 abbrev pub add_token : PlainToken → Tokens → Tokens

@@ -1,9 +1,10 @@
 -- What an inscription means under a binding at a time: a value, or a fault.
 -- Source: our own profile of CPN ML; a binding is that of Jensen and Kristensen, chapter 4.
-use Rattle.std.specs.Prelude.{ℕ, ◌^◌, ◌==◌, pos, negsuc, Bool, false, if◌then◌else◌, nat_le, List, [], ◌∷◌, ◌++◌, Option, Some, None}
-use Rattle.cpn_definitions.specs.Value.{PlainValue, unit, boolean, int, constant, text, tuple, bare, applied, list}
+use Rattle.std.specs.Prelude.{◌≢◌, ℕ, ◌==◌, pos, negsuc, Bool, false, if◌then◌else◌, nat_le, List, [], ◌∷◌, ◌++◌, Option, Some, None}
+use Rattle.cpn_definitions.specs.Value.{PlainValue, boolean, int}
 use Rattle.cpn_definitions.specs.Colour.{PlainColour, admits}
-use Rattle.cpn_definitions.specs.Net.{PlainExpr, literal, variable, ArcInscription, one, PlainArc}
+use Rattle.cpn_definitions.specs.Net.{PlainExpr, literal, variable, Functions, ArcInscription, one, PlainArc}
+use Rattle.cpn_definitions.specs.Times.{last_time}
 
 -- A binding: the number and the value of each variable of a transition, in declaration order.
 abbrev pub PlainBinding : Type 0
@@ -25,6 +26,10 @@ pub data Outcome (A : Type 0) : Type 0 where
   gives : A → Outcome A
   faults : Fault → Outcome A
   no_meaning : Outcome A
+
+-- there is a meaning: a value or a fault
+abbrev pub HasMeaning : {A : Type 0} → Outcome A → Type 0
+HasMeaning o = o ≢ no_meaning
 
 -- the second meaning at the value of the first, or the first's fault
 infixl 10 ◌>>=◌
@@ -48,10 +53,11 @@ abbrev pub given : Option PlainValue → Outcome PlainValue
 given None = no_meaning
 given (Some v) = gives v
 
--- Meaning: a literal means itself, a variable the value that it is bound to.
-abbrev pub meaning : PlainExpr → PlainBinding → ℕ → Outcome PlainValue
-meaning (literal v) b time = gives v
-meaning (variable x) b time = given (bound_value x b)
+-- Meaning, with the functions that an inscription may call: a literal means itself, a variable the value that it is
+-- bound to.
+abbrev pub meaning : Functions → PlainExpr → PlainBinding → ℕ → Outcome PlainValue
+meaning funs (literal v) b time = gives v
+meaning funs (variable x) b time = given (bound_value x b)
 
 -- A term of a multiset: so many tokens of a value, each with a delay.
 pub record PlainTerm : Type 0 where
@@ -64,9 +70,9 @@ abbrev pub in_colour : PlainColour → PlainValue → Outcome PlainValue
 in_colour colour v = if admits colour v then gives v else faults not_in_colour
 
 -- The terms of a multiset inscription of a place of a colour set, in order, or the first fault.
-abbrev pub terms_of : ArcInscription → PlainColour → PlainBinding → ℕ → Outcome (List PlainTerm)
-terms_of (one e) colour b time = do
-  v ← meaning e b time
+abbrev pub terms_of : Functions → ArcInscription → PlainColour → PlainBinding → ℕ → Outcome (List PlainTerm)
+terms_of funs (one e) colour b time = do
+  v ← meaning funs e b time
   token ← in_colour colour v
   gives (record { value = token; count = 1; delay = 0 } ∷ [])
 
@@ -80,25 +86,11 @@ gather f (arc ∷ arcs) = do
 
 -- whether a value is the truth value true
 abbrev pub is_true : PlainValue → Bool
-is_true unit = false
 is_true (boolean b) = b
-is_true (int z) = false
-is_true (constant k) = false
-is_true (text bytes) = false
-is_true (tuple vs) = false
-is_true (bare k) = false
-is_true (applied k v) = false
-is_true (list vs) = false
+is_true v = false
 
--- a delay: a whole number from 0 to 2 ^ 62
+-- a delay: a whole number from 0 to the last time
 abbrev pub delay_of : PlainValue → Outcome ℕ
-delay_of (int (pos n)) = if nat_le n (2 ^ 62) then gives n else faults bad_delay
+delay_of (int (pos n)) = if nat_le n last_time then gives n else faults bad_delay
 delay_of (int (negsuc n)) = faults bad_delay
-delay_of unit = no_meaning
-delay_of (boolean b) = no_meaning
-delay_of (constant k) = no_meaning
-delay_of (text bytes) = no_meaning
-delay_of (tuple vs) = no_meaning
-delay_of (bare k) = no_meaning
-delay_of (applied k v) = no_meaning
-delay_of (list vs) = no_meaning
+delay_of v = no_meaning

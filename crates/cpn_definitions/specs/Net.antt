@@ -1,14 +1,23 @@
--- Nets, as plain data: places with their colour sets, transitions with their guard, delay and arcs.
--- Source: Jensen and Kristensen, chapter 4; several arcs between one place and one transition are our own.
-use Rattle.std.specs.Prelude.{ℕ, List, [], Option, None, slice_index_or}
+-- Nets, as plain data: places with their colour sets, transitions with their guard, delay and arcs, and what the
+-- inscriptions name. Source: Jensen and Kristensen, chapter 4; several arcs between one place and one transition are our
+-- own.
+use Rattle.std.specs.Prelude.{ℕ, ◌==◌, Bool, false, List, [], Option, None, slice_index_or}
 use Rattle.cpn_definitions.specs.Value.{PlainValue}
 use Rattle.cpn_definitions.specs.Colour.{PlainColour, unit_shape}
-use Rattle.std.specs.Prelude.{false}
 
 -- An inscription: a literal, or a variable by its number.
 pub data PlainExpr : Type 0 where
   literal : PlainValue → PlainExpr
   variable : ℕ → PlainExpr
+
+-- A function: how many parameters it has, and its body.
+pub record PlainFunction : Type 0 where
+  pub parameters : ℕ
+  pub body : PlainExpr
+
+-- The functions of a net, each by its number.
+abbrev pub Functions : Type 0
+Functions = List PlainFunction
 
 -- An inscription of an arc, whose value is a multiset: one token of the value of an inscription.
 pub data ArcInscription : Type 0 where
@@ -47,11 +56,15 @@ pub record Coloured : Type 0 where
   pub name : List ℕ
   pub colour : PlainColour
 
--- A net.
+-- A net: its places, transitions and variables, the names of the constants of each enumeration and of the constructors of
+-- each union, by their numbers, and its functions.
 pub record PlainNet : Type 0 where
   pub places : List Coloured
   pub transitions : List PlainTransition
   pub variables : List Coloured
+  pub constants : List (List (List ℕ))
+  pub constructors : List (List (List ℕ))
+  pub functions : Functions
 
 -- what stands at a number past the last one
 abbrev pub no_colour : PlainColour
@@ -72,3 +85,12 @@ variable_at n x = slice_index_or n.variables x nothing
 
 abbrev pub transition_at : PlainNet → ℕ → PlainTransition
 transition_at n t = slice_index_or n.transitions t no_transition
+
+-- whether a place keeps time stamps
+abbrev pub is_timed : PlainNet → ℕ → Bool
+is_timed n p = (place_at n p).colour.timed
+
+-- whether an inscription of an arc is one token of the value of a variable
+abbrev pub is_variable : ℕ → ArcInscription → Bool
+is_variable x (one (literal v)) = false
+is_variable x (one (variable y)) = x == y

@@ -1,103 +1,79 @@
 -- Sound nets: those that the calls of the program take. Source: own choice.
--- Today each colour set is that of all integers and untimed, and no transition has a guard or a delay.
-use Rattle.std.specs.Prelude.{◌≡◌, ◌||◌, ℕ, ◌+◌, ◌==◌, ◌^◌, ℤ, pos, neg_ℤ, ◌-◌, Bool, true, false, not, ◌&&◌, nat_lt, nat_le, List, [], ◌∷◌, length, is_none}
-use Rattle.std.specs.List.{list_all, list_any}
-use Rattle.std.specs.Ordering.{int_eq}
-use Rattle.cpn_definitions.specs.Colour.{PlainShape, unit_shape, boolean_shape, int_shape, text_shape, constant_shape, tuple_shape, union_shape, list_shape, PlainColour, admits}
-use Rattle.cpn_definitions.specs.Order.{same_value}
-use Rattle.cpn_definitions.specs.Marking.{PlainToken, Marking, AreSorted}
-use Rattle.cpn_definitions.specs.Net.{PlainExpr, literal, variable, ArcInscription, one, PlainPattern, literal_pattern, variable_pattern, BindingTerm, PlainArc, PlainTransition, Coloured, PlainNet}
+use Rattle.std.specs.Prelude.{◌≡◌, ◌||◌, ◌&&◌, ℕ, ◌+◌, ◌<◌, ◌≤◌, ◌==◌, ◌^◌, Bool, true, false, nat_lt, List, [], ◌∷◌, length}
+use Rattle.std.specs.List.{list_all, list_any, AllByRecursion}
+use Rattle.std.specs.Ordering.{nat_cmp}
+use Rattle.cpn_definitions.specs.Colour.{PlainColour, admits}
+use Rattle.cpn_definitions.specs.Lists.{Rises}
+use Rattle.cpn_definitions.specs.Marking.{PlainToken, Marking, tokens_at, AreSorted}
+use Rattle.cpn_definitions.specs.Net.{PlainExpr, literal, variable, ArcInscription, one, PlainPattern, literal_pattern, variable_pattern, BindingTerm, PlainArc, PlainTransition, Coloured, PlainNet, place_at, is_timed, is_variable}
+use Rattle.cpn_definitions.specs.Meaning.{PlainBinding, Outcome, gives, HasMeaning, meaning, terms_of}
+use Rattle.cpn_definitions.specs.Occurrence.{PlainElement, binds, covered, transition_delay, outputs_of}
+use Rattle.cpn_definitions.specs.Times.{last_time}
 
--- the least and the greatest integer of 64 bits
-abbrev pub least_int : ℤ
-least_int = neg_ℤ (pos (2 ^ 63))
+-- the inscription read as a pattern
+abbrev pub pattern_of : PlainExpr → PlainPattern
+pattern_of (literal v) = literal_pattern v
+pattern_of (variable x) = variable_pattern x
 
-abbrev pub greatest_int : ℤ
-greatest_int = pos (2 ^ 63 - 1)
+-- the binding terms of an inscription
+abbrev pub binding_terms : ArcInscription → List BindingTerm
+binding_terms (one e) = record { count = 1; pattern = pattern_of e } ∷ []
 
-abbrev pub is_int_shape : PlainShape → Bool
-is_int_shape (int_shape low high) = int_eq low least_int && int_eq high greatest_int
-is_int_shape unit_shape = false
-is_int_shape boolean_shape = false
-is_int_shape text_shape = false
-is_int_shape (constant_shape id count) = false
-is_int_shape (tuple_shape ss) = false
-is_int_shape (union_shape id cs) = false
-is_int_shape (list_shape s) = false
+-- Sound arc: its place is one of the net, whose colour set it carries; and its inscription has a meaning under each
+-- binding of the transition's variables, at each time from 0 to the last time.
+pub record IsSoundArc (n : PlainNet) (t : PlainTransition) (arc : PlainArc) : Type 0 where
+  pub place_known : arc.place < length n.places
+  pub colour_is : arc.colour ≡ (place_at n arc.place).colour
+  pub means : (b : PlainBinding) (time : ℕ) → binds n t.vars b ≡ true → time ≤ last_time → HasMeaning (terms_of n.functions arc.expr arc.colour b time)
 
--- the colour set of all integers, untimed
-abbrev pub int_colour : PlainColour
-int_colour = record { shape = int_shape least_int greatest_int; timed = false }
+-- Sound input arc: it is sound, and carries just the binding terms of its inscription.
+pub record IsSoundInput (n : PlainNet) (t : PlainTransition) (arc : PlainArc) : Type 0 where
+  pub sound : IsSoundArc n t arc
+  pub terms_are : arc.terms ≡ binding_terms arc.expr
 
-abbrev pub is_int_colour : PlainColour → Bool
-is_int_colour colour = is_int_shape colour.shape && not colour.timed
+-- whether a variable is bindable: it is the inscription of an input arc
+abbrev pub is_bindable : PlainTransition → ℕ → Bool
+is_bindable t x = list_any (λ arc. is_variable x arc.expr) t.inputs
 
--- whether an inscription is an integer, or a variable among these
-abbrev pub is_sound_expr : List ℕ → ArcInscription → Bool
-is_sound_expr vars (one (literal v)) = admits int_colour v
-is_sound_expr vars (one (variable x)) = list_any (λ y. x == y) vars
+-- Sound transition: its variables are listed once, in declaration order, and are variables of the net, each bindable; its
+-- guard and its delay have a meaning under each binding of them; it has at most 64 arcs, which are sound.
+pub record IsSoundTransition (n : PlainNet) (t : PlainTransition) : Type 0 where
+  pub listed : Rises nat_cmp t.vars
+  pub declared : list_all (λ x. nat_lt x (length n.variables)) t.vars ≡ true
+  pub bindable : list_all (is_bindable t) t.vars ≡ true
+  pub guard_means : (b : PlainBinding) → binds n t.vars b ≡ true → AllByRecursion (λ e. HasMeaning (meaning n.functions e b 0)) t.guard
+  pub delay_means : (b : PlainBinding) (time : ℕ) → binds n t.vars b ≡ true → time ≤ last_time → HasMeaning (transition_delay n.functions t.delay b time)
+  pub few_arcs : length t.inputs + length t.outputs ≤ 64
+  pub inputs_sound : AllByRecursion (IsSoundInput n t) t.inputs
+  pub outputs_sound : AllByRecursion (IsSoundArc n t) t.outputs
 
--- whether the arc's place is one of the net, its colour set that of the integers, and its inscription sound
-abbrev pub is_sound_arc : PlainNet → List ℕ → PlainArc → Bool
-is_sound_arc n vars arc = nat_lt arc.place (length n.places) && is_int_colour arc.colour && is_sound_expr vars arc.expr
+-- Sound: each transition is sound; and places, transitions and variables each have a number of 32 bits.
+pub record IsSound (n : PlainNet) : Type 0 where
+  pub transitions_sound : AllByRecursion (IsSoundTransition n) n.transitions
+  pub few_places : length n.places < 2 ^ 32
+  pub few_transitions : length n.transitions < 2 ^ 32
+  pub few_variables : length n.variables < 2 ^ 32
 
--- whether the pattern is the inscription itself, read as a pattern
-abbrev pub is_pattern_of : PlainExpr → PlainPattern → Bool
-is_pattern_of (literal v) (literal_pattern w) = same_value v w
-is_pattern_of (literal v) (variable_pattern y) = false
-is_pattern_of (variable x) (literal_pattern w) = false
-is_pattern_of (variable x) (variable_pattern y) = x == y
+-- Untimed: no place of the net keeps time stamps.
+abbrev pub IsUntimed : PlainNet → Type 0
+IsUntimed n = (p : ℕ) → is_timed n p ≡ false
 
--- whether the terms are just the binding terms of the inscription: the one, with the count 1
-abbrev pub has_terms : ArcInscription → List BindingTerm → Bool
-has_terms (one e) [] = false
-has_terms (one e) (term ∷ []) = (term.count == 1) && is_pattern_of e term.pattern
-has_terms (one e) (term ∷ other ∷ terms) = false
+-- the outcome is a value
+abbrev pub Gives : {A : Type 0} → Outcome A → Type 0
+Gives {A} o = (x : A) × (o ≡ gives x)
 
--- whether a transition has at most 64 arcs, and each input arc just the binding terms of its inscription
-abbrev pub has_sound_arcs : PlainTransition → Bool
-has_sound_arcs t = nat_le (length t.inputs + length t.outputs) 64 && list_all (λ arc. has_terms arc.expr arc.terms) t.inputs
-
--- whether the variable is the inscription of the arc
-abbrev pub is_bound_by : ℕ → ArcInscription → Bool
-is_bound_by x (one (literal v)) = false
-is_bound_by x (one (variable y)) = x == y
-
--- numbers in increasing order
-abbrev pub are_increasing : List ℕ → Bool
-are_increasing [] = true
-are_increasing (x ∷ xs) = list_all (λ y. nat_lt x y) xs && are_increasing xs
-
--- whether the guard is missing
-abbrev pub has_no_guard : List PlainExpr → Bool
-has_no_guard [] = true
-has_no_guard (e ∷ es) = false
-
--- whether a transition is sound: its variables are listed once, in declaration order, and each is bound by
--- an input arc; its arcs are sound; it has no guard and no delay
-abbrev pub is_sound_transition : PlainNet → PlainTransition → Bool
-is_sound_transition n t =
-    has_no_guard t.guard && is_none t.delay && are_increasing t.vars && list_all (λ x. nat_lt x (length n.variables)) t.vars && list_all (λ x. list_any (λ arc. is_bound_by x arc.expr) t.inputs) t.vars && list_all (is_sound_arc n t.vars) t.inputs && list_all (is_sound_arc n t.vars) t.outputs
-
--- whether the colour sets of places and variables are that of the integers, and each transition is sound
-abbrev pub is_sound_but_arcs : PlainNet → Bool
-is_sound_but_arcs n =
-    list_all (λ place. is_int_colour place.colour) n.places && list_all (λ x. is_int_colour x.colour) n.variables && list_all (is_sound_transition n) n.transitions
-
--- whether places, transitions and variables are each fewer than 2 ^ 32, so that each has a number of 32 bits
-abbrev pub are_numbered : PlainNet → Bool
-are_numbered n = nat_lt (length n.places) (2 ^ 32) && nat_lt (length n.transitions) (2 ^ 32) && nat_lt (length n.variables) (2 ^ 32)
-
--- Sound: the colour sets of places and variables are that of the integers, each transition is sound, and
--- has at most 64 arcs, whose binding terms are those of their inscriptions; and places, transitions and
--- variables each have a number of 32 bits.
-abbrev pub is_sound : PlainNet → Bool
-is_sound n = is_sound_but_arcs n && list_all has_sound_arcs n.transitions && are_numbered n
+-- Faultless: whatever is covered, its outputs are no fault.
+abbrev pub IsFaultless : PlainNet → Type 0
+IsFaultless n = (m : Marking) (time : ℕ) (e : PlainElement) → covered n m time e ≡ true → time ≤ last_time → Gives (outputs_of n e time)
 
 -- whether a place of the colour set may hold the token: its value is admitted, and its stamp is 0 where the
 -- place is untimed
 abbrev pub may_hold : PlainColour → PlainToken → Bool
 may_hold colour t = admits colour t.value && (colour.timed || (t.stamp == 0))
+
+-- Stamped as the net is timed: on a place that keeps no time stamps each token has stamp 0.
+abbrev pub IsStamped : PlainNet → Marking → Type 0
+IsStamped n m = (p : ℕ) → is_timed n p ≡ false → list_all (λ t. t.stamp == 0) (tokens_at m p) ≡ true
 
 -- A marking of places: for each place, in order, sorted tokens that the place may hold.
 abbrev pub IsMarking : List Coloured → Marking → Type 0

@@ -1,2 +1,2 @@
-pub mod Gathering
-pub mod Arcs
+pub mod Gathered
+pub mod WorkedMeanings

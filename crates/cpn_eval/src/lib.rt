@@ -1,13 +1,23 @@
-//! What the inscriptions of a net mean under a binding: values, the tokens that an occurrence needs and
-//! the tokens that it makes.
+//! What the inscriptions of a net mean under a binding: values, guards, the tokens that an element needs and
+//! the tokens that it makes, or the fault of an inscription that has no value.
 //!
 //! The crate reads nets and bindings. It knows nothing of markings, of what is enabled, or of runs.
 #![tactic(auto)]
 
 mod meanings;
-mod tokens;
-mod transfers;
+mod needs;
+mod outputs;
+mod places;
+mod refused;
+mod term;
+mod terms;
+#[cfg(test)]
+mod tests;
 
-pub use meanings::{arc_value, bound_value, is_timed, transition_delay, value_in_colour, value_of};
-pub use tokens::{Made, Needed};
-pub use transfers::{needs_of, outputs_of};
+pub use meanings::{guard_holds, value_of};
+pub use needs::needs_of;
+pub use outputs::outputs_of;
+pub use places::is_timed;
+pub use refused::Refused;
+pub use term::Term;
+pub use terms::terms_of;

@@ -1,133 +1,81 @@
 //! What an inscription means under a binding.
 
-ghost use Rattle.std.specs.Prelude.{◌≡◌, ◌≤◌, ◌^◌, ℕ, IfSome, option_map};
-ghost use Rattle.cpn_definitions.specs.Meaning.{bound_value, meaning, delay_of};
+ghost use Rattle.std.specs.Prelude.{◌≡◌, Some, map};
+ghost use Rattle.std.specs.List.{AllByRecursion};
+ghost use Rattle.cpn_definitions.specs.Meaning.{HasMeaning, bound_value, given, meaning, gives_and, is_true};
+ghost use Rattle.cpn_definitions.specs.Occurrence.{guard_holds};
 ghost use Rattle.cpn_core.specs.Views.{value_view};
-ghost use Rattle.cpn_core.specs.Nets.{expr_view, multiset_view, arc_view, net_view};
-ghost use Rattle.cpn_definitions.specs.Net.{one};
-ghost use Rattle.cpn_definitions.specs.Value.{int};
-ghost use Rattle.cpn_definitions.specs.Occurrence.{transition_delay, is_timed};
-ghost use Rattle.cpn_core.specs.Colours.{colour_view};
+ghost use Rattle.cpn_core.specs.Nets.{expr_view, funs_view, net_view, transition_view};
 ghost use Rattle.cpn_core.specs.Pairs.{pairs_view};
-ghost use Rattle.cpn_eval.specs.Given.{as_option, value_seen, meaning_in, token_value};
+ghost use Rattle.cpn_eval.specs.Answers.{Answers};
+ghost use Rattle.cpn_eval.specs.Guards.{GuardHasMeaning};
 
-use cpn_core::{Binding, Colour, Expr, MExpr, Net, Pair, PlaceArc, Value};
+use crate::refused::Refused;
+use cpn_core::{Binding, Expr, Funs, Net, Pair, Transition, Value};
 
-/// The value that the binding gives to the variable; `None` where it gives none.
-pub fn bound_value(variable: u32, binding: &Binding) -> Option<&Value>
-    ensures { value_seen result ≡ bound_value variable binding.now }
+/// The value of the inscription under the binding at the time, a value of its own; `Refused::Fault` where its
+/// meaning is a fault.
+///
+/// Source: our own profile of CPN ML.
+pub fn value_of(funs: &Funs, expr: &Expr, binding: &Binding, time: u64) -> Result<Value, Refused>
+    requires meaning { HasMeaning (meaning (funs_view funs.now) (expr_view expr.now) binding.now time) }
+    ensures value { Answers value_view result (meaning (funs_view funs.now) (expr_view expr.now) binding.now time) }
+{
+    match expr {
+        Expr::Lit(value) => {
+            let value = value.copy()?;
+            Ok(value)
+        }
+        Expr::Var(variable) => {
+            let value = bound_value(*variable, binding).copy()?;
+            Ok(value)
+        }
+    }
+}
+
+/// Whether each conjunct of the transition's guard is true under the binding; one whose meaning is a fault is not.
+///
+/// Source: Jensen and Kristensen, chapter 4.
+pub fn guard_holds(net: &Net, transition: &Transition, binding: &Binding) -> bool
+    requires meaning { GuardHasMeaning (net_view net.now).functions (transition_view transition.now).guard binding.now }
+    ensures holds { result ≡ guard_holds (net_view net.now).functions (transition_view transition.now).guard binding.now }
+{
+    for conjunct in &transition.guard.conjuncts {
+        if !is_true(&net.funs, conjunct, binding) {
+            return false;
+        }
+    }
+    true
+}
+
+/// Whether the inscription means true; it reads no time.
+fn is_true(funs: &Funs, expr: &Expr, binding: &Binding) -> bool
+    requires meaning { HasMeaning (meaning (funs_view funs.now) (expr_view expr.now) binding.now 0) }
+    ensures { result ≡ gives_and (meaning (funs_view funs.now) (expr_view expr.now) binding.now 0) is_true }
+{
+    let value = match expr {
+        Expr::Lit(value) => value,
+        Expr::Var(variable) => bound_value(*variable, binding),
+    };
+    *value == Value::Bool(true)
+}
+
+/// The value that the binding gives to the variable.
+fn bound_value(variable: u32, binding: &Binding) -> &Value
+    requires meaning { HasMeaning (given (bound_value variable binding.now)) }
+    ensures { bound_value variable binding.now ≡ Some (value_view result.now) }
 {
     bound_among(variable, binding.pairs())
 }
 
-fn bound_among(variable: u32, pairs: &[Pair]) -> Option<&Value>
-    ensures { value_seen result ≡ bound_value variable (pairs_view pairs.now) }
+fn bound_among(variable: u32, pairs: &[Pair]) -> &Value
+    requires meaning { HasMeaning (given (bound_value variable (pairs_view pairs.now))) }
+    ensures { bound_value variable (pairs_view pairs.now) ≡ Some (value_view result.now) }
 {
     for pair in pairs {
         if pair.variable == variable {
-            return Some(&pair.value);
+            return &pair.value;
         }
     }
-    None
-}
-
-/// The value of the inscription under the binding; `None` where it has none.
-pub fn value_of<'a>(expr: &'a Expr, binding: &'a Binding) -> Option<&'a Value>
-    ensures { (time : ℕ) → value_seen result ≡ as_option (meaning (expr_view expr.now) binding.now time) }
-{
-    match expr {
-        Expr::Lit(value) => Some(value),
-        Expr::Var(variable) => bound_value(*variable, binding),
-    }
-}
-
-/// The value of the inscription under the binding, if the colour set admits it.
-pub fn value_in_colour<'a>(
-    expr: &'a Expr,
-    colour: &Colour,
-    binding: &'a Binding,
-) -> Option<&'a Value>
-    ensures { (time : ℕ) → value_seen result ≡ meaning_in (colour_view colour.now) (expr_view expr.now) binding.now time }
-{
-    let value = value_of(expr, binding)?;
-    if colour.admits(value) {
-        Some(value)
-    } else {
-        None
-    }
-}
-
-/// The value of the token that the arc stands for under the binding, if the arc's colour set admits it.
-pub fn arc_value<'a>(arc: &'a PlaceArc, binding: &'a Binding) -> Option<&'a Value>
-    ensures { (time : ℕ) → value_seen result ≡ token_value (arc_view arc.now) binding.now time }
-{
-    let value = value_in_colour(
-        token_expr(&arc.inscription.expr),
-        &arc.inscription.colour,
-        binding,
-    )?;
-    Some(value)
-}
-
-/// The inscription of the one token.
-fn token_expr(multiset: &MExpr) -> &Expr
-    ensures { multiset_view multiset.now ≡ one (expr_view result.now) }
-{
-    match multiset {
-        MExpr::One(expr) => expr,
-    }
-}
-
-/// The delay of a transition under the binding: a whole number from 0 to 2^62; `None` where it has none.
-pub fn transition_delay(delay: &Option<Expr>, binding: &Binding) -> Option<u64>
-    ensures value { (time : ℕ) → result ≡ as_option (transition_delay (option_map expr_view delay.now) binding.now time) }
-    ensures bound { IfSome result (λ d. d ≤ 2 ^ 62) }
-{
-    match delay {
-        None => Some(0),
-        Some(expr) => delay_of(value_of(expr, binding)?),
-    }
-}
-
-/// The delay that the value is, if it is one.
-fn delay_of(value: &Value) -> Option<u64>
-    ensures value { result ≡ as_option (delay_of (value_view value.now)) }
-    ensures bound { IfSome result (λ d. d ≤ 2 ^ 62) }
-{
-    match value {
-        Value::Int(number) => whole_delay(*number),
-        Value::Unit => None,
-        Value::Bool(_) => None,
-        Value::Enum(_) => None,
-        Value::Text(_) => None,
-        Value::Tuple(_) => None,
-        Value::Con(_, argument) => match argument {
-            None => None,
-            Some(_) => None,
-        },
-        Value::List(_) => None,
-    }
-}
-
-fn whole_delay(number: i64) -> Option<u64>
-    ensures value { result ≡ as_option (delay_of (int number)) }
-    ensures bound { IfSome result (λ d. d ≤ 2 ^ 62) }
-{
-    if number < 0 {
-        return None;
-    }
-    if number > 1 << 62 {
-        return None;
-    }
-    Some(number as u64)
-}
-
-/// Whether the place keeps time stamps; a place past the last one keeps none.
-pub fn is_timed(net: &Net, place: u32) -> bool
-    ensures { result ≡ is_timed (net_view net.now) place }
-{
-    match net.places.get(place as usize) {
-        None => false,
-        Some(place) => place.colour.timed,
-    }
+    unreachable!()
 }

@@ -1,15 +1,33 @@
 -- Worked texts, and a worked document as a JSON value.
-use Rattle.std.proofs.Common.{◌≡◌, ℕ, pos, true, false, List, [], ◌∷◌, Some, None, refl}
+use Rattle.std.proofs.Common.{◌≡◌, ℕ, pos, true, false, List, [], ◌∷◌, Some, None, refl, arith}
+use Rattle.std.proofs.lemmas.Fmt.{decimal_digit}
 use Rattle.std.specs.Prelude.{codes}
 use Rattle.serde_json.specs.Data.{Data, number, unsigned, string, array, object, no_items, item, no_members, member}
 use Rattle.cpn_definitions.specs.Value.{int}
 use Rattle.cpn_definitions.specs.Marking.{PlainToken}
 use Rattle.cpn_definitions.specs.Net.{variable, one, variable_pattern}
-use Rattle.cpn_definitions.specs.Sound.{int_colour}
-use Rattle.cpn_file.specs.Parts.{each_in}
+use Rattle.cpn_file.specs.Served.{int_colour}
+use Rattle.cpn_file.specs.Reading.{not_json, not_yet, read, each}
+use Rattle.cpn_file.specs.Refusals.{document_line}
 use Rattle.cpn_file.specs.Texts.{is_name, name_in, number_in, variable_in, initial_in, is_variable_name, is_reserved, count_in}
-use Rattle.cpn_file.specs.Document.{variables_in, place_in, transition_in, way_in, inscription_in, arc_in, apart, arcs_among, module_in, document_in}
-use Rattle.cpn_file.specs.Loading.{variables_on, transition_with, transitions_from, loaded_from, loaded_in}
+use Rattle.cpn_file.specs.Document.{place_in, transition_in, way_in, arc_in, are_apart, module_in, document_in}
+use Rattle.cpn_file.specs.Loading.{variables_behind, variables_in, joined_in, inscription_in, arc_of, variables_on, transition_with, transitions_from, loaded_from, loaded_in}
+
+-- ---- error lines
+
+line_without_json : document_line not_json ≡ codes "error document 1 not_json\n"
+unfolding document_line
+line_without_json = rw (decimal_digit 1 (omega arith)) refl
+
+line_of_the_whole : document_line (not_yet []) ≡ codes "error document 7 not_yet\n"
+unfolding document_line
+line_of_the_whole = rw (decimal_digit 7 (omega arith)) refl
+
+line_with_a_place : document_line (not_yet (codes "/phases")) ≡ codes "error document 7 not_yet /phases\n"
+unfolding document_line
+line_with_a_place = rw (decimal_digit 7 (omega arith)) refl
+
+-- ---- texts
 
 a_name : is_name (codes "A b-1") ≡ true
 unfolding is_name
@@ -75,7 +93,7 @@ first_net =
 abbrev seven : PlainToken
 seven = record { value = int (pos 7); stamp = 0 }
 
-first_net_is_read : loaded_in first_net ≡ Some (record {
+first_net_is_read : loaded_in first_net ≡ read (record {
   net = record {
     places = record { name = codes "Top/A"; colour = int_colour } ∷ record { name = codes "Top/B"; colour = int_colour } ∷ [];
     transitions = record {
@@ -87,8 +105,11 @@ first_net_is_read : loaded_in first_net ≡ Some (record {
       vars = 0 ∷ [];
     } ∷ [];
     variables = record { name = codes "x"; colour = int_colour } ∷ [];
+    constants = [];
+    constructors = [];
+    functions = [];
   };
   initial = (seven ∷ seven ∷ seven ∷ []) ∷ [] ∷ [];
 })
-unfolding loaded_in document_in variables_in each_in variable_in is_variable_name is_reserved module_in name_in is_name place_in transition_in initial_in count_in number_in arcs_among apart arc_in way_in inscription_in loaded_from transitions_from transition_with variables_on
+unfolding loaded_in document_in module_in name_in is_name place_in transition_in way_in arc_in are_apart each loaded_from variables_in variables_behind variable_in is_variable_name is_reserved joined_in initial_in count_in number_in inscription_in arc_of transitions_from transition_with variables_on
 first_net_is_read = refl

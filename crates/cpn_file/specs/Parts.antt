@@ -1,49 +1,59 @@
--- The parts of a JSON value: what stands at a key of an object, the items of a list. What a reader does
--- not serve, it reads as nothing. Source: own choice.
-use Rattle.std.specs.Prelude.{ℕ, suc, Bool, ◌==◌, if◌then◌else◌, List, [], ◌∷◌, Option, Some, None, option_map, option_and_then}
-use Rattle.serde_json.specs.Data.{Data, null, boolean, number, string, array, object, Items, no_items, item, Members, no_members, member}
-use Rattle.serde_json.specs.Find.{get, as_number, as_u64, as_str, as_array}
+-- The parts of a JSON value: the keys of an object, what stands at a key, the items of a list. Source: own choice.
+use Rattle.std.specs.Prelude.{ℕ, Bool, true, ◌&&◌, List, [], ◌∷◌, Option, Some, None, option_and_then}
+use Rattle.std.specs.List.{list_any}
+use Rattle.std.specs.Str.{bytes_eq}
+use Rattle.serde_json.specs.Data.{Data, Items, no_items, item, Members, no_members, member}
+use Rattle.serde_json.specs.Find.{get, as_number, as_u64, as_str, as_array, as_object}
+use Rattle.cpn_file.specs.Reading.{Reading, read, refused, ◌>>=◌, or_refusal, check, not_served}
 
--- the second reading of what the first one gives, or nothing
-infixl 10 ◌>>=◌
-abbrev pub ◌>>=◌ : {A B : Type 0} → Option A → (A → Option B) → Option B
-o >>= f = option_and_then f o
+-- whether a text is one of the texts
+abbrev pub is_one_of : List ℕ → List (List ℕ) → Bool
+is_one_of text texts = list_any (bytes_eq text) texts
 
--- goes on where the test passes
-abbrev pub when : Bool → Option Bool
-when test = if test then Some test else None
+-- whether each key of the members is one of these
+abbrev pub are_among : List (List ℕ) → Members → Bool
+are_among keys no_members = true
+are_among keys (member key d ms) = is_one_of key keys && are_among keys ms
+
+-- that a value is an object, with no other key than these
+abbrev pub only_keys : List (List ℕ) → Data → Reading Bool
+only_keys keys d = do
+  members ← or_refusal (as_object d) not_served
+  check (are_among keys members) not_served
+
+-- the items of a list
+abbrev pub items_of : Items → List Data
+items_of no_items = []
+items_of (item d ds) = d ∷ items_of ds
+
+-- the text that a value is
+abbrev pub text_in : Data → Reading (List ℕ)
+text_in d = or_refusal (as_str d) not_served
 
 -- the text, the list and the whole number from 0 to 2 ^ 64 - 1 at a key
-abbrev pub text_at : List ℕ → Data → Option (List ℕ)
-text_at key d = option_and_then as_str (get key d)
+abbrev pub text_at : List ℕ → Data → Reading (List ℕ)
+text_at key d = or_refusal (option_and_then as_str (get key d)) not_served
 
-abbrev pub list_at : List ℕ → Data → Option Items
-list_at key d = option_and_then as_array (get key d)
+abbrev pub list_at : List ℕ → Data → Reading (List Data)
+list_at key d = do
+  items ← or_refusal (option_and_then as_array (get key d)) not_served
+  read (items_of items)
 
-abbrev pub number_at : List ℕ → Data → Option ℕ
-number_at key d = option_and_then as_u64 (option_and_then as_number (get key d))
+abbrev pub number_at : List ℕ → Data → Reading ℕ
+number_at key d = or_refusal (option_and_then as_u64 (option_and_then as_number (get key d))) not_served
 
--- how many members an object has
-abbrev pub width : Members → ℕ
-width no_members = 0
-width (member key d ms) = suc (width ms)
+-- the text at a key, or none where the key is missing
+abbrev pub optional_text : Option Data → Reading (Option (List ℕ))
+optional_text None = read None
+optional_text (Some d) = do
+  text ← text_in d
+  read (Some text)
 
--- that a value is an object with so many keys
-abbrev pub has_keys : ℕ → Data → Option Bool
-has_keys n null = None
-has_keys n (boolean b) = None
-has_keys n (number x) = None
-has_keys n (string s) = None
-has_keys n (array ds) = None
-has_keys n (object ms) = when (width ms == n)
-
--- what each item of a list is read as, in order, where each of them is read
-unfoldable pub each_in : {A : Type 0} → (Data → Option A) → Items → Option (List A)
-each_in read no_items = Some []
-each_in read (item d ds) = option_and_then (λ x. option_map (λ xs. x ∷ xs) (each_in read ds)) (read d)
+abbrev pub optional_text_at : List ℕ → Data → Reading (Option (List ℕ))
+optional_text_at key d = optional_text (get key d)
 
 -- the one item of a list
-abbrev pub only : Items → Option Data
-only no_items = None
-only (item d no_items) = Some d
-only (item d (item e ds)) = None
+abbrev pub only : List Data → Reading Data
+only [] = refused not_served
+only (d ∷ []) = read d
+only (d ∷ e ∷ ds) = refused not_served

@@ -1,11 +1,19 @@
 -- The texts of a net document: names, numbers, declarations and initial markings.
 -- Source: declarations and initial markings are those of CPN ML; which of them are served is our own choice.
-use Rattle.std.specs.Prelude.{ℕ, ◌-◌, ◌==◌, pos, Bool, not, ◌&&◌, ◌||◌, if◌then◌else◌, nat_le, nat_eq, List, [], ◌∷◌, length, take, drop, slice_index, Option, Some, None, codes}
+use Rattle.std.specs.Prelude.{ℕ, ◌-◌, ◌==◌, pos, Bool, not, ◌&&◌, ◌||◌, if◌then◌else◌, nat_le, nat_eq, List, [], ◌∷◌, length, take, drop, slice_index, Option, Some, None, option_and_then, codes}
 use Rattle.std.specs.List.{list_all, list_any, before_first, after_first, starts_with, ends_with}
 use Rattle.std.specs.Str.{bytes_eq}
 use Rattle.std.specs.Str.Parse.{digits_value}
 use Rattle.cpn_file.specs.declared.initials.Initial.{Initial}
-use Rattle.cpn_file.specs.Parts.{◌>>=◌, when}
+
+-- what a text says of what is said by a part of it, or nothing
+infixl 10 ◌>>=◌
+abbrev pub ◌>>=◌ : {A B : Type 0} → Option A → (A → Option B) → Option B
+o >>= f = option_and_then f o
+
+-- goes on where the test passes
+abbrev pub when : Bool → Option Bool
+when test = if test then Some test else None
 
 -- bytes of each kind
 abbrev pub is_digit : ℕ → Bool
@@ -68,11 +76,15 @@ variable_in text = do
   fits ← when (is_variable_name name)
   Some name
 
--- how many tokens: a number from 1 to 65,536 without leading zeros
+-- the most tokens that an initial marking may have
+abbrev pub most_tokens : ℕ
+most_tokens = 65536
+
+-- how many tokens: a number from 1 to the most, without leading zeros
 unfoldable pub count_in : List ℕ → Option ℕ
 count_in text = do
   count ← number_in text
-  fits ← when (not (slice_index text 0 == 0x30) && nat_le count 65536)
+  fits ← when (not (slice_index text 0 == 0x30) && nat_le count most_tokens)
   Some count
 
 -- An initial marking is written K, a backtick and a number: K tokens of that value.

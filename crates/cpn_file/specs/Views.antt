@@ -1,19 +1,35 @@
--- The parts of a document that the program keeps, as plain data.
-use Rattle.std.specs.Prelude.{List, map, string_bytes}
-use Rattle.cpn_file.specs.Names.{strings_of}
-use Rattle.cpn_file.specs.Document.{PlainPlace, PlainModule, PlainDocument}
-use Rattle.cpn_file.specs.declared.places.PlacePart.{PlacePart}
-use Rattle.cpn_file.specs.declared.modules.Module.{Module}
-use Rattle.cpn_file.specs.declared.modules.Document.{Document}
+-- A document that the program has read the form of, as plain data.
+use Rattle.std.specs.Prelude.{List, map, option_map}
+use Rattle.cpn_file.specs.Names.{texts_of}
+use Rattle.cpn_file.specs.Document.{RawPlace, RawTransition, RawArc, RawModule, RawDocument}
+use Rattle.cpn_file.specs.Loading.{JoinedArc}
+use Rattle.cpn_file.specs.declared.document.PlaceTexts.{PlaceTexts}
+use Rattle.cpn_file.specs.declared.document.TransitionTexts.{TransitionTexts}
+use Rattle.cpn_file.specs.declared.document.ArcTexts.{ArcTexts}
+use Rattle.cpn_file.specs.declared.document.Module.{Module}
+use Rattle.cpn_file.specs.declared.document.Document.{Document}
+use Rattle.cpn_file.specs.declared.joins.Joined.{Joined}
 
-abbrev pub place_view : PlacePart → PlainPlace
-place_view place = record { name = string_bytes place.name; initial = place.initial }
+abbrev pub place_view : PlaceTexts → RawPlace
+place_view place = record { name = place.name.now; colour = place.colour.now; initial = option_map (λ text. text.now) place.initial }
 
-abbrev pub places_view : List PlacePart → List PlainPlace
+abbrev pub places_view : List PlaceTexts → List RawPlace
 places_view places = map place_view places
 
-abbrev pub module_view : Module → PlainModule
-module_view m = record { name = string_bytes m.name; places = places_view m.places.items; transitions = strings_of m.transitions.items; arcs = m.arcs.items }
+abbrev pub written_view : TransitionTexts → RawTransition
+written_view transition = record { name = transition.name.now }
 
-abbrev pub document_view : Document → PlainDocument
-document_view document = record { variables = strings_of document.variables.items; top = module_view document.top }
+abbrev pub written_views : List TransitionTexts → List RawTransition
+written_views transitions = map written_view transitions
+
+abbrev pub arc_texts_view : ArcTexts → RawArc
+arc_texts_view arc = record { place = arc.place.now; transition = arc.transition.now; way = arc.way; expr = arc.expr.now }
+
+abbrev pub module_view : Module → RawModule
+module_view m = record { name = m.name.now; places = places_view m.places.items; transitions = written_views m.transitions.items; arcs = map arc_texts_view m.arcs.items }
+
+abbrev pub document_view : Document → RawDocument
+document_view document = record { declarations = texts_of document.declarations.items; top = document.top.now; the_module = module_view document.«module» }
+
+abbrev pub joined_view : Joined → JoinedArc
+joined_view arc = record { place = arc.place; transition = arc.transition; way = arc.way; expr = arc.expr.now }

@@ -2,16 +2,22 @@
 use Rattle.std.specs.Prelude.{◌≡◌, Bool, true, nat_le, length}
 use Rattle.std.specs.List.{list_all}
 use Rattle.cpn_definitions.specs.Marking.{Marking}
-use Rattle.cpn_definitions.specs.Sound.{is_sound, IsMarking}
+use Rattle.cpn_definitions.specs.Named.{IsNamed}
+use Rattle.cpn_definitions.specs.Sound.{IsSound, IsMarking, IsUntimed, IsFaultless}
+use Rattle.cpn_file.specs.Texts.{most_tokens}
 use Rattle.cpn_file.specs.Loading.{PlainLoaded}
 
--- whether each place has at most 65,536 tokens
+-- whether each place has at most the most tokens that an initial marking may have
 abbrev pub has_few_tokens : Marking → Bool
-has_few_tokens m = list_all (λ tokens. nat_le (length tokens) 65536) m
+has_few_tokens m = list_all (λ tokens. nat_le (length tokens) most_tokens) m
 
--- The net is sound, and the initial marking is one of its places, with at most 65,536 tokens on each.
+-- The net is sound; the initial marking is one of its places, with at most 65,536 tokens on each; no place keeps time
+-- stamps; the outputs of whatever is covered are no fault; and the net names what a report prints.
 pub record IsWellLoaded (loaded : PlainLoaded) : Type 0 where
-  pub sound : is_sound loaded.net ≡ true
+  pub sound : IsSound loaded.net
   pub marking : IsMarking loaded.net.places loaded.initial
   pub places : length loaded.initial ≡ length loaded.net.places
   pub few : has_few_tokens loaded.initial ≡ true
+  pub untimed : IsUntimed loaded.net
+  pub faultless : IsFaultless loaded.net
+  pub named : IsNamed loaded.net

@@ -1,21 +1,22 @@
 //! Reads net documents: from the bytes of a document to its net and its initial marking.
 //!
-//! A document is one JSON value. [`read_document`] says what it is read as, or why it is not: its bytes
-//! are no JSON value, it is no document that is served yet, or memory ran out. Each net that it gives is
-//! sound. The crate runs no net, and reads and writes nothing outside the program.
+//! A document is one JSON value. [`read_document`] says what it is read as, or refuses it: its bytes are no
+//! JSON value, or it is not served yet. The form of a document is read first, whole, and then its texts.
+//! Each net that is read is sound. The crate runs no net, and reads and writes nothing outside the program.
 #![tactic(auto)]
 
 mod arcs;
 mod declarations;
+mod document;
+mod form;
 mod grouping;
 mod initials;
+mod joins;
 mod loading;
 mod marking;
-mod modules;
 mod names;
 mod net_arcs;
 mod parts;
-mod places;
 mod reading;
 mod refusals;
 mod texts;
@@ -23,7 +24,7 @@ mod transitions;
 
 pub use loading::Loaded;
 pub use reading::read_document;
-pub use refusals::DocError;
+pub use refusals::{DocError, Pointer};
 
 #[cfg(test)]
 mod tests;

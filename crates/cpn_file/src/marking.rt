@@ -4,10 +4,8 @@ ghost use Rattle.std.specs.Prelude.{◌≡◌, ◌<◌, ◌^◌, [], Some, lengt
 ghost use Rattle.cpn_definitions.specs.Value.{int};
 ghost use Rattle.cpn_core.specs.Views.{value_view};
 ghost use Rattle.cpn_file.specs.Loading.{initial_tokens};
-ghost use Rattle.cpn_file.specs.Views.{places_view};
 
 use crate::initials::Initial;
-use crate::places::PlacePart;
 use cpn_core::{Memory, PlainMarking, Value};
 use std::alloc::Global;
 
@@ -30,15 +28,15 @@ fn add_tokens(marking: &mut PlainMarking, place: u32, written: Initial) -> Resul
     Ok(())
 }
 
-/// The initial marking of the places.
-pub(crate) fn marked(alloc: Global, places: &[PlacePart]) -> Result<PlainMarking, Memory>
-    requires few { length places.now < 2 ^ 32 }
-    ensures { IfOk result (λ marking. marking ≡ map (λ place. initial_tokens place.initial) (places_view places.now)) }
+/// The marking of places that have these initial markings.
+pub(crate) fn marked(alloc: Global, initials: &[Option<Initial>]) -> Result<PlainMarking, Memory>
+    requires few { length initials.now < 2 ^ 32 }
+    ensures { IfOk result (λ marking. marking ≡ map initial_tokens initials.now) }
 {
-    let mut marking = PlainMarking::new(alloc, places.len())?;
-    for (number, place) in places.iter().enumerate() {
-        if let Some(initial) = place.initial {
-            add_tokens(&mut marking, number as u32, initial)?;
+    let mut marking = PlainMarking::new(alloc, initials.len())?;
+    for (number, initial) in initials.iter().enumerate() {
+        if let Some(written) = *initial {
+            add_tokens(&mut marking, number as u32, written)?;
         }
     }
     Ok(marking)

@@ -1,51 +1,106 @@
-//! The numbers of names.
+//! Lists of names, each with its number.
 
-ghost use Rattle.std.specs.Prelude.{◌≡◌, ◌<◌, ◌^◌, length, IfOk};
-ghost use Rattle.cpn_file.specs.Names.{texts_of as bytes_of, strings_of};
-ghost use Rattle.cpn_file.specs.Document.{apart, number_of_name as named};
-ghost use Rattle.cpn_file.specs.Refusals.{Gives};
+ghost use Rattle.std.specs.Prelude.{◌≡◌, ◌+◌, ◌<◌, ◌^◌, ℕ, List, [], ◌∷◌, ◌++◌, length, slice_index_or, true, false, not, if◌then◌else◌, IfOk, OnOk, OnErr};
+ghost use Rattle.cpn_file.specs.Names.{texts_of as bytes_of};
+ghost use Rattle.cpn_file.specs.Parts.{is_one_of};
+ghost use Rattle.cpn_file.specs.Document.{are_apart as are_all_apart};
+ghost use Rattle.cpn_file.specs.Loading.{number_of_name};
 
-use crate::refusals::DocError;
 use indexmap::IndexSet;
 use std::alloc::{AllocError, Global};
+use std::marker::Model;
 
-/// The names in order, each once and each with a number of 32 bits.
-pub(crate) fn numbered<'n>(alloc: Global, names: &[&'n str]) -> Result<IndexSet<&'n str>, DocError>
-    ensures given { Gives (λ set. bytes_of set.keys) result (apart (bytes_of names.now)) }
-    ensures few { IfOk result (λ set. length set.keys < 2 ^ 32) }
-{
-    if u32::try_from(names.len()).is_err() {
-        return Err(DocError::NotYet);
-    }
-    let mut set = IndexSet::new(alloc);
-    for name in names {
-        let (_, added) = set.insert_full(*name)?;
-        if !added {
-            return Err(DocError::NotYet);
+/// Names in order, none of them twice, each with a number of 32 bits: its position.
+#[derive(Drop)]
+pub(crate) struct Names<'n> {
+    set: IndexSet<&'n str>,
+}
+
+impl<'n> Model for Names<'n> {
+    ghost use Rattle.std.specs.Prelude.{ℕ, ◌<◌, ◌^◌, List, length};
+    ghost use Rattle.cpn_file.specs.Names.{texts_of as bytes_of};
+
+    ghost Value = { List (List ℕ) };
+
+    ghost view = { λ names. bytes_of names.set.keys };
+
+    ghost invariant = { λ names. length names.set.keys < 2 ^ 32 };
+}
+
+impl<'n> Names<'n> {
+    /// No names.
+    pub(crate) fn new(alloc: Global) -> Names<'n>
+        ensures empty { result ≡ [] }
+    {
+        Names {
+            set: IndexSet::new(alloc),
         }
     }
-    Ok(set)
-}
 
-/// The number of a name.
-#[tactic(auto, using(crate::proofs::NameLists::number_seen))]
-pub(crate) fn number_of_name(names: &IndexSet<&str>, name: &str) -> Result<u32, DocError>
-    requires few { length names.now.keys < 2 ^ 32 }
-    ensures { Gives (λ number. number) result (named name.now (bytes_of names.now.keys)) }
-{
-    match names.get_index_of(name) {
-        Some(index) => Ok(index as u32),
-        None => Err(DocError::NotYet),
+    /// How many names there are.
+    pub(crate) fn len(&self) -> usize
+        ensures number { result ≡ length self.now }
+    {
+        self.set.len()
+    }
+
+    /// The name of a number.
+    pub(crate) fn name(&self, number: usize) -> &'n str
+        requires in_range { number < length self.now }
+        ensures name { result.now ≡ slice_index_or self.now number [] }
+    {
+        match self.set.get_index(number) {
+            Some(name) => name,
+            None => unreachable!(),
+        }
+    }
+
+    /// Adds a name at the end, unless it is there already. Answers whether it was added.
+    pub(crate) fn add(&mut self, name: &'n str) -> Result<bool, AllocError>
+        requires room { length self.old + 1 < 2 ^ 32 }
+        ensures added { IfOk result (λ added. added ≡ not (is_one_of name.now self.old)) }
+        ensures names { IfOk result (λ added. self.new ≡ (if added then self.old ++ name.now ∷ [] else self.old)) }
+        ensures unchanged { OnErr result (self.new ≡ self.old) }
+    {
+        let (_, added) = self.set.insert_full(name)?;
+        Ok(added)
+    }
+
+    /// The number of a name.
+    #[tactic(auto, using(crate::proofs::NameLists::number_seen))]
+    pub(crate) fn number_of(&self, name: &str) -> Option<u32>
+        ensures number { result ≡ number_of_name name.now self.now }
+    {
+        let index = self.set.get_index_of(name)?;
+        Some(index as u32)
+    }
+
+    /// The names of texts that are apart.
+    pub(crate) fn of(alloc: Global, texts: &[&'n str]) -> Result<Names<'n>, AllocError>
+        requires apart { are_all_apart (bytes_of texts.now) ≡ true }
+        ensures names { IfOk result (λ names. names ≡ bytes_of texts.now) }
+    {
+        let mut names = Names::new(alloc);
+        for text in texts {
+            names.add(text)?;
+        }
+        Ok(names)
     }
 }
 
-/// The names as texts.
-pub(crate) fn texts_of<'n>(alloc: Global, names: &'n [String]) -> Result<Vec<&'n str>, AllocError>
-    ensures { IfOk result (λ texts. bytes_of texts.items ≡ strings_of names.now) }
+/// Whether each of the texts has a number of 32 bits of its own: they are few enough, and none is there
+/// twice.
+pub(crate) fn are_apart(alloc: Global, texts: &[&str]) -> Result<bool, AllocError>
+    ensures tells { IfOk result (λ apart. apart ≡ are_all_apart (bytes_of texts.now)) }
 {
-    let mut texts = Vec::with_capacity(alloc, names.len())?;
-    for name in names {
-        texts.push(name.as_str())?;
+    if u32::try_from(texts.len()).is_err() {
+        return Ok(false);
     }
-    Ok(texts)
+    let mut names = Names::new(alloc);
+    for text in texts {
+        if !names.add(text)? {
+            return Ok(false);
+        }
+    }
+    Ok(true)
 }

@@ -1,12 +1,13 @@
 //! The arcs of the net, made of those of the document.
 
 ghost use Rattle.std.specs.Prelude.{◌≡◌, IfOk};
-ghost use Rattle.cpn_definitions.specs.Sound.{int_colour as integers};
+ghost use Rattle.cpn_file.specs.Served.{int_colour as integers};
 ghost use Rattle.cpn_core.specs.Colours.{colour_view};
 ghost use Rattle.cpn_core.specs.Nets.{expr_view, pattern_view, arc_view, arcs_view};
 ghost use Rattle.cpn_file.specs.Loading.{is_input as leads_to_transition, is_output as leads_to_place, inscription_expr, inscription_pattern, input_of as input_in, output_of as output_in, inputs_among as inputs_in, outputs_among as outputs_in};
 
-use crate::arcs::{Arc, Inscription, Way};
+use crate::arcs::{Arc, Inscription};
+use crate::document::Way;
 use cpn_core::{ArcExpr, BindingTerm, Colour, Expr, MExpr, Pat, PlaceArc, Shape, Value};
 use std::alloc::{AllocError, Global};
 

@@ -1,19 +1,21 @@
 //! From the bytes of a document to its net.
 
-ghost use Rattle.std.specs.Prelude.{◌≡◌, IfOk, IfErr, IsErrOf};
+ghost use Rattle.std.specs.Prelude.{◌≡◌, ℕ, List, IfOk, IfErr, IfSome};
 ghost use Rattle.serde_json.specs.View.{view};
+ghost use Rattle.cpn_file.specs.Reading.{Reading, read, refused};
 ghost use Rattle.cpn_file.specs.Loading.{PlainLoaded, loaded_in};
 ghost use Rattle.cpn_file.specs.Loads.{loaded_view};
-ghost use Rattle.cpn_file.specs.Reads.{Reads, IsNotYet, IsNotJson};
+ghost use Rattle.cpn_file.specs.Reads.{IsReadAs};
 ghost use Rattle.cpn_file.specs.WellLoaded.{IsWellLoaded};
-ghost use Rattle.cpn_file.specs.Refusals.{Gives};
+ghost use Rattle.cpn_file.specs.Answers.{Gives, refusal_of};
 
+use crate::form::document_of;
 use crate::loading::{Loaded, loaded_of};
-use crate::modules::document_of;
 use crate::refusals::DocError;
 use serde_json::Value;
 use std::alloc::Global;
 
+/// The form of the document first, whole, and then its texts.
 #[tactic(auto, unfolding(crate::specs::Loading::loaded_in))]
 fn loaded_from_value(alloc: Global, value: &Value) -> Result<Loaded, DocError>
     ensures { Gives loaded_view result (loaded_in (view value.now)) }
@@ -29,15 +31,15 @@ fn loaded_from_value(alloc: Global, value: &Value) -> Result<Loaded, DocError>
 ///
 /// # Errors
 ///
-/// - [`DocError::Memory`]: memory ran out.
 /// - [`DocError::NotJson`]: the bytes are no JSON value.
-/// - [`DocError::NotYet`]: the bytes are a JSON value, but no document that is served yet.
+/// - [`DocError::NotYet`]: the bytes are a JSON value that is not served yet.
+/// - [`DocError::Memory`]: memory ran out.
 pub fn read_document(alloc: Global, bytes: &[u8]) -> Result<Loaded, DocError>
-    ensures ok { IfOk result (λ loaded. Reads bytes.now (loaded_view loaded)) }
-    ensures sound { IfOk result (λ loaded. IsWellLoaded (loaded_view loaded)) }
-    ensures not_json { IsErrOf result DocError.NotJson → IsNotJson bytes.now }
-    ensures not_yet { IsErrOf result DocError.NotYet → IsNotYet bytes.now }
-    ensures complete { (loaded : PlainLoaded) → Reads bytes.now loaded → IfErr result (λ e. e ≡ DocError.Memory) }
+    ensures reads { IfOk result (λ loaded. IsReadAs bytes.now (read (loaded_view loaded))) }
+    ensures well_loaded { IfOk result (λ loaded. IsWellLoaded (loaded_view loaded)) }
+    ensures refuses { IfErr result (λ e. IfSome (refusal_of e) (λ refusal. IsReadAs bytes.now (refused refusal))) }
+    // Whatever the bytes are read as is answered, but for want of memory.
+    ensures complete { (reading : Reading PlainLoaded) → IsReadAs bytes.now reading → Gives loaded_view result reading }
 {
     match Value::from_slice(alloc, bytes) {
         Ok(value) => {

@@ -76,7 +76,7 @@ pub(crate) fn is_name(text: &str) -> bool
     is_letter(bytes[0])
         && are_name_bytes(bytes)
         && bytes[bytes.len() - 1] != b' '
-        && bytes.len() <= 64
+        && bytes.len() <= MOST_NAME_BYTES
 }
 
 /// The number that a text of 1 to 18 digits is.
@@ -86,7 +86,7 @@ pub(crate) fn number_of(text: &str) -> Option<u64>
     ensures small { IfSome result (λ n. n < 10 ^ 18) }
     ensures some { OnSome result (0 < length text.now) }
 {
-    if !are_digits(text.as_bytes()) || text.is_empty() || text.len() > 18 {
+    if !are_digits(text.as_bytes()) || text.is_empty() || text.len() > MOST_DIGITS {
         return None;
     }
     match text.parse::<u64>() {
@@ -95,6 +95,15 @@ pub(crate) fn number_of(text: &str) -> Option<u64>
     }
 }
 
+/// The most tokens that an initial marking may have.
+const MOST_TOKENS: u64 = 65_536;
+
+/// The most bytes of a name, and the most digits of a number.
+const MOST_NAME_BYTES: usize = 64;
+
+const MOST_DIGITS: usize = 18;
+
+/// The words that name no variable: those of the language, and the functions declared in advance.
 const RESERVED: [&str; 40] = [
     "colset", "var", "val", "fun", "with", "product", "list", "union", "timed", "unit", "bool",
     "int", "string", "if", "then", "else", "case", "of", "let", "in", "end", "foldl", "over",
@@ -152,7 +161,7 @@ fn count_of(text: &str) -> Option<u64>
     ensures { result ≡ count_in text.now }
 {
     let count = number_of(text)?;
-    if text.as_bytes()[0] == b'0' || count > 65536 {
+    if text.as_bytes()[0] == b'0' || count > MOST_TOKENS {
         None
     } else {
         Some(count)
@@ -168,7 +177,7 @@ fn parts_of(text: &str) -> Option<(&str, &str)>
 
 /// The initial marking that a text is.
 #[tactic(auto, unfolding(crate::specs::Texts::initial_in))]
-pub(crate) fn initial_of(text: &str) -> Option<Initial>
+pub(crate) fn written_of(text: &str) -> Option<Initial>
     ensures { result ≡ initial_in text.now }
 {
     match parts_of(text) {

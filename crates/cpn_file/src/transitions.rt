@@ -2,17 +2,19 @@
 
 ghost use Rattle.std.specs.Prelude.{◌≡◌, List, length, map, string_bytes, IfOk};
 ghost use Rattle.cpn_core.specs.Nets.{multiset_view, arcs_view, transition_view};
-ghost use Rattle.cpn_definitions.specs.Sound.{is_bound_by};
+ghost use Rattle.cpn_definitions.specs.Net.{is_variable};
 ghost use Rattle.cpn_file.specs.Loading.{flattened as flattened_name, stands_on as is_on, variables_on as variables_in, transition_with as transition_in, transitions_from};
-ghost use Rattle.cpn_file.specs.Names.{strings_of};
+ghost use Rattle.cpn_file.specs.Document.{transition_names};
+ghost use Rattle.cpn_file.specs.Views.{written_views};
 ghost use Rattle.cpn_file.specs.Groups.{HoldsArcs};
 ghost use Rattle.cpn_file.specs.declared.arcs.Arc.{Arc as TheArc};
-ghost use Rattle.cpn_file.specs.Refusals.{Gives};
+ghost use Rattle.cpn_file.specs.Answers.{Gives};
 
 use crate::arcs::Arc;
+use crate::document::TransitionTexts;
 use crate::grouping::grouped;
 use crate::net_arcs::{inputs_among, outputs_among};
-use crate::refusals::DocError;
+use crate::refusals::{DocError, NOT_SERVED};
 use cpn_core::{Expr, Guard, MExpr, PlaceArc, Transition};
 use std::alloc::{AllocError, Global};
 
@@ -30,7 +32,7 @@ pub(crate) fn flattened(alloc: Global, top: &str, name: &str) -> Result<String, 
 }
 
 fn binds(variable: u32, inscription: &MExpr) -> bool
-    ensures { result ≡ is_bound_by variable (multiset_view inscription.now) }
+    ensures { result ≡ is_variable variable (multiset_view inscription.now) }
 {
     match inscription {
         MExpr::One(expr) => match expr {
@@ -67,7 +69,7 @@ fn variables_on(
         if stands_on(inputs, variable) {
             vars.push(variable)?;
         } else if stands_on(outputs, variable) {
-            return Err(DocError::NotYet);
+            return Err(DocError::from(NOT_SERVED));
         }
     }
     Ok(vars)
@@ -85,7 +87,7 @@ fn transition_with(
     let inputs = inputs_among(alloc, arcs)?;
     let outputs = outputs_among(alloc, arcs)?;
     if inputs.len() > MOST_ARCS || outputs.len() > MOST_ARCS - inputs.len() {
-        return Err(DocError::NotYet);
+        return Err(DocError::from(NOT_SERVED));
     }
     let vars = variables_on(alloc, count, inputs.as_slice(), outputs.as_slice())?;
     let guard = Guard {
@@ -105,30 +107,30 @@ fn transitions_with(
     alloc: Global,
     count: u32,
     top: &str,
-    names: &[String],
+    written: &[TransitionTexts],
     groups: &[Vec<Arc>],
 ) -> Result<Vec<Transition>, DocError>
-    requires { length groups.now ≡ length names.now }
-    ensures { (arcs : List TheArc) → HoldsArcs groups.now (length names.now) arcs → Gives (λ transitions. map transition_view transitions.items) result (transitions_from count top.now arcs 0 (strings_of names.now)) }
+    requires { length groups.now ≡ length written.now }
+    ensures { (arcs : List TheArc) → HoldsArcs groups.now (length written.now) arcs → Gives (λ transitions. map transition_view transitions.items) result (transitions_from count top.now arcs 0 (transition_names (written_views written.now))) }
 {
     let mut transitions = Vec::new(alloc);
-    for (number, name) in names.iter().enumerate() {
-        let name = flattened(alloc, top, name.as_str())?;
+    for (number, transition) in written.iter().enumerate() {
+        let name = flattened(alloc, top, transition.name)?;
         transitions.push(transition_with(alloc, count, name, groups[number].as_slice())?)?;
     }
     Ok(transitions)
 }
 
-/// The transitions of these names, each with its own of the arcs.
+/// The transitions that are written, each with its own of the arcs.
 pub(crate) fn transitions_of(
     alloc: Global,
     count: u32,
     top: &str,
-    names: &[String],
+    written: &[TransitionTexts],
     arcs: &[Arc],
 ) -> Result<Vec<Transition>, DocError>
-    ensures { Gives (λ transitions. map transition_view transitions.items) result (transitions_from count top.now arcs.now 0 (strings_of names.now)) }
+    ensures { Gives (λ transitions. map transition_view transitions.items) result (transitions_from count top.now arcs.now 0 (transition_names (written_views written.now))) }
 {
-    let groups = grouped(alloc, arcs, names.len())?;
-    transitions_with(alloc, count, top, names, groups.as_slice())
+    let groups = grouped(alloc, arcs, written.len())?;
+    transitions_with(alloc, count, top, written, groups.as_slice())
 }

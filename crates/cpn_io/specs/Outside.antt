@@ -35,14 +35,3 @@ TakesAtMost old new most = (taken : List ℕ) × (length taken ≤ most) × Cons
 -- Of the bytes to be written some were appended, from the front, and at least one was not.
 abbrev pub AppendsProperPrefix : Option (List ℕ) → Option (List ℕ) → List ℕ → Type 0
 AppendsProperPrefix old new bytes = (n : ℕ) × (n < length bytes) × Appends old new (take n bytes)
-
--- the count of faults after a read with this answer: an error counts as one
-abbrev pub after_reading : ℕ → Got → ℕ
-after_reading faults (got.Bytes n) = faults
-after_reading faults got.End = faults
-after_reading faults got.Failed = counted faults
-
--- the count of faults after a write with this answer: an error counts as one
-abbrev pub after_writing : ℕ → Put → ℕ
-after_writing faults (put.Took n) = faults
-after_writing faults put.Failed = counted faults

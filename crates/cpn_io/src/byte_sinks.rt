@@ -4,7 +4,7 @@ ghost use Rattle.cpn_io.specs.Outside.{Rose, WriteDoes};
 ghost use Rattle.cpn_io.specs.OverMemory.{new_sink, WriteFails, TakesMost, after_write};
 
 use crate::outside::{Put, Sink};
-use cpn_core::Memory;
+use cpn_memory::Memory;
 use std::alloc::Global;
 use std::marker::Model;
 

@@ -14,11 +14,12 @@
 //!
 //! There are two kinds of sources and sinks. `BytesSource` and `BytesSink` stand over memory, are told to
 //! the byte, and fail just at the calls that are listed for them, so that a program can be run against a
-//! fault at any call. `Stdin` and `Stdout` are the trusted edge to the running system. They tell nothing of
-//! bytes, since no clause can say what a terminal, a file or a pipe gives.
+//! fault at any call. `Stdin` and `Stdout` are the edge to the running system. They tell of bytes what the
+//! reader and the writer below them tell, and those of the system tell nothing, since no clause can say
+//! what a terminal, a file or a pipe gives.
 //!
 //! The crate never looks into the bytes: it knows nothing of nets, documents or reports. It opens no file,
-//! starts no thread, and neither retries nor hides a fault.
+//! starts no thread, and makes no call again that failed.
 #![tactic(auto)]
 
 mod byte_sinks;
@@ -30,7 +31,7 @@ mod writing;
 
 pub use byte_sinks::BytesSink;
 pub use byte_sources::BytesSource;
-pub use cpn_core::Text;
+pub use cpn_memory::Text;
 pub use outside::{Got, Put, Sink, Source};
 pub use reading::{MOST_BYTES, ReadError, read_all};
 pub use standard_streams::{Stdin, Stdout};

@@ -40,21 +40,26 @@ fn a_sink_takes_pieces_while_it_has_room(rt: HostRuntime) -> Result<(), Fail> {
 }
 
 #[test]
-fn a_source_is_read_up_to_the_limit_and_no_further(rt: HostRuntime) -> Result<(), Fail> {
-    for (count, fits) in [(0, true), (MOST_BYTES, true), (MOST_BYTES + 1, false)] {
+fn as_many_bytes_as_may_be_are_read_and_written(rt: HostRuntime) -> Result<(), Fail> {
+    for count in [0, 4_097, 100_001, MOST_BYTES] {
         let spaces = vec![in rt.alloc(); b' '; count]?;
-        let mut source = BytesSource::new(spaces, Vec::new(rt.alloc()), 4000);
-        match read_all(rt.alloc(), &mut source) {
-            Ok(bytes) => {
-                assert!(rt; fits, "at {count}");
-                assert_eq!(rt; bytes.len(), count);
-            }
-            Err(error) => {
-                assert!(rt; !fits, "at {count}");
-                assert_eq!(rt; error, ReadError::TooLong);
-            }
-        }
+        let mut source = BytesSource::new(spaces, Vec::new(rt.alloc()), 4_000);
+        let bytes = read_all(rt.alloc(), &mut source)?;
+        let mut sink = BytesSink::new(rt.alloc(), Vec::new(rt.alloc()), 5_000, count)?;
+        assert_eq!(rt; write_all(&mut sink, &bytes), Ok(()), "at {count}");
+        assert_eq!(rt; sink.bytes().len(), count);
     }
+    Ok(())
+}
+
+#[test]
+fn a_byte_more_than_the_limit_is_too_long(rt: HostRuntime) -> Result<(), Fail> {
+    let spaces = vec![in rt.alloc(); b' '; MOST_BYTES + 1]?;
+    let mut source = BytesSource::new(spaces, Vec::new(rt.alloc()), 4_000);
+    assert_eq!(rt;
+        read_all(rt.alloc(), &mut source).err(),
+        Some(ReadError::TooLong)
+    );
     Ok(())
 }
 

@@ -1,2 +1,5 @@
-pub mod Grouping
-pub mod Texts
+pub mod EqualTokens
+pub mod JoinedTexts
+pub mod PrintableNets
+pub mod ScheduleLines
+pub mod ShapedText

@@ -1,1 +1,4 @@
+pub mod Printable
 pub mod Report
+pub mod Schedule
+pub mod ValueText

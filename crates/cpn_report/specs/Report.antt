@@ -1,44 +1,23 @@
 -- The report of a run, line by line. Source: own choice.
-use Rattle.std.specs.Prelude.{ℕ, suc, ◌+◌, Bool, ◌&&◌, ◌==◌, if◌then◌else◌, ℤ, pos, negsuc, List, [], ◌∷◌, ◌++◌, length, map, codes, Option, Some, None}
+use Rattle.std.specs.Prelude.{ℕ, ◌+◌, Bool, ◌&&◌, ◌==◌, if◌then◌else◌, List, [], ◌∷◌, ◌++◌, length, map, codes, Option, Some, None}
 use Rattle.std.specs.List.{flat_map}
 use Rattle.std.specs.Fmt.{decimal}
-use Rattle.cpn_definitions.specs.Value.{PlainValue, unit, boolean, int, constant, text, tuple, bare, applied, list}
+use Rattle.cpn_definitions.specs.Value.{PlainValue}
+use Rattle.cpn_definitions.specs.Colour.{PlainColour}
 use Rattle.cpn_definitions.specs.Order.{same_value}
 use Rattle.cpn_definitions.specs.Marking.{PlainToken, Tokens, Marking}
 use Rattle.cpn_definitions.specs.Net.{Coloured, PlainNet, variable_at, transition_at}
 use Rattle.cpn_definitions.specs.Meaning.{PlainBinding, Fault, overflow, divide_by_zero, empty_list, no_case, not_in_colour, bad_coefficient, bad_delay, too_large}
 use Rattle.cpn_definitions.specs.Occurrence.{PlainElement}
-use Rattle.cpn_definitions.specs.State.{PlainEvent, claim_made, claim_completed, PlainEnd, dead, steps_made, fault_end, PlainOccurrence}
-use Rattle.cpn_definitions.specs.Run.{PlainFinished, Outlook}
+use Rattle.cpn_runs.specs.State.{PlainSetup, PlainEvent, claim_made, claim_completed, PlainEnd, dead, steps_made, fault_end, PlainOccurrence}
+use Rattle.cpn_runs.specs.Run.{PlainFinished, Outlook}
+use Rattle.cpn_report.specs.ValueText.{joined, value_text}
 use Rattle.cpn_report.specs.declared.traces.Trace.{Trace}
 use Rattle.cpn_report.specs.declared.traces.Trace.TheVariants as traces
 
--- an integer, with ~ in front of a negative one
-abbrev pub int_text : ℤ → List ℕ
-int_text (pos n) = decimal n
-int_text (negsuc n) = codes "~" ++ decimal (suc n)
-
--- A value. The values of other colour sets than that of the integers are not printed yet.
-abbrev pub value_text : PlainValue → List ℕ
-value_text (int z) = int_text z
-value_text unit = []
-value_text (boolean b) = []
-value_text (constant k) = []
-value_text (text bytes) = []
-value_text (tuple vs) = []
-value_text (bare k) = []
-value_text (applied k v) = []
-value_text (list vs) = []
-
--- the texts, with one between each two
-abbrev pub joined : List ℕ → List (List ℕ) → List ℕ
-joined between [] = []
-joined between (t ∷ []) = t
-joined between (t ∷ u ∷ us) = t ++ between ++ joined between (u ∷ us)
-
 -- a variable with its value
 abbrev pub pair_text : PlainNet → ℕ × PlainValue → List ℕ
-pair_text n pair = (variable_at n pair.0).name ++ codes "=" ++ value_text pair.1
+pair_text n pair = (variable_at n pair.0).name ++ codes "=" ++ value_text n (variable_at n pair.0).colour pair.1
 
 -- a binding, in declaration order of the variables
 unfoldable pub binding_text : PlainNet → PlainBinding → List ℕ
@@ -119,23 +98,23 @@ abbrev pub groups : Tokens → List Group
 groups [] = []
 groups (t ∷ ts) = grouped_with t (groups ts)
 
--- so many tokens of a value, and their stamp where the place is timed
-abbrev pub group_text : Bool → Group → List ℕ
-group_text timed g = decimal g.count ++ codes "`" ++ value_text g.token.value ++ (if timed then codes "@" ++ decimal g.token.stamp else [])
+-- so many tokens of a value of the place's colour set, and their stamp where the place is timed
+abbrev pub group_text : PlainNet → PlainColour → Group → List ℕ
+group_text n colour g = decimal g.count ++ codes "`" ++ value_text n colour g.token.value ++ (if colour.timed then codes "@" ++ decimal g.token.stamp else [])
 
-abbrev pub tokens_text : Bool → Tokens → List ℕ
-tokens_text timed [] = codes "empty"
-tokens_text timed (t ∷ ts) = joined (codes " ++ ") (map (group_text timed) (groups (t ∷ ts)))
+abbrev pub tokens_text : PlainNet → PlainColour → Tokens → List ℕ
+tokens_text n colour [] = codes "empty"
+tokens_text n colour (t ∷ ts) = joined (codes " ++ ") (map (group_text n colour) (groups (t ∷ ts)))
 
 -- the line of a place: its flattened name and its tokens
-unfoldable pub place_line : Coloured → Tokens → List ℕ
-place_line place tokens = codes "place " ++ place.name ++ codes " " ++ tokens_text place.colour.timed tokens ++ codes "\n"
+unfoldable pub place_line : PlainNet → Coloured → Tokens → List ℕ
+place_line n place tokens = codes "place " ++ place.name ++ codes " " ++ tokens_text n place.colour tokens ++ codes "\n"
 
 -- a line for each place, in order
-abbrev pub place_lines : List Coloured → Marking → List ℕ
-place_lines [] m = []
-place_lines (place ∷ places) [] = []
-place_lines (place ∷ places) (tokens ∷ m) = place_line place tokens ++ place_lines places m
+abbrev pub place_lines : PlainNet → List Coloured → Marking → List ℕ
+place_lines n [] m = []
+place_lines n (place ∷ places) [] = []
+place_lines n (place ∷ places) (tokens ∷ m) = place_line n place tokens ++ place_lines n places m
 
 unfoldable pub ready_line : ℕ → List ℕ
 ready_line count = codes "ready " ++ decimal count ++ codes "\n"
@@ -148,23 +127,22 @@ total_line count = codes "total " ++ decimal count ++ codes "\n"
 
 -- the trace of a run: its occurrences and its journal, or nothing where it is off
 unfoldable pub trace_text : Trace → PlainNet → PlainFinished → List ℕ
-trace_text traces.On n outcome = flat_map (occurrence_line n) outcome.occurrences ++ schedule_line outcome.journal
-trace_text traces.Off n outcome = []
+trace_text traces.On n run = flat_map (occurrence_line n) run.occurrences ++ schedule_line run.journal
+trace_text traces.Off n run = []
 
--- The lines of one run: what it starts from, its trace, its end, its last clock and marking, and what is
+-- The lines of the run of a number: what it starts from, its trace, its end, its last clock and marking, and what is
 -- ready and next then.
-unfoldable pub run_text : Trace → PlainNet → ℕ → ℕ → Outlook → PlainFinished → Outlook → List ℕ
-run_text trace n number clock opening outcome closing =
-    run_line number clock opening
-    ++ trace_text trace n outcome
-    ++ end_line n outcome.cause
-    ++ occurrences_line (length outcome.occurrences)
-    ++ clock_line outcome.clock
-    ++ place_lines n.places outcome.marking
-    ++ ready_line closing.ready_count
-    ++ next_line closing.next
+unfoldable pub run_text : Trace → PlainSetup → ℕ → PlainFinished → List ℕ
+run_text trace setup number run =
+    run_line number setup.clock run.opening
+    ++ trace_text trace setup.net run
+    ++ end_line setup.net run.cause
+    ++ occurrences_line (length run.occurrences)
+    ++ clock_line run.clock
+    ++ place_lines setup.net setup.net.places run.marking
+    ++ ready_line run.closing.ready_count
+    ++ next_line run.closing.next
 
--- Text: the report of one run.
-unfoldable pub report_text : Trace → PlainNet → ℕ → Outlook → PlainFinished → Outlook → List ℕ
-report_text trace n clock opening outcome closing =
-    report_line ++ run_text trace n 0 clock opening outcome closing ++ total_line (length outcome.occurrences)
+-- Text: the report of one run of a setup.
+unfoldable pub report_text : Trace → PlainSetup → PlainFinished → List ℕ
+report_text trace setup run = report_line ++ run_text trace setup 0 run ++ total_line (length run.occurrences)

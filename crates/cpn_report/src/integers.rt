@@ -1,7 +1,7 @@
 // An integer as it is printed, with ~ in front of a negative one.
 ghost use Rattle.std.specs.Prelude.{◌≡◌, ◌++◌, OnOk};
 ghost use Rattle.std.specs.String.{string_bytes};
-ghost use Rattle.cpn_report.specs.Report.{int_text};
+ghost use Rattle.cpn_report.specs.ValueText.{int_text};
 
 use cpn_core::Memory;
 use std::fmt::Write;

@@ -8,11 +8,15 @@ mod elements;
 mod groups;
 mod integers;
 mod lines;
+mod names;
 mod places;
 mod reports;
 #[cfg(test)]
 mod tests;
 mod traces;
+mod values;
 
+pub use names::has_names;
 pub use reports::report;
 pub use traces::Trace;
+pub use values::value_text;

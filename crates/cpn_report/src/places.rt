@@ -1,22 +1,33 @@
 // Places as they are printed.
-ghost use Rattle.std.specs.Prelude.{◌≡◌, ◌++◌, map, OnOk};
+ghost use Rattle.std.specs.Prelude.{◌≡◌, ◌++◌, true, map, OnOk};
+ghost use Rattle.std.specs.List.{list_all};
 ghost use Rattle.std.specs.String.{string_bytes};
-ghost use Rattle.cpn_core.specs.Nets.{place_view};
+ghost use Rattle.cpn_definitions.specs.Sound.{IsMarking, may_hold};
+ghost use Rattle.cpn_definitions.specs.Named.{is_named, has_names};
+ghost use Rattle.cpn_core.specs.Colours.{shape_view, colour_view};
+ghost use Rattle.cpn_core.specs.Nets.{net_view, place_view};
 ghost use Rattle.cpn_core.specs.Tokens.{tokens_view};
 ghost use Rattle.cpn_report.specs.Report.{place_line, place_lines};
 
 use crate::groups::push_tokens;
-use cpn_core::{Memory, Place, PlainMarking, Token};
+use cpn_core::{Memory, Net, Place, PlainMarking, Token};
 
 /// Appends the line of a place.
 #[tactic(auto, unfolding(crate::specs::Report::place_line))]
-fn push_place_line(out: &mut String, place: &Place, tokens: &[Token]) -> Result<(), Memory>
-    ensures written { OnOk result (string_bytes out.new ≡ string_bytes out.old ++ place_line (place_view place.now) (tokens_view tokens.now)) }
+pub(crate) fn push_place_line(
+    out: &mut String,
+    net: &Net,
+    place: &Place,
+    tokens: &[Token],
+) -> Result<(), Memory>
+    requires held { list_all (may_hold (colour_view place.now.colour)) (tokens_view tokens.now) ≡ true }
+    requires named { has_names (net_view net.now) (shape_view place.now.colour.shape) ≡ true }
+    ensures written { OnOk result (string_bytes out.new ≡ string_bytes out.old ++ place_line (net_view net.now) (place_view place.now) (tokens_view tokens.now)) }
 {
     out.push_str("place ")?;
     out.push_str(place.name.as_str())?;
     out.push_str(" ")?;
-    push_tokens(out, place.colour.timed, tokens)?;
+    push_tokens(out, net, &place.colour, tokens)?;
     out.push_str("\n")?;
     Ok(())
 }
@@ -24,16 +35,17 @@ fn push_place_line(out: &mut String, place: &Place, tokens: &[Token]) -> Result<
 /// Appends a line for each place of the marking, in order.
 pub(crate) fn push_place_lines(
     out: &mut String,
+    net: &Net,
     places: &[Place],
     marking: &PlainMarking,
 ) -> Result<(), Memory>
-    ensures written { OnOk result (string_bytes out.new ≡ string_bytes out.old ++ place_lines (map place_view places.now) marking.now) }
+    requires named { list_all (is_named (net_view net.now)) (map place_view places.now) ≡ true }
+    requires marking { IsMarking (map place_view places.now) marking.now }
+    ensures written { OnOk result (string_bytes out.new ≡ string_bytes out.old ++ place_lines (net_view net.now) (map place_view places.now) marking.now) }
 {
     for (number, place) in places.iter().enumerate() {
-        let Some(tokens) = marking.get(number) else {
-            return Ok(());
-        };
-        push_place_line(out, place, tokens)?;
+        let tokens = marking.get(number).unwrap();
+        push_place_line(out, net, place, tokens)?;
     }
     Ok(())
 }

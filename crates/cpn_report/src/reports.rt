@@ -2,8 +2,10 @@
 ghost use Rattle.std.specs.Prelude.{◌≡◌, ◌++◌, IfOk, OnOk};
 ghost use Rattle.std.specs.String.{string_bytes};
 ghost use Rattle.cpn_core.specs.Nets.{net_view};
-ghost use Rattle.cpn_core.specs.Finished.{outlook_view, outcome_of};
+ghost use Rattle.cpn_runs.specs.FinishedViews.{setup_view, finished_view};
+ghost use Rattle.cpn_report.specs.Printable.{IsPrintable};
 ghost use Rattle.cpn_report.specs.Report.{trace_text, run_text, report_text};
+ghost use Rattle.cpn_report.specs.Schedule.{SchedulesDiffer};
 
 use crate::elements::push_occurrences;
 use crate::lines::{
@@ -12,18 +14,22 @@ use crate::lines::{
 };
 use crate::places::push_place_lines;
 use crate::traces::Trace;
-use cpn_core::{Finished, Memory};
+use cpn_core::Memory;
+use cpn_runs::Finished;
 use std::alloc::Global;
 
 /// The report of one run that has ended, as text: its first line, the lines of the run, and how many
 /// occurrences there are in all. Without a trace it leaves out the lines of the occurrences and of the
 /// journal, and no other. Source: own choice.
 ///
-/// A number past the last transition or variable of the net stands for one without a name, and a place past
-/// the end of the marking has no line. `Err` comes for want of memory alone.
-#[tactic(auto, unfolding(crate::specs::Report::report_text))]
+/// Each value that is printed is one of the colour set of its variable or its place, and the net has the names for
+/// it. `Err` comes for want of memory alone.
+#[tactic(auto, using(crate::proofs::ScheduleLines::schedules_differ), unfolding(crate::specs::Report::report_text))]
 pub fn report(alloc: Global, trace: Trace, finished: &Finished) -> Result<String, Memory>
-    ensures text { IfOk result (λ text. string_bytes text ≡ report_text trace (net_view finished.now.net.value) finished.now.start_clock (outlook_view finished.now.opening) (outcome_of finished.now) (outlook_view finished.now.closing)) }
+    requires printable { IsPrintable (net_view finished.now.setup.net.value) (finished_view finished.now) }
+    ensures text { IfOk result (λ text. string_bytes text ≡ report_text trace (setup_view finished.now.setup) (finished_view finished.now)) }
+    // The line of a journal tells it apart from each other one, but for the seats.
+    ensures distinct { SchedulesDiffer }
 {
     let mut out = String::new(alloc);
     push_report_line(&mut out)?;
@@ -35,14 +41,16 @@ pub fn report(alloc: Global, trace: Trace, finished: &Finished) -> Result<String
 /// Appends the lines of the run with this number.
 #[tactic(auto, unfolding(crate::specs::Report::run_text))]
 fn push_run(out: &mut String, trace: Trace, number: u64, finished: &Finished) -> Result<(), Memory>
-    ensures written { OnOk result (string_bytes out.new ≡ string_bytes out.old ++ run_text trace (net_view finished.now.net.value) number finished.now.start_clock (outlook_view finished.now.opening) (outcome_of finished.now) (outlook_view finished.now.closing)) }
+    requires printable { IsPrintable (net_view finished.now.setup.net.value) (finished_view finished.now) }
+    ensures written { OnOk result (string_bytes out.new ≡ string_bytes out.old ++ run_text trace (setup_view finished.now.setup) number (finished_view finished.now)) }
 {
-    push_run_line(out, number, finished.start_clock, &finished.opening)?;
+    let net = &*finished.setup.net;
+    push_run_line(out, number, finished.setup.clock, &finished.opening)?;
     push_trace(out, trace, finished)?;
     push_end_line(out, finished)?;
     push_occurrences_line(out, finished.occurrences.len() as u64)?;
     push_clock_line(out, finished.clock)?;
-    push_place_lines(out, &finished.net.places, &finished.marking)?;
+    push_place_lines(out, net, &net.places, &finished.marking)?;
     push_ready_line(out, finished.closing.ready)?;
     push_next_line(out, finished.closing.next)?;
     Ok(())
@@ -51,11 +59,12 @@ fn push_run(out: &mut String, trace: Trace, number: u64, finished: &Finished) ->
 /// Appends the lines of the occurrences and of the journal, unless the trace is off.
 #[tactic(auto, unfolding(crate::specs::Report::trace_text))]
 fn push_trace(out: &mut String, trace: Trace, finished: &Finished) -> Result<(), Memory>
-    ensures written { OnOk result (string_bytes out.new ≡ string_bytes out.old ++ trace_text trace (net_view finished.now.net.value) (outcome_of finished.now)) }
+    requires printable { IsPrintable (net_view finished.now.setup.net.value) (finished_view finished.now) }
+    ensures written { OnOk result (string_bytes out.new ≡ string_bytes out.old ++ trace_text trace (net_view finished.now.setup.net.value) (finished_view finished.now)) }
 {
     match trace {
         Trace::On => {
-            push_occurrences(out, &finished.net, &finished.occurrences)?;
+            push_occurrences(out, &finished.setup.net, &finished.occurrences)?;
             push_schedule_line(out, &finished.journal)?;
         }
         Trace::Off => {}

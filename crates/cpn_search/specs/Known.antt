@@ -1,16 +1,15 @@
--- What a search knows of a transition of a sound net, and of a marking of the net.
+-- What a search knows of a transition of a sound net, and of a marking of the net's places.
 use Rattle.std.specs.Prelude.{◌≡◌, true, nat_lt, length}
 use Rattle.std.specs.List.{list_all, list_any}
 use Rattle.cpn_definitions.specs.Marking.{Marking}
-use Rattle.cpn_definitions.specs.Sound.{is_bound_by}
+use Rattle.cpn_definitions.specs.Net.{is_variable}
 use Rattle.cpn_core.specs.declared.nets.Net.{Net}
 use Rattle.cpn_core.specs.declared.nets.Transition.{Transition}
 use Rattle.cpn_core.specs.Nets.{arc_view}
 
--- The marking has the net's places; the places of the transition's input arcs are among them; its variables are
--- variables of the net, and each is bound by an input arc.
+-- The marking has the places of the transition's input arcs; the transition's variables are variables of the net, and each
+-- is the inscription of an input arc.
 pub record IsKnown (n : Net) (m : Marking) (t : Transition) : Type 0 where
-  pub fits : length m ≡ length n.places.items
   pub placed : list_all (λ arc. nat_lt arc.place (length m)) t.inputs.items ≡ true
   pub declared : list_all (λ x. nat_lt x (length n.variables.items)) t.vars.items ≡ true
-  pub bound : list_all (λ x. list_any (λ arc. is_bound_by x (arc_view arc).expr) t.inputs.items) t.vars.items ≡ true
+  pub bindable : list_all (λ x. list_any (λ arc. is_variable x (arc_view arc).expr) t.inputs.items) t.vars.items ≡ true

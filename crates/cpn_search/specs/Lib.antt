@@ -1,4 +1,7 @@
-pub mod Finds
+pub mod Candidates
+pub mod Assignments
+pub mod Stretches
+pub mod Found
+pub mod FoundViews
 pub mod Known
-pub mod Enough
 pub mod Worked

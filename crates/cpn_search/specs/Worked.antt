@@ -1,23 +1,47 @@
--- The net that the tests search.
-use Rattle.std.specs.Prelude.{◌≡◌, ℕ, pos, [], ◌∷◌, None, map}
-use Rattle.cpn_definitions.specs.Value.{int}
-use Rattle.cpn_definitions.specs.Net.{literal, variable, one, literal_pattern, variable_pattern, PlainArc}
-use Rattle.cpn_definitions.specs.Sound.{int_colour}
-use Rattle.cpn_core.specs.declared.nets.Transition.{Transition}
-use Rattle.cpn_core.specs.Nets.{arc_view}
+-- The nets that the tests search: two places of whole numbers, some variables of whole numbers, and one transition with a
+-- truth value as its guard and with input arcs whose inscriptions are variables or 7.
+use Rattle.std.specs.Prelude.{◌≡◌, ℕ, ◌==◌, pos, negsuc, Bool, ◌&&◌, if◌then◌else◌, nat_lt, List, [], ◌∷◌, None, map, length}
+use Rattle.std.specs.List.{list_all, list_any, range_with_len}
+use Rattle.cpn_definitions.specs.Value.{boolean, int}
+use Rattle.cpn_definitions.specs.Colour.{PlainColour, int_shape}
+use Rattle.cpn_definitions.specs.Net.{PlainExpr, literal, variable, one, PlainArc, PlainTransition, Coloured, PlainNet, transition_at}
+use Rattle.cpn_definitions.specs.Sound.{pattern_of}
 
--- an input arc whose inscription is a variable
-abbrev pub variable_arc : ℕ → ℕ → PlainArc
-variable_arc place x = record { place = place; colour = int_colour; expr = one (variable x); terms = record { count = 1; pattern = variable_pattern x } ∷ [] }
+-- the colour set of the whole numbers from -1,000 to 1,000,000
+abbrev pub numbers : Bool → PlainColour
+numbers timed = record { shape = int_shape (negsuc 999) (pos 1000000); timed = timed }
 
--- an input arc whose inscription is 7
-abbrev pub seven_arc : ℕ → PlainArc
-seven_arc place = record { place = place; colour = int_colour; expr = one (literal (int (pos 7))); terms = record { count = 1; pattern = literal_pattern (int (pos 7)) } ∷ [] }
+-- the inscription of a number: the variable of that number where there are more variables, and else 7
+abbrev pub inscription_of : ℕ → ℕ → PlainExpr
+inscription_of vars x = if nat_lt x vars then variable x else literal (int (pos 7))
 
--- the transition takes x twice from the first place and once from the second, y from the second, and 7 from it
-pub record IsWorked (t : Transition) : Type 0 where
-  pub guard : t.guard.conjuncts.items ≡ []
-  pub delay : t.delay ≡ None
-  pub inputs : map arc_view t.inputs.items ≡ variable_arc 0 0 ∷ variable_arc 0 0 ∷ variable_arc 1 0 ∷ variable_arc 1 1 ∷ seven_arc 1 ∷ []
-  pub outputs : t.outputs.items ≡ []
-  pub vars : t.vars.items ≡ 0 ∷ 1 ∷ []
+-- the input arc of a place and the number of its inscription
+abbrev pub arc_of : Bool → ℕ → ℕ × ℕ → PlainArc
+arc_of timed vars a = record { place = a.0; colour = numbers timed; expr = one (inscription_of vars a.1); terms = record { count = 1; pattern = pattern_of (inscription_of vars a.1) } ∷ [] }
+
+-- whether an arc has the inscription of the number
+abbrev pub has_arc : ℕ → List (ℕ × ℕ) → Bool
+has_arc x arcs = list_any (λ a. a.1 == x) arcs
+
+-- whether the arcs are those of a sound net: they lead to its two places, and each of the variables is the inscription of one
+abbrev pub are_fit : ℕ → List (ℕ × ℕ) → Bool
+are_fit vars arcs = list_all (λ a. nat_lt a.0 2) arcs && list_all (λ x. has_arc x arcs) (range_with_len 0 vars)
+
+-- the places of such a net, but for their names
+abbrev pub two_places : Bool → List Coloured
+two_places timed = record { name = []; colour = numbers timed } ∷ record { name = []; colour = numbers timed } ∷ []
+
+-- The transition has the guard, no delay, the input arcs, no output arcs, and so many variables.
+pub record IsWorkedTransition (timed guard : Bool) (vars : ℕ) (arcs : List (ℕ × ℕ)) (t : PlainTransition) : Type 0 where
+  pub guarded : t.guard ≡ literal (boolean guard) ∷ []
+  pub undelayed : t.delay ≡ None
+  pub inputs : t.inputs ≡ map (arc_of timed vars) arcs
+  pub outputs : t.outputs ≡ []
+  pub listed : t.vars ≡ range_with_len 0 vars
+
+-- The net has two places of whole numbers, so many variables, and one such transition.
+pub record IsWorked (timed guard : Bool) (vars : ℕ) (arcs : List (ℕ × ℕ)) (n : PlainNet) : Type 0 where
+  pub colours : map (λ p. p.colour) n.places ≡ numbers timed ∷ numbers timed ∷ []
+  pub variables : length n.variables ≡ vars
+  pub transitions : length n.transitions ≡ 1
+  pub worked : IsWorkedTransition timed guard vars arcs (transition_at n 0)

@@ -1,11 +1,17 @@
 // The bindings that a search tries: each variable in declaration order with each of its candidates.
-ghost use Rattle.std.specs.Prelude.{◌≡◌, ℕ, ◌+◌, ◌<◌, ◌++◌, nat_lt, true, [], ◌∷◌, length, map, OnOk, IfOk};
-ghost use Rattle.std.specs.List.{list_all, list_any, flat_map};
-ghost use Rattle.cpn_definitions.specs.Sound.{is_bound_by};
-ghost use Rattle.cpn_definitions.proofs.Assignments.{extended, candidates as candidate_values, assignments as assigned, binding_cmp, AreInOrder};
-ghost use Rattle.cpn_definitions.proofs.Rising.{Rises};
+ghost use Rattle.std.specs.Prelude.{◌≡◌, ℕ, ◌+◌, ◌<◌, ◌++◌, nat_lt, true, [], ◌∷◌, length, map, Contains, OnOk, IfOk};
+ghost use Rattle.std.specs.List.{list_all, list_any, flat_map, AllByRecursion};
+ghost use Rattle.cpn_definitions.specs.Lists.{Rises};
+ghost use Rattle.cpn_definitions.specs.Net.{is_variable, transition_at};
+ghost use Rattle.cpn_definitions.specs.Meaning.{PlainBinding};
+ghost use Rattle.cpn_definitions.specs.Occurrence.{binds, covered};
+ghost use Rattle.cpn_definitions.specs.Enabled.{binding_cmp};
+ghost use Rattle.cpn_definitions.specs.Sound.{IsSound, IsMarking};
 ghost use Rattle.cpn_core.specs.Views.{value_view};
 ghost use Rattle.cpn_core.specs.Nets.{arc_view, net_view};
+ghost use Rattle.cpn_search.specs.Candidates.{candidates as candidate_values};
+ghost use Rattle.cpn_search.specs.Assignments.{extended, assignments as assigned, assignments_of, AreInOrder};
+ghost use Rattle.cpn_search.specs.Found.{element_of};
 ghost use Rattle.cpn_search.specs.Known.{IsKnown};
 
 use crate::candidates::candidates;
@@ -63,7 +69,7 @@ fn with_candidates(
 ) -> Result<Vec<Binding>, Memory>
     requires known { IsKnown net.now marking.now transition.now }
     requires declared { variable < length net.now.variables.items }
-    requires bound { list_any (λ arc. is_bound_by variable (arc_view arc).expr) transition.now.inputs.items ≡ true }
+    requires bindable { list_any (λ arc. is_variable variable (arc_view arc).expr) transition.now.inputs.items ≡ true }
     ensures extended { IfOk result (λ longer. longer.items ≡ flat_map (extended variable (candidate_values (net_view net.now) marking.now (map arc_view transition.now.inputs.items) variable)) bindings.items) }
     ensures in_order { IfOk result (λ longer. (k : ℕ) → AreInOrder k bindings.items → AreInOrder (k + 1) longer.items) }
 {
@@ -73,7 +79,7 @@ fn with_candidates(
 }
 
 /// The bindings of a transition's variables, each with one of its candidates, in order.
-pub fn assignments(
+fn all_assigned(
     alloc: Global,
     net: &Net,
     marking: &PlainMarking,
@@ -88,5 +94,25 @@ pub fn assignments(
     for variable in &transition.vars {
         bindings = with_candidates(alloc, net, marking, transition, bindings, *variable)?;
     }
+    Ok(bindings)
+}
+
+/// The bindings of the variables of a transition of a sound net, each with one of its candidates, in order:
+/// none with which the transition is covered at some time is left out.
+pub fn assignments(
+    alloc: Global,
+    net: &Net,
+    marking: &PlainMarking,
+    t: u32,
+) -> Result<Vec<Binding>, Memory>
+    requires sound { IsSound (net_view net.now) }
+    requires marking { IsMarking (net_view net.now).places marking.now }
+    requires in_range { t < length net.now.transitions.items }
+    ensures assigned { IfOk result (λ bindings. bindings.items ≡ assignments_of (net_view net.now) marking.now t) }
+    ensures in_order { IfOk result (λ bindings. Rises binding_cmp bindings.items) }
+    ensures bound { IfOk result (λ bindings. AllByRecursion (λ b. binds (net_view net.now) (transition_at (net_view net.now) t).vars b ≡ true) bindings.items) }
+    ensures complete { IfOk result (λ bindings. (time : ℕ) (b : PlainBinding) → covered (net_view net.now) marking.now time (element_of t b) ≡ true → Contains bindings.items b) }
+{
+    let bindings = all_assigned(alloc, net, marking, &net.transitions[t as usize])?;
     Ok(bindings)
 }

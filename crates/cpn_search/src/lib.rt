@@ -7,10 +7,9 @@
 
 mod assignments;
 mod candidates;
-mod covering;
+mod earliest;
 mod searching;
 #[cfg(test)]
 mod tests;
 
-pub use covering::is_covered;
 pub use searching::{enabled, enabled_of};

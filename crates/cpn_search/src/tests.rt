@@ -1,105 +1,169 @@
 // What no clause says: that the calls succeed where memory is left, and that the definitions mean what the
 // table here says, which was filled in by hand.
-ghost use Rattle.std.specs.Prelude.{◌≡◌, ◌<◌, true, [], ◌∷◌, length, map, IfOk};
-ghost use Rattle.cpn_definitions.specs.Net.{one};
-ghost use Rattle.cpn_definitions.specs.Sound.{int_colour, is_sound};
+ghost use Rattle.std.specs.Prelude.{◌≡◌, ◌<◌, ◌≤◌, nat_lt, true, [], length, map, IfOk, OnOk};
+ghost use Rattle.std.specs.List.{list_all, range_with_len};
+ghost use Rattle.cpn_definitions.specs.Marking.{Marking};
+ghost use Rattle.cpn_definitions.specs.Sound.{pattern_of, IsSound, IsMarking};
 ghost use Rattle.cpn_core.specs.Colours.{colour_view};
-ghost use Rattle.cpn_core.specs.Nets.{expr_view, pattern_view, arc_view, net_view};
-ghost use Rattle.cpn_search.specs.Worked.{variable_arc, seven_arc, IsWorked};
+ghost use Rattle.cpn_core.specs.Nets.{expr_view, pattern_view, arc_view, transition_view, net_view};
+ghost use Rattle.cpn_search.specs.Worked.{numbers as numbers_colour, inscription_of, arc_of, has_arc as some_arc, two_places, IsWorkedTransition, IsWorked};
 
 use super::*;
 use cpn_core::{
-    ArcExpr, BindingTerm, Colour, Expr, Found, Guard, MExpr, Memory, Net, Pat, Place, PlaceArc,
-    PlainMarking, Shape, Transition, Value, Variable,
+    ArcExpr, BindingTerm, Colour, Entry, Expr, Found, Funs, Guard, MExpr, Memory, Net, Pat, Place,
+    PlaceArc, PlainMarking, Shape, Transition, Value, Variable,
 };
 use std::alloc::Global;
+use std::sync::Arc;
 use std::test::Fail;
 
-/// The colour set of all integers.
-fn integers() -> Colour
-    ensures { colour_view result ≡ int_colour }
+/// A net of the places A and B and one transition, and a marking: whether the places are timed, the guard, the number of
+/// variables, the input arcs, each by its place and the number of its inscription, and the tokens on A and on B, each
+/// by its number and its stamp; and what is found: the values of x and y, or 0, and the least time.
+#[derive(Clone, Copy)]
+struct Worked<'a> {
+    timed: bool,
+    guard: bool,
+    vars: u32,
+    arcs: &'a [(u32, u32)],
+    first: &'a [(i64, u64)],
+    second: &'a [(i64, u64)],
+    found: &'a [(i64, i64, u64)],
+}
+
+/// The colour set of the whole numbers from -1,000 to 1,000,000.
+fn numbers(timed: bool) -> Colour
+    ensures { colour_view result ≡ numbers_colour timed }
 {
-    Colour {
-        shape: Shape::Int {
-            low: i64::MIN,
-            high: i64::MAX,
-        },
-        timed: false,
+    let shape = Shape::Int {
+        low: -1_000,
+        high: 1_000_000,
+    };
+    Colour { shape, timed }
+}
+
+/// The inscription of a number: the variable of that number where there are more variables, and else 7.
+fn inscription(vars: u32, number: u32) -> Expr
+    ensures { expr_view result ≡ inscription_of vars number }
+{
+    if number < vars {
+        Expr::Var(number)
+    } else {
+        Expr::Lit(Value::Int(7))
     }
 }
 
-/// A place of integers.
-fn place(alloc: Global, name: &str) -> Result<Place, Memory>
-    ensures { IfOk result (λ place. colour_view place.colour ≡ int_colour) }
+fn pattern(vars: u32, number: u32) -> Pat
+    ensures { pattern_view result ≡ pattern_of (inscription_of vars number) }
 {
-    let name = String::from_str(alloc, name)?;
-    Ok(Place {
-        name,
-        colour: integers(),
-    })
+    if number < vars {
+        Pat::Var(number)
+    } else {
+        Pat::Lit(Value::Int(7))
+    }
 }
 
-/// A variable of integers.
-fn variable(alloc: Global, name: &str) -> Result<Variable, Memory>
-    ensures { IfOk result (λ variable. colour_view variable.colour ≡ int_colour) }
+/// An input arc, of its place and the number of its inscription.
+fn input(alloc: Global, timed: bool, vars: u32, place: u32, number: u32) -> Result<PlaceArc, Memory>
+    ensures { IfOk result (λ arc. arc_view arc ≡ arc_of timed vars (place, number)) }
 {
-    let name = String::from_str(alloc, name)?;
-    Ok(Variable {
-        name,
-        colour: integers(),
-    })
-}
-
-/// An input arc with its inscription, which is also its pattern.
-fn input(alloc: Global, place: u32, expr: Expr, pattern: Pat) -> Result<PlaceArc, Memory>
-    ensures { IfOk result (λ arc. arc_view arc ≡ record { place = place; colour = int_colour; expr = one (expr_view expr); terms = record { count = 1; pattern = pattern_view pattern } ∷ [] }) }
-{
-    let terms = Vec::from_array(alloc, [BindingTerm { count: 1, pattern }])?;
+    let term = BindingTerm {
+        count: 1,
+        pattern: pattern(vars, number),
+    };
+    let terms = Vec::from_array(alloc, [term])?;
     let inscription = ArcExpr {
-        colour: integers(),
-        expr: MExpr::One(expr),
+        colour: numbers(timed),
+        expr: MExpr::One(inscription(vars, number)),
         terms,
     };
     Ok(PlaceArc { place, inscription })
 }
 
-/// An input arc whose inscription is a variable.
-fn takes(alloc: Global, place: u32, variable: u32) -> Result<PlaceArc, Memory>
-    ensures { IfOk result (λ arc. arc_view arc ≡ variable_arc place variable) }
+fn inputs(
+    alloc: Global,
+    timed: bool,
+    vars: u32,
+    arcs: &[(u32, u32)],
+) -> Result<Vec<PlaceArc>, Memory>
+    ensures { IfOk result (λ inputs. map arc_view inputs.items ≡ map (arc_of timed vars) arcs.now) }
 {
-    let arc = input(alloc, place, Expr::Var(variable), Pat::Var(variable))?;
-    Ok(arc)
+    let mut inputs = Vec::new(alloc);
+    for (place, number) in arcs {
+        inputs.push(input(alloc, timed, vars, *place, *number)?)?;
+    }
+    Ok(inputs)
 }
 
-/// An input arc whose inscription is 7.
-fn takes_seven(alloc: Global, place: u32) -> Result<PlaceArc, Memory>
-    ensures { IfOk result (λ arc. arc_view arc ≡ seven_arc place) }
+/// The numbers of so many variables.
+fn listed(alloc: Global, vars: u32) -> Result<Vec<u32>, Memory>
+    ensures { IfOk result (λ numbers. numbers.items ≡ range_with_len 0 vars) }
 {
-    let arc = input(
-        alloc,
-        place,
-        Expr::Lit(Value::Int(7)),
-        Pat::Lit(Value::Int(7)),
-    )?;
-    Ok(arc)
+    let mut numbers = Vec::new(alloc);
+    for x in 0..vars {
+        numbers.push(x)?;
+    }
+    Ok(numbers)
 }
 
-/// The transition that takes x twice from A and once from B, y from B, and 7 from B.
-fn transition(alloc: Global) -> Result<Transition, Memory>
-    ensures { IfOk result (λ t. IsWorked t) }
+/// Variables of whole numbers.
+fn variables(alloc: Global, vars: u32) -> Result<Vec<Variable>, Memory>
+    ensures { IfOk result (λ variables. length variables.items ≡ vars) }
 {
-    let twice = [takes(alloc, 0, 0)?, takes(alloc, 0, 0)?];
-    let mut inputs = Vec::from_array(alloc, twice)?;
-    inputs.push(takes(alloc, 1, 0)?)?;
-    inputs.push(takes(alloc, 1, 1)?)?;
-    inputs.push(takes_seven(alloc, 1)?)?;
-    let vars = Vec::from_array(alloc, [0, 1])?;
-    let name = String::from_str(alloc, "Top/t")?;
+    let mut variables = Vec::new(alloc);
+    for x in 0..vars {
+        let _number = x;
+        let name = String::from_str(alloc, "x")?;
+        variables.push(Variable {
+            name,
+            colour: numbers(true),
+        })?;
+    }
+    Ok(variables)
+}
+
+/// Whether an arc has the inscription of the number.
+fn has_arc(arcs: &[(u32, u32)], number: u32) -> bool
+    ensures { result ≡ some_arc number arcs.now }
+{
+    arcs.iter().any(|arc| arc.1 == number)
+}
+
+/// Whether each arc leads to one of two places.
+fn are_placed(arcs: &[(u32, u32)]) -> bool
+    ensures { result ≡ list_all (λ a. nat_lt a.0 2) arcs.now }
+{
+    arcs.iter().all(|arc| arc.0 < 2)
+}
+
+/// Whether each of so many variables is the inscription of an arc.
+fn are_used(arcs: &[(u32, u32)], vars: u32) -> bool
+    ensures { result ≡ list_all (λ x. some_arc x arcs.now) (range_with_len 0 vars) }
+{
+    for x in 0..vars {
+        if !has_arc(arcs, x) {
+            return false;
+        }
+    }
+    true
+}
+
+/// The transition with the guard and the input arcs.
+fn transition(
+    alloc: Global,
+    timed: bool,
+    guard: bool,
+    vars: u32,
+    arcs: &[(u32, u32)],
+) -> Result<Transition, Memory>
+    ensures { IfOk result (λ t. IsWorkedTransition timed guard vars arcs.now (transition_view t)) }
+{
+    let conjuncts = Vec::from_array(alloc, [Expr::Lit(Value::Bool(guard))])?;
+    let inputs = inputs(alloc, timed, vars, arcs)?;
+    let vars = listed(alloc, vars)?;
     Ok(Transition {
-        name,
-        guard: Guard {
-            conjuncts: Vec::new(alloc),
-        },
+        name: String::from_str(alloc, "Top/t")?,
+        guard: Guard { conjuncts },
         delay: None,
         inputs,
         outputs: Vec::new(alloc),
@@ -107,82 +171,378 @@ fn transition(alloc: Global) -> Result<Transition, Memory>
     })
 }
 
-/// The net of the transition, with the places A and B and the variables x and y.
-fn worked_net(alloc: Global) -> Result<Net, Memory>
-    ensures sound { IfOk result (λ net. is_sound (net_view net) ≡ true) }
-    ensures places { IfOk result (λ net. length net.places.items ≡ 2) }
-    ensures transitions { IfOk result (λ net. length net.transitions.items ≡ 1) }
+/// A place of whole numbers.
+fn place(alloc: Global, name: &str, timed: bool) -> Result<Place, Memory>
+    ensures { IfOk result (λ place. colour_view place.colour ≡ numbers_colour timed) }
 {
-    let places = Vec::from_array(alloc, [place(alloc, "Top/A")?, place(alloc, "Top/B")?])?;
-    let variables = Vec::from_array(alloc, [variable(alloc, "x")?, variable(alloc, "y")?])?;
-    let transitions = Vec::from_array(alloc, [transition(alloc)?])?;
-    Ok(Net {
-        places,
-        transitions,
-        variables,
+    let name = String::from_str(alloc, name)?;
+    Ok(Place {
+        name,
+        colour: numbers(timed),
     })
 }
 
-/// The marking of two places with these integers.
-fn marking(alloc: Global, first: &[i64], second: &[i64]) -> Result<PlainMarking, Memory>
-    ensures { IfOk result (λ marking. length marking ≡ 2) }
+/// The net of the places A and B with the transition.
+fn net_of(
+    alloc: Global,
+    timed: bool,
+    guard: bool,
+    vars: u32,
+    arcs: &[(u32, u32)],
+) -> Result<Net, Memory>
+    ensures worked { IfOk result (λ net. IsWorked timed guard vars arcs.now (net_view net)) }
+    ensures transitions { IfOk result (λ net. length net.transitions.items ≡ 1) }
 {
-    let mut marking = PlainMarking::new(alloc, 2)?;
-    add_all(&mut marking, 0, first)?;
-    add_all(&mut marking, 1, second)?;
-    Ok(marking)
+    let a = place(alloc, "Top/A", timed)?;
+    let b = place(alloc, "Top/B", timed)?;
+    let t = transition(alloc, timed, guard, vars, arcs)?;
+    let functions = Vec::new(alloc);
+    Ok(Net {
+        places: Vec::from_array(alloc, [a, b])?,
+        transitions: Vec::from_array(alloc, [t])?,
+        variables: variables(alloc, vars)?,
+        constants: Vec::new(alloc),
+        constructors: Vec::new(alloc),
+        funs: Arc::new(alloc, Funs { functions })?,
+    })
 }
 
-fn add_all(marking: &mut PlainMarking, place: u32, numbers: &[i64]) -> Result<(), Memory>
-    requires { place < length marking.old }
-    ensures { length marking.new ≡ length marking.old }
+/// The net, where its arcs are those of a sound one: they lead to A and B, and each variable is the inscription of one.
+fn sound_net(
+    alloc: Global,
+    timed: bool,
+    guard: bool,
+    vars: u32,
+    arcs: &[(u32, u32)],
+) -> Result<Net, Memory>
+    requires placed { list_all (λ a. nat_lt a.0 2) arcs.now ≡ true }
+    requires used { list_all (λ x. some_arc x arcs.now) (range_with_len 0 vars) ≡ true }
+    requires few { length arcs.now ≤ 64 }
+    ensures sound { IfOk result (λ net. IsSound (net_view net)) }
+    ensures places { IfOk result (λ net. (m : Marking) → IsMarking (two_places timed) m → IsMarking (net_view net).places m) }
+    ensures transitions { IfOk result (λ net. length net.transitions.items ≡ 1) }
 {
-    for number in numbers {
-        marking.add(place, Value::Int(*number), 0)?;
+    let net = net_of(alloc, timed, guard, vars, arcs)?;
+    Ok(net)
+}
+
+/// Adds a token that the place may hold, and else none; on an untimed place it has no stamp.
+fn add_token(
+    marking: &mut PlainMarking,
+    timed: bool,
+    place: u32,
+    value: Value,
+    stamp: u64,
+) -> Result<(), Memory>
+    requires place { place < 2 }
+    requires marking { IsMarking (two_places timed) marking.old }
+    ensures { OnOk result (IsMarking (two_places timed) marking.new) }
+{
+    if !numbers(timed).admits(&value) {
+        return Ok(());
+    }
+    if timed {
+        marking.add(place, value, stamp)?;
+        return Ok(());
+    }
+    marking.add(place, value, 0)?;
+    Ok(())
+}
+
+fn add_tokens(
+    marking: &mut PlainMarking,
+    timed: bool,
+    place: u32,
+    tokens: &[(i64, u64)],
+) -> Result<(), Memory>
+    requires place { place < 2 }
+    requires marking { IsMarking (two_places timed) marking.old }
+    ensures { OnOk result (IsMarking (two_places timed) marking.new) }
+{
+    for (number, stamp) in tokens {
+        add_token(marking, timed, place, Value::Int(*number), *stamp)?;
     }
     Ok(())
 }
 
-/// The value of a variable of a found binding, by its place in declaration order.
+/// The marking of A and B with these tokens, each a number and a stamp.
+fn marking_of(
+    alloc: Global,
+    timed: bool,
+    first: &[(i64, u64)],
+    second: &[(i64, u64)],
+) -> Result<PlainMarking, Memory>
+    ensures { IfOk result (λ marking. IsMarking (two_places timed) marking) }
+{
+    let mut marking = PlainMarking::new(alloc, 2)?;
+    add_tokens(&mut marking, timed, 0, first)?;
+    add_tokens(&mut marking, timed, 1, second)?;
+    Ok(marking)
+}
+
+/// What the searches of the net find in the marking: the enabled bindings of its transition, and the enabled elements at
+/// the clock; nothing where the arcs are not those of a sound net.
+fn search(alloc: Global, net: &Worked, clock: u64) -> Result<(Found, Vec<Entry>), Memory> {
+    if net.arcs.len() > 64 || !are_placed(net.arcs) || !are_used(net.arcs, net.vars) {
+        return Ok((Vec::new(alloc), Vec::new(alloc)));
+    }
+    let marking = marking_of(alloc, net.timed, net.first, net.second)?;
+    let net = sound_net(alloc, net.timed, net.guard, net.vars, net.arcs)?;
+    let found = enabled_of(alloc, &net, &marking, 0)?;
+    let entries = enabled(alloc, &net, &marking, clock)?;
+    Ok((found, entries))
+}
+
+/// The value of a variable of a found binding, by its place in declaration order; 0 where there is none.
 fn number_at(found: &Found, index: usize, variable: usize) -> i64 {
-    match found.get(index) {
-        Some(one) => match one.binding.pairs().get(variable) {
-            Some(pair) => match pair.value {
-                Value::Int(number) => number,
-                _ => 0,
-            },
-            None => 0,
-        },
-        None => 0,
+    let Some(one) = found.get(index) else {
+        return 0;
+    };
+    let Some(pair) = one.binding.pairs().get(variable) else {
+        return 0;
+    };
+    match pair.value {
+        Value::Int(number) => number,
+        _ => 0,
     }
 }
 
 #[test]
 fn the_enabled_bindings_are_those_of_the_table(rt: HostRuntime) -> Result<(), Fail> {
     let alloc = rt.alloc();
-    let net = worked_net(alloc)?;
-    let table: [(&[i64], &[i64], &[(i64, i64)]); 5] = [
-        (&[3, 1, 2, 3, 1], &[7, 3, 1, 3], &[(1, 3), (3, 1), (3, 3)]),
-        (&[3, 1, 2, 3, 1], &[3, 1, 3], &[]),
-        (&[1, 3, 3], &[7, 1, 3], &[(3, 1)]),
-        (&[7, 7], &[7, 7, 7, 0], &[(7, 0), (7, 7)]),
-        (&[4, -5, 4, -5], &[7, 4, -5], &[(-5, 4), (4, -5)]),
+    let table = [
+        // Two tokens of one value: the sooner is enough for one arc.
+        Worked {
+            timed: true,
+            guard: true,
+            vars: 1,
+            arcs: &[(0, 0)],
+            first: &[(5, 0), (5, 3)],
+            second: &[],
+            found: &[(5, 0, 0)],
+        },
+        // Two arcs from one place need both.
+        Worked {
+            timed: true,
+            guard: true,
+            vars: 1,
+            arcs: &[(0, 0), (0, 0)],
+            first: &[(5, 0), (5, 3)],
+            second: &[],
+            found: &[(5, 0, 3)],
+        },
+        // The later tokens are not waited for.
+        Worked {
+            timed: true,
+            guard: true,
+            vars: 1,
+            arcs: &[(0, 0), (0, 0)],
+            first: &[(5, 9), (5, 4), (5, 1)],
+            second: &[],
+            found: &[(5, 0, 4)],
+        },
+        // A guard that is not true.
+        Worked {
+            timed: true,
+            guard: false,
+            vars: 1,
+            arcs: &[(0, 0)],
+            first: &[(5, 0)],
+            second: &[],
+            found: &[],
+        },
+        // A value that stands on one place only is not tried.
+        Worked {
+            timed: true,
+            guard: true,
+            vars: 1,
+            arcs: &[(0, 0), (1, 0)],
+            first: &[(1, 0), (2, 0)],
+            second: &[(2, 5), (3, 0)],
+            found: &[(2, 0, 5)],
+        },
+        // The literal waits for its token, and needs one.
+        Worked {
+            timed: true,
+            guard: true,
+            vars: 1,
+            arcs: &[(0, 0), (1, 1)],
+            first: &[(1, 2)],
+            second: &[(7, 6)],
+            found: &[(1, 0, 6)],
+        },
+        Worked {
+            timed: true,
+            guard: true,
+            vars: 1,
+            arcs: &[(0, 0), (1, 1)],
+            first: &[(1, 2)],
+            second: &[(8, 6)],
+            found: &[],
+        },
+        // Values in order, variable by variable.
+        Worked {
+            timed: true,
+            guard: true,
+            vars: 2,
+            arcs: &[(1, 1), (0, 0)],
+            first: &[(2, 0), (1, 2)],
+            second: &[(4, 1), (-3, 0)],
+            found: &[(1, -3, 2), (1, 4, 2), (2, -3, 0), (2, 4, 1)],
+        },
+        // Needs of several arcs on both places.
+        Worked {
+            timed: true,
+            guard: true,
+            vars: 2,
+            arcs: &[(0, 0), (0, 0), (1, 0), (1, 1), (1, 2)],
+            first: &[(3, 2), (1, 0), (3, 8)],
+            second: &[(7, 1), (3, 4), (1, 9), (3, 5)],
+            found: &[(3, 1, 9), (3, 3, 8)],
+        },
+        // Without time the stamps are 0.
+        Worked {
+            timed: false,
+            guard: true,
+            vars: 2,
+            arcs: &[(0, 0), (0, 0), (1, 0), (1, 1), (1, 2)],
+            first: &[(3, 0), (1, 0), (2, 0), (3, 0), (1, 0)],
+            second: &[(7, 0), (3, 0), (1, 0), (3, 0)],
+            found: &[(1, 3, 0), (3, 1, 0), (3, 3, 0)],
+        },
+        Worked {
+            timed: false,
+            guard: true,
+            vars: 2,
+            arcs: &[(0, 0), (0, 0), (1, 0), (1, 1), (1, 2)],
+            first: &[(3, 0), (1, 0), (2, 0), (3, 0), (1, 0)],
+            second: &[(3, 0), (1, 0), (3, 0)],
+            found: &[],
+        },
+        Worked {
+            timed: false,
+            guard: true,
+            vars: 2,
+            arcs: &[(0, 0), (0, 0), (1, 0), (1, 1), (1, 2)],
+            first: &[(7, 0), (7, 0)],
+            second: &[(7, 0), (7, 0), (7, 0), (0, 0)],
+            found: &[(7, 0, 0), (7, 7, 0)],
+        },
+        // No variable, and no arc.
+        Worked {
+            timed: true,
+            guard: true,
+            vars: 0,
+            arcs: &[(0, 0)],
+            first: &[(7, 3)],
+            second: &[],
+            found: &[(0, 0, 3)],
+        },
+        Worked {
+            timed: true,
+            guard: true,
+            vars: 0,
+            arcs: &[],
+            first: &[],
+            second: &[],
+            found: &[(0, 0, 0)],
+        },
+        // Five variables, and the last time.
+        Worked {
+            timed: true,
+            guard: true,
+            vars: 5,
+            arcs: &[(0, 0), (0, 1), (1, 2), (1, 3), (1, 4)],
+            first: &[(1, 0), (1, 2)],
+            second: &[(2, 0), (2, 18_446_744_073_709_551_615), (2, 3)],
+            found: &[(1, 1, 18_446_744_073_709_551_615)],
+        },
     ];
-    for (first, second, pairs) in table {
-        let marking = marking(alloc, first, second)?;
-        let found = enabled_of(alloc, &net, &marking, 0)?;
-        assert_eq!(rt; found.len(), pairs.len());
-        for (i, (x, y)) in pairs.iter().enumerate() {
+    for net in &table {
+        let (found, entries) = search(alloc, net, 3)?;
+        assert_eq!(rt; found.len(), net.found.len());
+        assert_eq!(rt; entries.len(), net.found.len());
+        for (i, (x, y, earliest)) in net.found.iter().enumerate() {
             assert_eq!(rt; number_at(&found, i, 0), *x);
             assert_eq!(rt; number_at(&found, i, 1), *y);
-        }
-        let entries = enabled(alloc, &net, &marking, 5)?;
-        assert_eq!(rt; entries.len(), pairs.len());
-        for entry in &entries {
-            assert_eq!(rt; entry.earliest, 5);
-            assert!(rt; is_covered(&net, &marking, 5, 0, &entry.element.binding));
-            assert!(rt; !is_covered(&net, &marking, 5, 1, &entry.element.binding));
+            assert_eq!(rt; found[i].earliest, *earliest);
+            assert_eq!(rt; entries[i].earliest, 3.max(*earliest));
         }
     }
+    Ok(())
+}
+
+/// The net without places, transitions and variables.
+fn empty_net(alloc: Global) -> Result<Net, Memory>
+    ensures sound { IfOk result (λ net. IsSound (net_view net)) }
+    ensures places { IfOk result (λ net. net.places.items ≡ []) }
+{
+    let functions = Vec::new(alloc);
+    Ok(Net {
+        places: Vec::new(alloc),
+        transitions: Vec::new(alloc),
+        variables: Vec::new(alloc),
+        constants: Vec::new(alloc),
+        constructors: Vec::new(alloc),
+        funs: Arc::new(alloc, Funs { functions })?,
+    })
+}
+
+#[test]
+fn nothing_is_enabled_where_nothing_is(rt: HostRuntime) -> Result<(), Fail> {
+    let net = empty_net(rt.alloc())?;
+    let marking = PlainMarking::new(rt.alloc(), 0)?;
+    assert_eq!(rt; enabled(rt.alloc(), &net, &marking, 0)?.len(), 0);
+    Ok(())
+}
+
+/// So many tokens, each with a value, one of so many, and a stamp of its own.
+fn tokens(alloc: Global, count: u64, values: u64) -> Result<Vec<(i64, u64)>, Memory>
+    requires some { 0 < values }
+    requires few { values ≤ 1000000 }
+{
+    let mut tokens = Vec::new(alloc);
+    for stamp in 0..count {
+        tokens.push(((stamp % values) as i64, stamp))?;
+    }
+    Ok(tokens)
+}
+
+/// How many bindings are found with these arcs and tokens on timed places.
+fn count_found(
+    alloc: Global,
+    vars: u32,
+    arcs: &[(u32, u32)],
+    first: &[(i64, u64)],
+    second: &[(i64, u64)],
+) -> Result<usize, Memory> {
+    let net = Worked {
+        timed: true,
+        guard: true,
+        vars,
+        arcs,
+        first,
+        second,
+        found: &[],
+    };
+    let (found, _entries) = search(alloc, &net, 0)?;
+    Ok(found.len())
+}
+
+#[test]
+fn large_places_are_searched(rt: HostRuntime) -> Result<(), Fail> {
+    let alloc = rt.alloc();
+    let one_value = tokens(alloc, 1_001, 1)?;
+    let two_of_each = tokens(alloc, 2_002, 1_001)?;
+    let one_of_each = tokens(alloc, 257, 257)?;
+    let twice = [(0, 0), (0, 0)];
+    let both = [(0, 0), (1, 1)];
+    let none = [];
+    assert_eq!(rt; count_found(alloc, 1, &twice, &one_value, &none)?, 1);
+    assert_eq!(rt; count_found(alloc, 1, &twice, &two_of_each, &none)?, 1_001);
+    assert_eq!(rt;
+        count_found(alloc, 2, &both, &one_of_each, &one_of_each)?,
+        66_049
+    );
     Ok(())
 }

@@ -1,3 +1,4 @@
-pub mod Refused
 pub mod Readings
+pub mod Refused
 pub mod OneReport
+pub mod Printed

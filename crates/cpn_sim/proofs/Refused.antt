@@ -1,105 +1,150 @@
--- What follows from a refusal and its cause, case by case.
+-- What follows from a refusal that has its cause, and from what was written of it.
 use Rattle.std.proofs.Common.{◌≡◌, ℕ, ◌<◌, ◌≤◌, ◌⊎◌, List, length, Option, Some, None, IfSome, refl, sym, ap, ◌∙◌, subst, inl, inr, ⊎_elim, arith}
-use Rattle.std.proofs.lemmas.Option.{same_Some}
-use Rattle.cpn_file.specs.Loading.{PlainLoaded, loaded_in}
-use Rattle.cpn_file.specs.Reads.{IsJson, Reads, IsNotJson, IsNotYet}
+use Rattle.std.specs.Option.{MatchOption}
+use Rattle.std.specs.Io.KnownBytes.{Appends}
+use Rattle.cpn_file.specs.Loading.{PlainLoaded}
+use Rattle.cpn_file.specs.Reading.{Refusal, read, refused}
+use Rattle.cpn_file.specs.Reads.{IsReadAs}
+use Rattle.cpn_file.specs.Refusals.{document_line}
 use Rattle.cpn_io.specs.Outside.{Rose}
+use Rattle.cpn_sim.specs.Limits.{most_bytes}
 use Rattle.cpn_sim.specs.Options.{PlainOptions, options_from}
-use Rattle.cpn_sim.specs.Causes.{HasCause, IsOfWords, status_of, IsOrExcused}
-use Rattle.cpn_sim.specs.declared.refusals.Refusal.{Refusal}
+use Rattle.cpn_sim.specs.Causes.{PlainRefusal, bad_words, read_fault, too_long, bad_document, HasCause, error_line, status_of, IsOrExcused, IsRefused}
+use Rattle.cpn_sim.specs.declared.refusals.Refusal.{Refusal as TheRefusal}
 use Rattle.cpn_sim.specs.declared.refusals.Refusal.TheVariants as refusals
 use Rattle.cpn_sim.specs.declared.statuses.Status.{Status}
 use Rattle.cpn_sim.specs.declared.statuses.Status.TheVariants as statuses
+use Rattle.cpn_sim.proofs.OneReport.{read_not_refused}
 
--- what is known of a status that a refusal gave
-pub record IsRefused (refusal : Refusal) (words : List (List ℕ)) (left : Option (List ℕ)) (before now : ℕ) (status : Status) (write : Type 0) : Type 0 where
-  pub cause : HasCause refusal words left before now
-  pub status_is : (status ≡ status_of refusal) ⊎ (status ≡ statuses.WriteFault)
-  pub fault : status ≡ statuses.WriteFault → write
-
--- the status of the refusal, or a fault of the sink
-either : (refusal : Refusal) (words : List (List ℕ)) (left : Option (List ℕ)) (before now : ℕ) (status : Status) (read write : Type 0) → IsRefused refusal words left before now status write → IsOrExcused status (status_of refusal) read write
-either refusal words left before now status read write r = ⊎_elim (λ is. inl is) (λ is. inr (inr (inr (r.fault is)))) r.status_is
-
-given_left : (P : List ℕ → Type 0) (left : Option (List ℕ)) (bytes : List ℕ) → left ≡ Some bytes → IfSome left P → P bytes
-given_left P left bytes is holds = let Q : Option (List ℕ) → Type 0 = λ o. IfSome o P in subst Q is holds
+-- ---- the causes exclude each other
 
 not_both : (o : Option PlainOptions) (options : PlainOptions) → o ≡ None → o ≡ Some options → ⊥
 not_both o options none some = cc
 
-pub refused_long : (refusal : Refusal) (words : List (List ℕ)) (left : Option (List ℕ)) (before now : ℕ) (status : Status) (write : Type 0) → IsRefused refusal words left before now status write
-    → (options : PlainOptions) → options_from words ≡ Some options → (bytes : List ℕ) → left ≡ Some bytes → 16777216 < length bytes
-    → IsOrExcused status statuses.TooLong (Rose before now) write
-refused_long refusals.Words words left before now status write r options some bytes is long = absurd (not_both (options_from words) options r.cause some)
-refused_long refusals.Read words left before now status write r options some bytes is long = inr (inr (inl r.cause))
-refused_long refusals.Long words left before now status write r options some bytes is long = either refusals.Long words left before now status (Rose before now) write r
-refused_long refusals.NotJson words left before now status write r options some bytes is long =
-    let short : length bytes ≤ 16777216 = (given_left (λ b. (length b ≤ 16777216) × IsNotJson b) left bytes is r.cause).0 in
+given_left : (P : List ℕ → Type 0) (left : Option (List ℕ)) (bytes : List ℕ) → left ≡ Some bytes → IfSome left P → P bytes
+given_left P left bytes is holds = let Q : Option (List ℕ) → Type 0 = λ o. IfSome o P in subst Q is holds
+
+-- where the words give no options they are refused
+pub cause_of_words : (refusal : PlainRefusal) (words : List (List ℕ)) (left : Option (List ℕ)) (before now : ℕ) → HasCause refusal words left before now → options_from words ≡ None → refusal ≡ bad_words
+cause_of_words bad_words words left before now cause none = refl
+cause_of_words read_fault words left before now cause none = absurd (not_both (options_from words) cause.0.0 none cause.0.1)
+cause_of_words too_long words left before now cause none = absurd (not_both (options_from words) cause.0.0 none cause.0.1)
+cause_of_words (bad_document r) words left before now cause none = absurd (not_both (options_from words) cause.0.0 none cause.0.1)
+
+-- where they give options, and more bytes are left than a document may have, the refusal is for that, but for a fault
+pub cause_of_length : (refusal : PlainRefusal) (words : List (List ℕ)) (left : Option (List ℕ)) (before now : ℕ) → HasCause refusal words left before now
+    → (options : PlainOptions) → options_from words ≡ Some options → (bytes : List ℕ) → left ≡ Some bytes → most_bytes < length bytes
+    → (refusal ≡ too_long) ⊎ Rose before now
+cause_of_length bad_words words left before now cause options some bytes is long = absurd (not_both (options_from words) options cause some)
+cause_of_length read_fault words left before now cause options some bytes is long = inr cause.1
+cause_of_length too_long words left before now cause options some bytes is long = inl refl
+cause_of_length (bad_document r) words left before now cause options some bytes is long =
+    let short : length bytes ≤ most_bytes = (given_left (λ b. (length b ≤ most_bytes) × IsReadAs b (refused r)) left bytes is cause.1).0 in
     absurd (omega arith)
-refused_long refusals.NotYet words left before now status write r options some bytes is long =
-    let short : length bytes ≤ 16777216 = (given_left (λ b. (length b ≤ 16777216) × IsNotYet b) left bytes is r.cause).0 in
+
+-- where no more are left, the refusal is of the document, but for a fault
+pub cause_of_document : (refusal : PlainRefusal) (words : List (List ℕ)) (left : Option (List ℕ)) (before now : ℕ) → HasCause refusal words left before now
+    → (options : PlainOptions) → options_from words ≡ Some options → (bytes : List ℕ) → left ≡ Some bytes → length bytes ≤ most_bytes
+    → ((r : Refusal) × (refusal ≡ bad_document r) × IsReadAs bytes (refused r)) ⊎ Rose before now
+cause_of_document bad_words words left before now cause options some bytes is short = absurd (not_both (options_from words) options cause some)
+cause_of_document read_fault words left before now cause options some bytes is short = inr cause.1
+cause_of_document too_long words left before now cause options some bytes is short =
+    let long : most_bytes < length bytes = given_left (λ b. most_bytes < length b) left bytes is cause.1 in
     absurd (omega arith)
-refused_long refusals.Memory words left before now status write r options some bytes is long = ⊎_elim (λ s. inr (inl s)) (λ s. inr (inr (inr (r.fault s)))) r.status_is
+cause_of_document (bad_document r) words left before now cause options some bytes is short =
+    inl (r, refl, (given_left (λ b. (length b ≤ most_bytes) × IsReadAs b (refused r)) left bytes is cause.1).1)
 
-pub refused_document : (refusal : Refusal) (words : List (List ℕ)) (left : Option (List ℕ)) (before now : ℕ) (status : Status) (write : Type 0) → IsRefused refusal words left before now status write
-    → (options : PlainOptions) → options_from words ≡ Some options → (bytes : List ℕ) → left ≡ Some bytes → length bytes ≤ 16777216
-    → IsOrExcused status statuses.BadDocument (Rose before now) write
-refused_document refusals.Words words left before now status write r options some bytes is short = absurd (not_both (options_from words) options r.cause some)
-refused_document refusals.Read words left before now status write r options some bytes is short = inr (inr (inl r.cause))
-refused_document refusals.Long words left before now status write r options some bytes is short =
-    let long : 16777216 < length bytes = given_left (λ b. 16777216 < length b) left bytes is r.cause in
-    absurd (omega arith)
-refused_document refusals.NotJson words left before now status write r options some bytes is short = either refusals.NotJson words left before now status (Rose before now) write r
-refused_document refusals.NotYet words left before now status write r options some bytes is short = either refusals.NotYet words left before now status (Rose before now) write r
-refused_document refusals.Memory words left before now status write r options some bytes is short = ⊎_elim (λ s. inr (inl s)) (λ s. inr (inr (inr (r.fault s)))) r.status_is
+-- ---- statuses
 
--- what is read as a net is a JSON value that is served
-pub read_is_json : (bytes : List ℕ) (loaded : PlainLoaded) → Reads bytes loaded → IsNotJson bytes → ⊥
-read_is_json bytes loaded reads no_value = no_value reads.0 reads.1
+-- the refusal of a status
+of_words : (refusal : PlainRefusal) → status_of refusal ≡ statuses.BadWords → refusal ≡ bad_words
+of_words bad_words is = refl
+of_words read_fault is = absurd cc
+of_words too_long is = absurd cc
+of_words (bad_document r) is = absurd cc
 
-pub read_is_served : (bytes : List ℕ) (loaded : PlainLoaded) → Reads bytes loaded → IsNotYet bytes → ⊥
-read_is_served bytes loaded reads not_served =
-    let a : IsJson bytes reads.0 = reads.1 in
-    let b : IsJson bytes not_served.0 = not_served.1 in
-    let x : loaded_in reads.0 ≡ Some loaded = reads.2 in
-    let y : loaded_in not_served.0 ≡ None = not_served.2 in
-    clash (loaded_in reads.0) (loaded_in not_served.0) loaded (ap loaded_in (same_Some reads.0 not_served.0 (sym a.1 ∙ b.1))) x y
-  where
-    clash : {A : Type 0} (o p : Option A) (l : A) → o ≡ p → o ≡ Some l → p ≡ None → ⊥
-    clash o p l same some none = cc
+of_read : (refusal : PlainRefusal) → status_of refusal ≡ statuses.ReadFault → refusal ≡ read_fault
+of_read bad_words is = absurd cc
+of_read read_fault is = refl
+of_read too_long is = absurd cc
+of_read (bad_document r) is = absurd cc
 
-pub refused_complete : (refusal : Refusal) (words : List (List ℕ)) (left : Option (List ℕ)) (before now : ℕ) (status : Status) (write : Type 0) → IsRefused refusal words left before now status write
-    → (options : PlainOptions) → options_from words ≡ Some options → (bytes : List ℕ) → left ≡ Some bytes → length bytes ≤ 16777216 → (loaded : PlainLoaded) → Reads bytes loaded
-    → IsOrExcused status statuses.Done (Rose before now) write
-refused_complete refusals.Words words left before now status write r options some bytes is short loaded reads = absurd (not_both (options_from words) options r.cause some)
-refused_complete refusals.Read words left before now status write r options some bytes is short loaded reads = inr (inr (inl r.cause))
-refused_complete refusals.Long words left before now status write r options some bytes is short loaded reads =
-    let long : 16777216 < length bytes = given_left (λ b. 16777216 < length b) left bytes is r.cause in
-    absurd (omega arith)
-refused_complete refusals.NotJson words left before now status write r options some bytes is short loaded reads =
-    absurd (read_is_json bytes loaded reads (given_left (λ b. (length b ≤ 16777216) × IsNotJson b) left bytes is r.cause).1)
-refused_complete refusals.NotYet words left before now status write r options some bytes is short loaded reads =
-    absurd (read_is_served bytes loaded reads (given_left (λ b. (length b ≤ 16777216) × IsNotYet b) left bytes is r.cause).1)
-refused_complete refusals.Memory words left before now status write r options some bytes is short loaded reads = ⊎_elim (λ s. inr (inl s)) (λ s. inr (inr (inr (r.fault s)))) r.status_is
+of_length : (refusal : PlainRefusal) → status_of refusal ≡ statuses.TooLong → refusal ≡ too_long
+of_length bad_words is = absurd cc
+of_length read_fault is = absurd cc
+of_length too_long is = refl
+of_length (bad_document r) is = absurd cc
 
-pub refused_words : (refusal : Refusal) (words : List (List ℕ)) (left : Option (List ℕ)) (before now : ℕ) (status : Status) (write : Type 0) → IsRefused refusal words left before now status write
-    → (refusal ≡ refusals.Words) ⊎ (refusal ≡ refusals.Memory) → (status ≡ statuses.BadWords) ⊎ ((status ≡ statuses.Memory) ⊎ write)
-refused_words refusal words left before now status write r (inl is) = ⊎_elim (λ s. inl (s ∙ ap status_of is)) (λ s. inr (inr (r.fault s))) r.status_is
-refused_words refusal words left before now status write r (inr is) = ⊎_elim (λ s. inr (inl (s ∙ ap status_of is))) (λ s. inr (inr (r.fault s))) r.status_is
+of_document : (refusal : PlainRefusal) → status_of refusal ≡ statuses.BadDocument → (r : Refusal) × (refusal ≡ bad_document r)
+of_document bad_words is = absurd cc
+of_document read_fault is = absurd cc
+of_document too_long is = absurd cc
+of_document (bad_document r) is = (r, refl)
 
--- what refuses the words is the words' cause, or want of memory
-pub words_cause : (refusal : Refusal) (words : List (List ℕ)) (left : Option (List ℕ)) (before now : ℕ) → IsOfWords refusal words → HasCause refusal words left before now
-words_cause refusals.Words words left before now is = is
-words_cause refusals.Read words left before now is = absurd is
-words_cause refusals.Long words left before now is = absurd is
-words_cause refusals.NotJson words left before now is = absurd is
-words_cause refusals.NotYet words left before now is = absurd is
-words_cause refusals.Memory words left before now is = tt
+is_no_report : (refusal : PlainRefusal) → status_of refusal ≡ statuses.Done → ⊥
+is_no_report bad_words is = cc
+is_no_report read_fault is = cc
+is_no_report too_long is = cc
+is_no_report (bad_document r) is = cc
 
-pub words_refusal : (refusal : Refusal) (words : List (List ℕ)) → IsOfWords refusal words → (refusal ≡ refusals.Words) ⊎ (refusal ≡ refusals.Memory)
-words_refusal refusals.Words words is = inl refl
-words_refusal refusals.Read words is = absurd is
-words_refusal refusals.Long words is = absurd is
-words_refusal refusals.NotJson words is = absurd is
-words_refusal refusals.NotYet words is = absurd is
-words_refusal refusals.Memory words is = inr refl
+-- a refusal that is not for want of memory is a plain one
+pub plain_of : {C W : PlainRefusal → Type 0} (refusal : TheRefusal) (view : Option PlainRefusal) → MatchOption view (refusal ≡ refusals.Memory) C → IfSome view W → (refusal ≡ refusals.Memory → ⊥) → (plain : PlainRefusal) × C plain × W plain
+plain_of refusal None memory written not_memory = absurd (not_memory memory)
+plain_of refusal (Some plain) cause written not_memory = (plain, cause, written)
+
+-- the status of the refusal, or an excuse
+excused : (refusal : PlainRefusal) (status wanted : Status) (old new : Option (List ℕ)) (faults now : ℕ) (fault : Type 0) → IsRefused refusal status old new faults now → status_of refusal ≡ wanted → IsOrExcused status wanted fault (Rose faults now)
+excused refusal status wanted old new faults now fault written is =
+    ⊎_elim (λ same. inl (same ∙ is)) (λ other. ⊎_elim (λ memory. inr (inl memory)) (λ write. inr (inr (inr (written.fault write)))) other) written.outcome
+
+module _ (refusal : PlainRefusal) (words : List (List ℕ)) (left : Option (List ℕ)) (before after : ℕ) (status : Status) (old new : Option (List ℕ)) (faults now : ℕ) (cause : HasCause refusal words left before after) (written : IsRefused refusal status old new faults now) where
+  -- a status that tells of no want of memory and of no fault of the sink is that of the refusal
+  told : (s : Status) → (s ≡ statuses.Memory → ⊥) → (s ≡ statuses.WriteFault → ⊥) → status ≡ s → status_of refusal ≡ s
+  told s not_memory not_write is =
+      ⊎_elim (λ same. sym same ∙ is) (λ other. ⊎_elim (λ memory. absurd (not_memory (sym is ∙ memory))) (λ write. absurd (not_write (sym is ∙ write))) other) written.outcome
+
+  -- what holds where the status is the given one
+  having : (s : Status) (r : PlainRefusal) → status ≡ s → status_of refusal ≡ s → refusal ≡ r → HasCause r words left before after × Appends old new (error_line r)
+  having s r is same which =
+      let Caused : PlainRefusal → Type 0 = λ q. HasCause q words left before after in
+      let Told : PlainRefusal → Type 0 = λ q. Appends old new (error_line q) in
+      (subst Caused which cause, subst Told which (written.line (is ∙ sym same)))
+
+  pub no_report : status ≡ statuses.Done → ⊥
+  no_report is = is_no_report refusal (told statuses.Done (λ e. cc) (λ e. cc) is)
+
+  pub words_told : status ≡ statuses.BadWords → HasCause bad_words words left before after × Appends old new (error_line bad_words)
+  words_told is = let same = told statuses.BadWords (λ e. cc) (λ e. cc) is in having statuses.BadWords bad_words is same (of_words refusal same)
+
+  pub read_told : status ≡ statuses.ReadFault → HasCause read_fault words left before after × Appends old new (error_line read_fault)
+  read_told is = let same = told statuses.ReadFault (λ e. cc) (λ e. cc) is in having statuses.ReadFault read_fault is same (of_read refusal same)
+
+  pub long_told : status ≡ statuses.TooLong → HasCause too_long words left before after × Appends old new (error_line too_long)
+  long_told is = let same = told statuses.TooLong (λ e. cc) (λ e. cc) is in having statuses.TooLong too_long is same (of_length refusal same)
+
+  pub document_told : status ≡ statuses.BadDocument → (r : Refusal) × HasCause (bad_document r) words left before after × Appends old new (document_line r)
+  document_told is =
+      let same = told statuses.BadDocument (λ e. cc) (λ e. cc) is in
+      let which = of_document refusal same in
+      let both = having statuses.BadDocument (bad_document which.0) is same which.1 in
+      (which.0, both.0, both.1)
+
+  pub refused_words : options_from words ≡ None → (status ≡ statuses.BadWords) ⊎ ((status ≡ statuses.Memory) ⊎ Rose faults now)
+  refused_words none =
+      let which : refusal ≡ bad_words = cause_of_words refusal words left before after cause none in
+      ⊎_elim (λ same. inl (same ∙ ap status_of which)) (λ other. ⊎_elim (λ memory. inr (inl memory)) (λ write. inr (inr (written.fault write))) other) written.outcome
+
+  pub refused_long : (options : PlainOptions) → options_from words ≡ Some options → (bytes : List ℕ) → left ≡ Some bytes → most_bytes < length bytes → IsOrExcused status statuses.TooLong (Rose before after) (Rose faults now)
+  refused_long options some bytes is long =
+      ⊎_elim (λ which. excused refusal status statuses.TooLong old new faults now (Rose before after) written (ap status_of which)) (λ rose. inr (inr (inl rose)))
+      (cause_of_length refusal words left before after cause options some bytes is long)
+
+  pub refused_document : (options : PlainOptions) → options_from words ≡ Some options → (bytes : List ℕ) → left ≡ Some bytes → length bytes ≤ most_bytes → IsOrExcused status statuses.BadDocument (Rose before after) (Rose faults now)
+  refused_document options some bytes is short =
+      ⊎_elim (λ which. excused refusal status statuses.BadDocument old new faults now (Rose before after) written (ap status_of which.1)) (λ rose. inr (inr (inl rose)))
+      (cause_of_document refusal words left before after cause options some bytes is short)
+
+  pub refused_complete : (options : PlainOptions) → options_from words ≡ Some options → (bytes : List ℕ) → left ≡ Some bytes → length bytes ≤ most_bytes → (loaded : PlainLoaded) → IsReadAs bytes (read loaded) → IsOrExcused status statuses.Done (Rose before after) (Rose faults now)
+  refused_complete options some bytes is short loaded reads =
+      ⊎_elim (λ which. absurd (read_not_refused bytes loaded which.0 reads which.2)) (λ rose. inr (inr (inl rose)))
+      (cause_of_document refusal words left before after cause options some bytes is short)

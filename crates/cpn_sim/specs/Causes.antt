@@ -1,66 +1,69 @@
--- Why there is no report, and the line that says so. Source: own choice.
-use Rattle.std.specs.Prelude.{◌≡◌, ℕ, ◌<◌, ◌≤◌, ◌⊎◌, List, [], length, codes, Option, None, IfSome}
-use Rattle.cpn_file.specs.Reads.{IsNotJson, IsNotYet}
-use Rattle.cpn_io.specs.Outside.{Rose}
-use Rattle.cpn_sim.specs.Options.{options_from}
+-- Why there is no report, and the line and the status that say so. The causes are tried in their order: the words, the
+-- reading of the source, its length, the document. Source: own choice.
+use Rattle.std.specs.Prelude.{◌≡◌, ℕ, ◌<◌, ◌≤◌, ◌⊎◌, List, length, codes, Option, Some, None, IfSome}
+use Rattle.cpn_file.specs.Reading.{Refusal, refused}
+use Rattle.cpn_file.specs.Reads.{IsReadAs}
+use Rattle.cpn_file.specs.Refusals.{document_line}
+use Rattle.cpn_io.specs.Outside.{Rose, AppendsProperPrefix}
+use Rattle.std.specs.Io.KnownBytes.{Appends}
+use Rattle.cpn_sim.specs.Limits.{most_bytes}
+use Rattle.cpn_sim.specs.Options.{PlainOptions, options_from}
 use Rattle.cpn_sim.specs.Reported.{IsReport}
-use Rattle.cpn_sim.specs.declared.refusals.Refusal.{Refusal}
-use Rattle.cpn_sim.specs.declared.refusals.Refusal.TheVariants as refusals
 use Rattle.cpn_sim.specs.declared.statuses.Status.{Status}
 use Rattle.cpn_sim.specs.declared.statuses.Status.TheVariants as statuses
 
--- the cause of each refusal: the words, the bytes that were left where these are told, or the count of
--- faults; want of memory has none
-abbrev pub HasCause : Refusal → List (List ℕ) → Option (List ℕ) → ℕ → ℕ → Type 0
-HasCause refusals.Words words left before now = options_from words ≡ None
-HasCause refusals.Read words left before now = Rose before now
-HasCause refusals.Long words left before now = IfSome left (λ bytes. 16777216 < length bytes)
-HasCause refusals.NotJson words left before now = IfSome left (λ bytes. (length bytes ≤ 16777216) × IsNotJson bytes)
-HasCause refusals.NotYet words left before now = IfSome left (λ bytes. (length bytes ≤ 16777216) × IsNotYet bytes)
-HasCause refusals.Memory words left before now = Unit {0}
+-- A refusal: of the words, of the source for a fault or for its length, or of the document.
+pub data PlainRefusal : Type 0 where
+  bad_words : PlainRefusal
+  read_fault : PlainRefusal
+  too_long : PlainRefusal
+  bad_document : Refusal → PlainRefusal
 
--- the causes that lie in the words
-abbrev pub IsOfWords : Refusal → List (List ℕ) → Type 0
-IsOfWords refusals.Words words = options_from words ≡ None
-IsOfWords refusals.Read words = ⊥
-IsOfWords refusals.Long words = ⊥
-IsOfWords refusals.NotJson words = ⊥
-IsOfWords refusals.NotYet words = ⊥
-IsOfWords refusals.Memory words = Unit {0}
+-- the words give options
+abbrev pub GiveOptions : List (List ℕ) → Type 0
+GiveOptions words = (options : PlainOptions) × (options_from words ≡ Some options)
 
--- the causes that lie in the document
-abbrev pub IsOfDocument : Refusal → List ℕ → Type 0
-IsOfDocument refusals.Words bytes = ⊥
-IsOfDocument refusals.Read bytes = ⊥
-IsOfDocument refusals.Long bytes = ⊥
-IsOfDocument refusals.NotJson bytes = IsNotJson bytes
-IsOfDocument refusals.NotYet bytes = IsNotYet bytes
-IsOfDocument refusals.Memory bytes = Unit {0}
+-- The cause of each refusal, which lies in the words, in the count of faults of the source, or in the bytes that were left
+-- in it, where these are told. Each but the first asks that the words give options, and that of a document that it is not
+-- too long.
+abbrev pub HasCause : PlainRefusal → List (List ℕ) → Option (List ℕ) → ℕ → ℕ → Type 0
+HasCause bad_words words left before now = options_from words ≡ None
+HasCause read_fault words left before now = GiveOptions words × Rose before now
+HasCause too_long words left before now = GiveOptions words × IfSome left (λ bytes. most_bytes < length bytes)
+HasCause (bad_document refusal) words left before now =
+    GiveOptions words × IfSome left (λ bytes. (length bytes ≤ most_bytes) × IsReadAs bytes (refused refusal))
 
--- the line of a refusal, with its line feed; want of memory has none
-abbrev pub error_line : Refusal → List ℕ
-error_line refusals.Words = codes "error words\n"
-error_line refusals.Read = codes "error read\n"
-error_line refusals.Long = codes "error long\n"
-error_line refusals.NotJson = codes "error document 1 not_json\n"
-error_line refusals.NotYet = codes "error document 7 not_yet\n"
-error_line refusals.Memory = []
+-- the line of a refusal, with its line feed
+abbrev pub error_line : PlainRefusal → List ℕ
+error_line bad_words = codes "error words\n"
+error_line read_fault = codes "error read\n"
+error_line too_long = codes "error long\n"
+error_line (bad_document refusal) = document_line refusal
 
 -- the status of a refusal
-abbrev pub status_of : Refusal → Status
-status_of refusals.Words = statuses.BadWords
-status_of refusals.Read = statuses.ReadFault
-status_of refusals.Long = statuses.TooLong
-status_of refusals.NotJson = statuses.BadDocument
-status_of refusals.NotYet = statuses.BadDocument
-status_of refusals.Memory = statuses.Memory
+abbrev pub status_of : PlainRefusal → Status
+status_of bad_words = statuses.BadWords
+status_of read_fault = statuses.ReadFault
+status_of too_long = statuses.TooLong
+status_of (bad_document refusal) = statuses.BadDocument
 
 -- The text that is to be written: the report of a run of the document, or the line of a refusal that has its
 -- cause.
 abbrev pub IsToBeWritten : List (List ℕ) → Option (List ℕ) → ℕ → ℕ → List ℕ → Type 0
 IsToBeWritten words left before now text =
-    IfSome left (λ bytes. IsReport bytes words text) ⊎ ((refusal : Refusal) × HasCause refusal words left before now × (text ≡ error_line refusal))
+    (GiveOptions words × IfSome left (λ bytes. (length bytes ≤ most_bytes) × IsReport bytes words text))
+    ⊎ ((refusal : PlainRefusal) × HasCause refusal words left before now × (text ≡ error_line refusal))
 
 -- The status is the wanted one, but for want of memory and for faults of the source and of the sink.
 abbrev pub IsOrExcused : Status → Status → Type 0 → Type 0 → Type 0
 IsOrExcused status wanted read write = (status ≡ wanted) ⊎ ((status ≡ statuses.Memory) ⊎ (read ⊎ write))
+
+-- What a status tells after the line of a refusal was to be written to a sink, by what the sink holds before and after, and
+-- its counts of faults: the line was written; or memory was wanted, and the sink is as it was; or it had a fault, and holds a
+-- proper part of the line.
+pub record IsRefused (refusal : PlainRefusal) (status : Status) (old new : Option (List ℕ)) (before now : ℕ) : Type 0 where
+  pub outcome : (status ≡ status_of refusal) ⊎ ((status ≡ statuses.Memory) ⊎ (status ≡ statuses.WriteFault))
+  pub line : status ≡ status_of refusal → Appends old new (error_line refusal)
+  pub memory : status ≡ statuses.Memory → new ≡ old
+  pub part : status ≡ statuses.WriteFault → AppendsProperPrefix old new (error_line refusal)
+  pub fault : status ≡ statuses.WriteFault → Rose before now

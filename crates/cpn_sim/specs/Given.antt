@@ -1,5 +1,7 @@
 -- What is known of the matches of a parse by the command line.
 use Rattle.std.specs.Prelude.{◌≡◌, ℕ, ◌^◌, ◌-◌, List, codes, Some}
+use Rattle.cpn_definitions.specs.Times.{last_time}
+use Rattle.cpn_runs.specs.Bounds.{most_steps}
 use Rattle.clap.specs.Words.{IsUnsignedIn, first_value, found_of, one_text}
 use Rattle.clap.specs.declared.parser.matches.ArgMatches.{ArgMatches}
 
@@ -17,6 +19,6 @@ pub record HasValues (m : ArgMatches) : Type 0 where
   pub mode : HasValue m (codes "mode")
   pub seed : IsNumberIn 0 (2 ^ 64 - 1) m (codes "seed")
   pub workers : IsNumberIn 1 1 m (codes "workers")
-  pub steps : IsNumberIn 1 1000000 m (codes "steps")
-  pub until : IsNumberIn 0 (2 ^ 62) m (codes "until")
+  pub steps : IsNumberIn 1 most_steps m (codes "steps")
+  pub until : IsNumberIn 0 last_time m (codes "until")
   pub trace : HasValue m (codes "trace")

@@ -1,5 +1,9 @@
+pub mod Limits
 pub mod Options
+pub mod Words
 pub mod OptionsView
 pub mod Given
 pub mod Reported
 pub mod Causes
+pub mod RefusalViews
+pub mod Statuses

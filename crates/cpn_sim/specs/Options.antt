@@ -3,6 +3,8 @@
 use Rattle.std.specs.Prelude.{ℕ, ◌^◌, ◌-◌, Bool, true, if◌then◌else◌, List, [], ◌∷◌, codes, Option, Some, None, option_and_then, unwrap_or}
 use Rattle.std.specs.Str.{bytes_eq}
 use Rattle.std.specs.Str.Parse.{digits_value, without_leading_plus}
+use Rattle.cpn_definitions.specs.Times.{last_time}
+use Rattle.cpn_runs.specs.Bounds.{most_steps}
 use Rattle.clap.specs.Words.{App, Kinds, Row, Rule, fault_of, first_of, matches_of, new_app, new_rule}
 use Rattle.clap.specs.Simple.{on_top}
 use Rattle.clap.specs.declared.builder.action.ArgAction.TheVariants.{Set}
@@ -32,8 +34,8 @@ the_options =
     option (codes "mode") (codes "run")
     ∷ number_option (codes "seed") 0 (2 ^ 64 - 1) (codes "0")
     ∷ number_option (codes "workers") 1 1 (codes "1")
-    ∷ number_option (codes "steps") 1 1000000 (codes "1000")
-    ∷ number_option (codes "until") 0 (2 ^ 62) (codes "4611686018427387904")
+    ∷ number_option (codes "steps") 1 most_steps (codes "1000")
+    ∷ number_option (codes "until") 0 last_time (codes "4611686018427387904")
     ∷ option (codes "trace") (codes "on")
     ∷ []
 

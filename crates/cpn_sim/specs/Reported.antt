@@ -1,9 +1,10 @@
 -- The report that a run of a document gives.
 use Rattle.std.specs.Prelude.{◌≡◌, ℕ, List, Some}
-use Rattle.cpn_definitions.specs.State.{PlainSetup}
-use Rattle.cpn_definitions.specs.Run.{PlainFinished, IsRun, IsLegalRun, Outlook, HasOutlook}
+use Rattle.cpn_runs.specs.State.{PlainSetup}
+use Rattle.cpn_runs.specs.Run.{PlainFinished, IsRun}
 use Rattle.cpn_file.specs.Loading.{PlainLoaded}
-use Rattle.cpn_file.specs.Reads.{Reads}
+use Rattle.cpn_file.specs.Reading.{read}
+use Rattle.cpn_file.specs.Reads.{IsReadAs}
 use Rattle.cpn_report.specs.Report.{report_text}
 use Rattle.cpn_sim.specs.Options.{PlainOptions, options_from}
 
@@ -17,17 +18,12 @@ setup_from loaded options = record { net = loaded.net; start = loaded.initial; c
 pub record IsReportOf (loaded : PlainLoaded) (options : PlainOptions) (report : List ℕ) : Type 0 where
   pub run : PlainFinished
   pub is_run : IsRun (setup_from loaded options) run
-  pub is_legal : IsLegalRun (setup_from loaded options) run
-  pub opening : Outlook
-  pub opening_is : HasOutlook (setup_from loaded options) loaded.initial 0 opening
-  pub closing : Outlook
-  pub closing_is : HasOutlook (setup_from loaded options) run.marking run.clock closing
-  pub text_is : report ≡ report_text options.trace loaded.net 0 opening run closing
+  pub text_is : report ≡ report_text options.trace (setup_from loaded options) run
 
 -- The text is the report of a run of the net that the bytes are read as.
 pub record IsReportUnder (bytes : List ℕ) (options : PlainOptions) (report : List ℕ) : Type 0 where
   pub loaded : PlainLoaded
-  pub reads : Reads bytes loaded
+  pub reads : IsReadAs bytes (read loaded)
   pub is_report : IsReportOf loaded options report
 
 -- The text is the report of a run of the net that the bytes are read as, under the options of the words.

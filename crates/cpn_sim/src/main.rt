@@ -6,9 +6,8 @@
 #![tactic(auto)]
 
 mod answers;
+mod no_options;
 mod options;
-#[cfg(test)]
-mod random_nets;
 mod refusals;
 mod simulation;
 mod statuses;
@@ -17,16 +16,17 @@ mod tests;
 mod words;
 
 use cpn_io::{Stdin, Stdout};
+pub use no_options::NoOptions;
 pub use options::Options;
 pub use simulation::{refuse_words, simulate};
-pub use statuses::Status;
+pub use statuses::{Status, exit_code};
 use std::process::ExitCode;
 use std::rt::Env;
 use std::{env, io};
 pub use words::options_from;
 
 fn main(rt: HostRuntime) -> ExitCode {
-    ExitCode::from(run(&rt) as u8)
+    exit_code(run(&rt))
 }
 
 /// Simulates standard input under the words of the command line, to standard output.

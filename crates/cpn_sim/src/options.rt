@@ -1,6 +1,8 @@
 //! The options of a run.
 
 ghost use Rattle.std.specs.Prelude.{◌≡◌, ◌≤◌, ◌^◌};
+ghost use Rattle.cpn_definitions.specs.Times.{last_time};
+ghost use Rattle.cpn_runs.specs.Bounds.{most_steps};
 
 use cpn_report::Trace;
 
@@ -18,6 +20,6 @@ pub struct Options {
     /// Whether the report has the trace of the run.
     pub trace: Trace,
     ghost one_worker: { workers ≡ 1 },
-    ghost few_steps: { steps ≤ 1000000 },
-    ghost in_time: { until ≤ 2 ^ 62 },
+    ghost few_steps: { steps ≤ most_steps },
+    ghost in_time: { until ≤ last_time },
 }

@@ -1,5 +1,11 @@
 //! How a call of the program ends.
 
+ghost use Rattle.std.specs.Prelude.{◌≡◌};
+ghost use Rattle.std.specs.Process.{exit_status};
+ghost use Rattle.cpn_sim.specs.Statuses.{exit_number};
+
+use std::process::ExitCode;
+
 /// How a call of the program ends; its number is the exit status.
 #[derive(Clone, Copy, Debug, PartialEq, Eq)]
 pub enum Status {
@@ -17,4 +23,11 @@ pub enum Status {
     Memory = 8,
     /// The document has more than 16,777,216 bytes.
     TooLong = 9,
+}
+
+/// The exit code of the program that ends so.
+pub fn exit_code(status: Status) -> ExitCode
+    ensures number { exit_status result ≡ exit_number status }
+{
+    ExitCode::from(status as u8)
 }

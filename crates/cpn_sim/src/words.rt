@@ -6,10 +6,10 @@ ghost use Rattle.clap.specs.Words.{app_of, fault_of, found_of, matches_of, rows_
 ghost use Rattle.cpn_sim.specs.Options.{command_line, number_of, number_option, option, options_from, options_in, trace_of, value_of};
 ghost use Rattle.cpn_sim.specs.OptionsView.{options_view};
 ghost use Rattle.cpn_sim.specs.Given.{HasValue, HasValues, IsNumberIn};
-ghost use Rattle.cpn_sim.specs.Causes.{IsOfWords};
+ghost use Rattle.cpn_sim.specs.Words.{IsOfWords};
 
+use crate::no_options::NoOptions;
 use crate::options::Options;
-use crate::refusals::Refusal;
 use clap::builder::ValueParser;
 use clap::error::ErrorKind;
 use clap::{Arg, ArgAction, ArgMatches, Command};
@@ -55,41 +55,41 @@ const UNTIL: NumberOption = NumberOption {
 
 /// The options that the words give, or that they are refused.
 #[tactic(auto, unfolding(crate::specs::Options::options_from))]
-pub fn options_from(alloc: Global, words: &[String]) -> Result<Options, Refusal>
+pub fn options_from(alloc: Global, words: &[String]) -> Result<Options, NoOptions>
     ensures options { IfOk result (λ options. options_from (map string_bytes words.now) ≡ Some (options_view options)) }
-    ensures cause { IfErr result (λ refusal. IsOfWords refusal (map string_bytes words.now)) }
+    ensures cause { IfErr result (λ reason. IsOfWords reason (map string_bytes words.now)) }
 {
     let matches = matches_of(alloc, words)?;
     match options_in(&matches) {
         Some(options) => Ok(options),
-        None => Err(Refusal::Words),
+        None => Err(NoOptions::Refused),
     }
 }
 
 /// The matches of the words by the command line, or that it refuses them.
-fn matches_of<'a>(alloc: Global, words: &'a [String]) -> Result<ArgMatches<'a>, Refusal>
+fn matches_of<'a>(alloc: Global, words: &'a [String]) -> Result<ArgMatches<'a>, NoOptions>
     ensures accepted { OnOk result (fault_of command_line (map string_bytes words.entry.now) ≡ []) }
     ensures matches { IfOk result (λ m. rows_of (found_of m) ≡ matches_of command_line (map string_bytes words.entry.now)) }
     ensures values { IfOk result (λ m. HasValues m) }
-    ensures cause { IfErr result (λ refusal. IsOfWords refusal (map string_bytes words.entry.now)) }
+    ensures cause { IfErr result (λ reason. IsOfWords reason (map string_bytes words.entry.now)) }
 {
     let Ok(command) = command_line(alloc) else {
-        return Err(Refusal::Memory);
+        return Err(NoOptions::Memory);
     };
     match command.try_get_matches_from(words) {
         Ok(matches) => Ok(matches),
-        Err(error) => Err(refusal_of(error.kind())),
+        Err(error) => Err(reason_of(error.kind())),
     }
 }
 
 /// What an error of the parse refuses: the words, but for want of memory.
-fn refusal_of(kind: ErrorKind) -> Refusal
-    ensures memory { kind ≡ ErrorKind.OutOfMemory → result ≡ Refusal.Memory }
-    ensures words { (result ≡ Refusal.Words) ⊎ (kind ≡ ErrorKind.OutOfMemory) }
+fn reason_of(kind: ErrorKind) -> NoOptions
+    ensures memory { kind ≡ ErrorKind.OutOfMemory → result ≡ NoOptions.Memory }
+    ensures words { (result ≡ NoOptions.Refused) ⊎ (kind ≡ ErrorKind.OutOfMemory) }
 {
     match kind {
-        ErrorKind::OutOfMemory => Refusal::Memory,
-        _ => Refusal::Words,
+        ErrorKind::OutOfMemory => NoOptions::Memory,
+        _ => NoOptions::Refused,
     }
 }
 

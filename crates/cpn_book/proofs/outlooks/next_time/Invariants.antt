@@ -1,6 +1,6 @@
 use Rattle.std.proofs.Common.{◌≡◌, drop, map}
 use Rattle.cpn_definitions.specs.Enabled.{next_time}
-use Rattle.cpn_core.specs.Occurrences.{entry_view}
+use Rattle.cpn_core.specs.Elements.{entry_view}
 use Rattle.cpn_book.proofs.Soonest.{soonest}
 use Rattle.cpn_book.proofs.outlooks.next_time.Given as goal
 

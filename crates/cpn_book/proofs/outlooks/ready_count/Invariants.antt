@@ -1,6 +1,6 @@
 use Rattle.std.proofs.Common.{◌≡◌, ◌+◌, ◌≤◌, drop, map, length}
 use Rattle.cpn_definitions.specs.Enabled.{ready}
-use Rattle.cpn_core.specs.Occurrences.{entry_view}
+use Rattle.cpn_core.specs.Elements.{entry_view}
 use Rattle.cpn_book.proofs.outlooks.ready_count.Given as goal
 
 abbrev pub invariant-loop-entry : goal.invariant-loop-entry

@@ -1,26 +1,18 @@
--- Each half that is left out is wholly before or wholly after the token.
-use Rattle.std.proofs.Common.{◌+◌, ◌-◌, ◌/◌, arith, sym, ◌∙◌}
-use Rattle.cpn_definitions.specs.Marking.{token_at}
+-- Sorted tokens are divided by whether the token comes before them.
+use Rattle.std.proofs.Common.{not, is_lt, rules}
+use Rattle.std.proofs.lemmas.List.Sorted.{IsPartitionPoint-from_clause}
+use Rattle.cpn_definitions.specs.Marking.{token_at, token_cmp}
+use Rattle.cpn_definitions.specs.ValueOrder.{token_cmp_total}
+use Rattle.cpn_core.specs.Tokens.{token_view, tokens_view}
 use Rattle.cpn_core.specs.Views.{value_view}
-use Rattle.cpn_core.proofs.Placing.{none_until, each_from}
+use Rattle.cpn_core.proofs.InsertPlaces.{divided, divided_views}
+use Rattle.cpn_core.proofs.Placing.{sorted_in_order}
 use Rattle.cpn_core.proofs.places.place_for.Goals as goal
 
-pub loop-low-preserved-then-comes_before : goal.loop-low-preserved-then-comes_before
-loop-low-preserved-then-comes_before c = record {
-  ordered = omega arith;
-  within = omega arith;
-  none_below = c.loop-low.invariant.none_below;
-  each_above =
-      each_from (token_at (value_view c.args.value.now) c.args.stamp) c.args.tokens.now (c.loop-low.low + (c.loop-low.high - c.loop-low.low) / 2) c.index-tokens-middle.result c.requires.sorted (omega arith)
-      c.index-tokens-middle.is (sym c.comes_before.ensures ∙ c.if-comes_before.true);
-}
-
-pub loop-low-preserved : goal.loop-low-preserved
-loop-low-preserved c = record {
-  ordered = omega arith;
-  within = omega arith;
-  none_below =
-      none_until (token_at (value_view c.args.value.now) c.args.stamp) c.args.tokens.now (c.loop-low.low + (c.loop-low.high - c.loop-low.low) / 2) c.index-tokens-middle.result c.requires.sorted (omega arith)
-      c.index-tokens-middle.is (sym c.comes_before.ensures ∙ c.if-comes_before.false);
-  each_above = c.loop-low.invariant.each_above;
-}
+pub returns-clause-place : goal.returns-clause-place
+returns-clause-place c =
+    let token = token_at (value_view c.args.value.now) c.args.stamp in
+    let split = divided token_view token_cmp token_cmp_total token c.args.tokens.now (sorted_in_order (tokens_view c.args.tokens.now) c.requires.sorted) in
+    let point =
+    IsPartitionPoint-from_clause (λ y. not (is_lt (token_cmp token (token_view y)))) c.args.tokens.now c.partition_point.result c.partition_point.ensures.partitioned split (λ a r f k. search rules) in
+    divided_views token_view token_cmp token c.args.tokens.now c.partition_point.result c.partition_point.ensures.bound point

@@ -2,7 +2,7 @@
 use Rattle.std.proofs.Common.{rules}
 use Rattle.std.proofs.lemmas.List.Sorted.{IsPartitionPoint-from_clause}
 use Rattle.cpn_definitions.specs.Order.{before}
-use Rattle.cpn_definitions.proofs.Searching.{before_too}
+use Rattle.cpn_core.proofs.TokenPlaces.{before_too}
 use Rattle.cpn_core.specs.Views.{value_view}
 use Rattle.cpn_core.proofs.Placing.{divides, divided_at}
 use Rattle.cpn_core.proofs.places.start_of_value.Goals as goal

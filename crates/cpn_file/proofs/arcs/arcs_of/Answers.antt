@@ -1,27 +1,23 @@
 -- Each item is read as the next one of the list, or refused with it.
-use Rattle.std.proofs.Common.{◌∙◌, arith}
+use Rattle.std.proofs.Common.{◌∙◌, map, arith}
 use Rattle.std.proofs.lemmas.Result.{err_from_is_err_and}
-use Rattle.serde_json.specs.View.{view, items_view}
-use Rattle.cpn_file.specs.Parts.{each_in}
-use Rattle.cpn_file.specs.Document.{arc_in}
-use Rattle.cpn_file.specs.Names.{texts_of}
-use Rattle.cpn_file.proofs.Lists.{each_more, each_fails, each_done, fails_through}
+use Rattle.cpn_file.specs.Views.{joined_view}
+use Rattle.cpn_file.specs.Loading.{arc_of}
+use Rattle.cpn_file.specs.Reading.{each}
+use Rattle.cpn_file.specs.Answers.{refusal_of, refused_view}
+use Rattle.cpn_file.proofs.ReadLists.{each_more_at, each_refused_at, each_done, refuses_same}
 use Rattle.cpn_file.proofs.arcs.arcs_of.Goals as goal
 
 pub returns-in_err-arc_of : goal.returns-in_err-arc_of
 returns-in_err-arc_of c =
-    let p = err_from_is_err_and c.from_residual.result c.from_residual.ensures.1 in
-    let read = arc_in (texts_of c.args.places.now.keys) (texts_of c.args.transitions.now.keys) (texts_of c.args.variables.now.keys) in
-    rw (p.1, p.2) (fails_through c.in_err-arc_of.field-0.0 (read (view c.value-item.result)) (each_in read (items_view c.args.list.now))
-    (λ none. each_fails read c.args.list.now c.loop-value.value-index c.value-item.result (omega arith) c.value-item.is c.loop-value.arcs.items c.loop-value.invariant none)
-    c.in_err-arc_of.ensures)
+    let p = err_from_is_err_and c.from_residual-in_err-arc_of.result c.from_residual-in_err-arc_of.ensures.1 in
+    rw p.1 (refuses_same (refusal_of p.0) (refused_view c.in_err-arc_of.field-0.0) (each (arc_of c.args.variables.now) (map joined_view c.args.joined.now)) p.2
+    (each_refused_at joined_view (arc_of c.args.variables.now) c.args.joined.now c.loop-arc.arc-index _ (omega arith) (c.loop-arc.arcs.items) (refused_view c.in_err-arc_of.field-0.0) c.loop-arc.invariant c.in_err-arc_of.ensures))
 
-pub loop-value-preserved : goal.loop-value-preserved
-loop-value-preserved c =
-    let read = arc_in (texts_of c.args.places.now.keys) (texts_of c.args.transitions.now.keys) (texts_of c.args.variables.now.keys) in
-    rw c.in_ok-push.ensures.items
-    (each_more read c.args.list.now c.loop-value.value-index c.value-item.result (omega arith) c.value-item.is c.loop-value.arcs.items c.in_ok-arc_of.field-0 c.in_ok-arc_of.ensures ∙ c.loop-value.invariant)
+pub loop-arc-preserved : goal.loop-arc-preserved
+loop-arc-preserved c =
+    rw (c.in_ok-push.ensures.items)
+    (each_more_at joined_view (arc_of c.args.variables.now) c.args.joined.now c.loop-arc.arc-index _ (omega arith) (c.loop-arc.arcs.items) (c.in_ok-arc_of.field-0) c.in_ok-arc_of.ensures ∙ c.loop-arc.invariant)
 
 pub returns : goal.returns
-returns c =
-    each_done (arc_in (texts_of c.args.places.now.keys) (texts_of c.args.transitions.now.keys) (texts_of c.args.variables.now.keys)) c.args.list.now c.loop-value.value-index c.loop-value.arcs.items (omega arith) c.loop-value.invariant
+returns c = each_done joined_view (arc_of c.args.variables.now) c.args.joined.now c.loop-arc.arc-index (c.loop-arc.arcs.items) (omega arith) c.loop-arc.invariant

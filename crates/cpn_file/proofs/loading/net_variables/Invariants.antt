@@ -2,8 +2,7 @@
 use Rattle.std.proofs.Common.{◌≡◌, map, take}
 use Rattle.cpn_core.specs.Nets.{variable_view}
 use Rattle.cpn_file.specs.Loading.{variable_of}
-use Rattle.cpn_file.specs.Names.{strings_of}
 use Rattle.cpn_file.proofs.loading.net_variables.Given as goal
 
-abbrev pub invariant-loop-name : goal.invariant-loop-name
-invariant-loop-name l = map variable_view l.made.items ≡ map variable_of (strings_of (take l.name-index l.names))
+abbrev pub invariant-loop-number : goal.invariant-loop-number
+invariant-loop-number l = map variable_view l.made.items ≡ map variable_of (take l.number l.names)

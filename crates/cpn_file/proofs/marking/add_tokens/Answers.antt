@@ -1,7 +1,7 @@
 -- The tokens of one value stand one beside another.
 use Rattle.cpn_definitions.specs.Value.{int}
 use Rattle.cpn_definitions.specs.Marking.{token_at}
-use Rattle.cpn_file.proofs.Marked.{none_added, one_added}
+use Rattle.cpn_file.proofs.InitialMarkings.{none_added, one_added}
 use Rattle.cpn_file.proofs.marking.add_tokens.Goals as goal
 
 pub loop-token-init : goal.loop-token-init

@@ -1,4 +1,5 @@
-use Rattle.cpn_file.proofs.Stripping.{front_taken}
+-- What follows the front of a text.
+use Rattle.cpn_file.proofs.TextEnds.{front_taken}
 use Rattle.cpn_file.proofs.texts.after.Goals as goal
 
 pub returns : goal.returns

@@ -1,4 +1,5 @@
-use Rattle.cpn_file.proofs.Stripping.{end_taken}
+-- What the end of a text follows.
+use Rattle.cpn_file.proofs.TextEnds.{end_taken}
 use Rattle.cpn_file.proofs.texts.before.Goals as goal
 
 pub returns : goal.returns

@@ -10,13 +10,13 @@ pub returns-in-Ok-clause-small : goal.returns-in-Ok-clause-small
 returns-in-Ok-clause-small c =
     let digits : list_all is_digit c.args.text.now ≡ true = search rules in
     let long : 0 < length c.args.text.now = search rules in
-    let p = parsed c.args.text.now c.parse.result c.parse.ensures.value.0 digits long c.if-text-gt18.false in
+    let p = parsed c.args.text.now c.parse.result c.parse.ensures.value.0 digits long c.if-text-gt-MOST_DIGITS.false in
     let e : c.in-Ok.number ≡ digits_value 10 c.args.text.now = cc in
-    rw e (digits_small c.args.text.now digits c.if-text-gt18.false)
+    rw e (digits_small c.args.text.now digits c.if-text-gt-MOST_DIGITS.false)
 
 pub returns-in-Err-clause-value : goal.returns-in-Err-clause-value
 returns-in-Err-clause-value c =
     let digits : list_all is_digit c.args.text.now ≡ true = search rules in
     let long : 0 < length c.args.text.now = search rules in
-    let p = parsed c.args.text.now c.parse.result c.parse.ensures.value.0 digits long c.if-text-gt18.false in
+    let p = parsed c.args.text.now c.parse.result c.parse.ensures.value.0 digits long c.if-text-gt-MOST_DIGITS.false in
     cc

@@ -1,4 +1,5 @@
-use Rattle.cpn_file.proofs.Stripping.{parts_taken}
+-- What stands before and after the first backtick.
+use Rattle.cpn_file.proofs.TextEnds.{parts_taken}
 use Rattle.cpn_file.proofs.texts.parts_of.Goals as goal
 
 pub returns : goal.returns

@@ -3,7 +3,7 @@ use Rattle.std.proofs.Common.{◌≡◌, ◌-◌}
 use Rattle.std.specs.List.{range_with_len}
 use Rattle.cpn_core.specs.Nets.{arcs_view}
 use Rattle.cpn_file.specs.Loading.{bound_among}
-use Rattle.cpn_file.proofs.Lists.{with_front}
+use Rattle.cpn_file.proofs.ReadLists.{with_front}
 use Rattle.cpn_file.proofs.transitions.variables_on.Given as goal
 
 abbrev pub invariant-loop-variable : goal.invariant-loop-variable

@@ -5,9 +5,14 @@ use Rattle.std.specs.String.{string_bytes}
 use Rattle.cpn_core.specs.Nets.{net_view}
 use Rattle.cpn_core.specs.Views.{value_view}
 use Rattle.cpn_report.specs.Report.{pair_text}
-use Rattle.cpn_report.proofs.Texts.{joined_more, joined_last}
+use Rattle.cpn_report.specs.Printable.{is_bound}
+use Rattle.cpn_report.proofs.PrintableNets.{passes_seen}
+use Rattle.cpn_report.proofs.JoinedTexts.{joined_more, joined_last}
 use Rattle.cpn_report.proofs.elements.push_pairs.Goals as goal
 use Rattle.cpn_report.proofs.elements.push_pairs.Goals.{then-number-pairs+in_ok-push_str, else-number-pairs}
+
+pub push_pair-requires-clause-bound : goal.push_pair-requires-clause-bound
+push_pair-requires-clause-bound c = passes_seen (is_bound (net_view c.args.net.now)) (λ pair. (pair.variable, value_view pair.value)) c.args.pairs.now c.loop-number.number c.index-pairs-number.result c.loop-number-test.true c.index-pairs-number.is c.requires.bound
 
 pub loop-number-preserved : goal.loop-number-preserved
 loop-number-preserved c =

@@ -3,7 +3,7 @@ use Rattle.std.proofs.Common.{◌≡◌, ◌<◌, ◌≤◌, ◌∙◌, ap₂, f
 use Rattle.std.proofs.lemmas.List.{length-map}
 use Rattle.cpn_core.specs.Tokens.{token_view, tokens_view}
 use Rattle.cpn_report.specs.Report.{same_token}
-use Rattle.cpn_report.proofs.Grouping.{next_run, ended_run, whole_run, seen_at}
+use Rattle.cpn_report.proofs.EqualTokens.{next_run, ended_run, whole_run, seen_at}
 use Rattle.cpn_report.proofs.groups.first_count.Goals as goal
 
 pub returns-then-not-is_same-clause-group : goal.returns-then-not-is_same-clause-group

@@ -1,14 +1,18 @@
--- One variable more is bound, and the bindings stay in order.
-use Rattle.std.proofs.Common.{map}
-use Rattle.cpn_definitions.proofs.Assignments.{candidates}
-use Rattle.cpn_core.specs.Nets.{arc_view, net_view}
-use Rattle.cpn_search.proofs.Steps.{one_bound, passes_after}
+-- The assignments are those of the transition of the number: each binds its variables, and none that is covered is left out.
+use Rattle.cpn_core.specs.Nets.{net_view}
+use Rattle.cpn_search.proofs.KnownTransitions.{known_transition}
+use Rattle.cpn_search.proofs.AssignmentsOf.{by_number, each_binds, none_left_out}
 use Rattle.cpn_search.proofs.assignments.assignments.Goals as goal
 
-pub loop-variable-preserved : goal.loop-variable-preserved
-loop-variable-preserved c = record {
-  rest = one_bound (candidates (net_view c.args.net.now) c.args.marking.now (map arc_view c.args.transition.now.inputs.items)) c.deref-variable-items.result.now c.loop-variable.variable-index _ c.loop-variable.bindings.items c.in_ok-bindings.bindings.items _ c.loop-variable-test.true c.loop-variable.invariant.rest c.in_ok-bindings.ensures.extended;
-  in_order = c.in_ok-bindings.ensures.in_order c.loop-variable.variable-index c.loop-variable.invariant.in_order;
-  declared = passes_after _ c.deref-variable-items.result.now c.loop-variable.variable-index c.loop-variable.invariant.declared;
-  bound = passes_after _ c.deref-variable-items.result.now c.loop-variable.variable-index c.loop-variable.invariant.bound;
-}
+pub all_assigned-requires : goal.all_assigned-requires
+all_assigned-requires c = record { known = known_transition c.args.net.now c.args.marking.now c.args.t c.index.result.now c.requires.sound c.requires.marking c.requires.in_range c.index.ensures }
+
+pub returns : goal.returns
+returns c =
+    let all = by_number c.args.net.now c.args.marking.now c.args.t c.index.result.now c.in_ok-bindings.bindings.items c.requires.in_range c.index.ensures c.in_ok-bindings.ensures.assigned in
+    record {
+      assigned = all;
+      in_order = c.in_ok-bindings.ensures.in_order;
+      bound = each_binds (net_view c.args.net.now) c.args.marking.now c.args.t c.in_ok-bindings.bindings.items all;
+      complete = none_left_out (net_view c.args.net.now) c.args.marking.now c.args.t c.in_ok-bindings.bindings.items c.requires.sound all;
+    }

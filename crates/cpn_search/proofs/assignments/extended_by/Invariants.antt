@@ -1,7 +1,7 @@
 -- The longer bindings are those of the bindings so far.
 use Rattle.std.proofs.Common.{◌≡◌, map, take}
 use Rattle.std.specs.List.{flat_map}
-use Rattle.cpn_definitions.proofs.Assignments.{extended}
+use Rattle.cpn_search.specs.Assignments.{extended}
 use Rattle.cpn_core.specs.Views.{value_view}
 use Rattle.cpn_search.proofs.assignments.extended_by.Given as goal
 

@@ -1,6 +1,6 @@
 -- The bindings have those of the values so far.
 use Rattle.std.proofs.Common.{◌≡◌, ◌++◌, map, take}
-use Rattle.cpn_definitions.proofs.Assignments.{extended}
+use Rattle.cpn_search.specs.Assignments.{extended}
 use Rattle.cpn_core.specs.Views.{value_view}
 use Rattle.cpn_search.proofs.assignments.push_extended.Given as goal
 

@@ -1,7 +1,8 @@
 -- Bindings in order stay in order with candidates, which come in order.
 use Rattle.std.proofs.Common.{◌+◌, ◌∙◌, sym, ap₂, subst, map}
 use Rattle.std.specs.List.{flat_map}
-use Rattle.cpn_definitions.proofs.Assignments.{AreInOrder, extended, more_in_order}
+use Rattle.cpn_search.specs.Assignments.{AreInOrder, extended}
+use Rattle.cpn_search.proofs.AssignedBindings.{more_in_order}
 use Rattle.cpn_core.specs.Views.{value_view}
 use Rattle.cpn_search.proofs.assignments.with_candidates.Goals as goal
 

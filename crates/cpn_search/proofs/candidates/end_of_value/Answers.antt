@@ -1,9 +1,10 @@
 -- Sorted tokens are divided by whether their values come after the value.
 use Rattle.std.proofs.Common.{rules}
 use Rattle.std.proofs.lemmas.List.Sorted.{IsPartitionPoint-from_clause}
-use Rattle.cpn_definitions.proofs.Stretches.{is_at_most, at_most_too}
+use Rattle.cpn_search.specs.Stretches.{is_at_most}
+use Rattle.cpn_search.proofs.Stretches.{at_most_too}
 use Rattle.cpn_core.specs.Views.{value_view}
-use Rattle.cpn_core.proofs.Placing.{divides, divided_at}
+use Rattle.cpn_search.proofs.PlainTokens.{divides, divided_at}
 use Rattle.cpn_search.proofs.candidates.end_of_value.Goals as goal
 
 pub returns-clause-end : goal.returns-clause-end

@@ -1,6 +1,6 @@
 -- The first place of the arcs that are left is that of all.
 use Rattle.std.proofs.Common.{◌≡◌, map, drop}
-use Rattle.cpn_definitions.proofs.Assignments.{first_place}
+use Rattle.cpn_search.specs.Candidates.{first_place}
 use Rattle.cpn_core.specs.Nets.{arc_view}
 use Rattle.cpn_search.proofs.candidates.first_place.Given as goal
 

@@ -1,10 +1,9 @@
 -- The values that pass rise, as the tokens are sorted, and each turn goes on to the next value.
 use Rattle.std.proofs.Common.{map, arith}
-use Rattle.cpn_definitions.proofs.Assignments.{is_candidate}
+use Rattle.cpn_search.specs.Candidates.{is_candidate}
 use Rattle.cpn_core.specs.Views.{value_view}
 use Rattle.cpn_core.specs.Nets.{arc_view, net_view}
-use Rattle.cpn_search.proofs.InOrder.{passed_rise}
-use Rattle.cpn_search.proofs.Jumping.{fewer_left}
+use Rattle.cpn_search.proofs.ValuesPassing.{fewer_left, passed_rise}
 use Rattle.cpn_search.proofs.candidates.values_among.Goals as goal
 
 pub returns-clause-in_order : goal.returns-clause-in_order

@@ -1,6 +1,6 @@
 -- The values so far, and those among the tokens that are left, are those among all.
 use Rattle.std.proofs.Common.{◌≡◌, ◌++◌, ◌-◌, map, drop, length}
-use Rattle.cpn_definitions.proofs.Assignments.{values_passing, is_candidate}
+use Rattle.cpn_search.specs.Candidates.{values_passing, is_candidate}
 use Rattle.cpn_core.specs.Views.{value_view}
 use Rattle.cpn_core.specs.Nets.{arc_view, net_view}
 use Rattle.cpn_core.specs.Tokens.{tokens_view}

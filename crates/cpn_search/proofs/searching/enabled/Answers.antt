@@ -1,13 +1,14 @@
 -- Transition by transition the entries are the enabled elements.
 use Rattle.std.proofs.Common.{map, arith}
-use Rattle.cpn_core.specs.Occurrences.{entry_view}
-use Rattle.cpn_search.specs.Finds.{found_views}
-use Rattle.cpn_search.proofs.Finding.{entries_more, entries_all}
+use Rattle.cpn_core.specs.Nets.{net_view}
+use Rattle.cpn_core.specs.Elements.{entry_view}
+use Rattle.cpn_search.specs.FoundViews.{found_view}
+use Rattle.cpn_search.proofs.Transitions.{entries_more, entries_all}
 use Rattle.cpn_search.proofs.searching.enabled.Goals as goal
 
 pub loop-t-preserved : goal.loop-t-preserved
 loop-t-preserved c =
-    entries_more c.args.net.now c.args.marking.now c.args.clock c.loop-t.t (map entry_view c.loop-t.entries.items) (map entry_view c.push_entries.new.entries.items) (found_views c.in_ok-found.found.items) c.requires.sound c.loop-t.invariant c.in_ok-found.ensures.enabled c.in_ok-push_entries.ensures.appended
+    entries_more (net_view c.args.net.now) c.args.marking.now c.args.clock c.loop-t.t (map entry_view c.loop-t.entries.items) (map entry_view c.push_entries.new.entries.items) (map found_view c.in_ok-found.found.items) c.loop-t.invariant c.in_ok-found.ensures.enabled c.in_ok-push_entries.ensures.appended
 
 pub returns : goal.returns
 returns c = record { enabled = entries_all c.args.net.now c.args.marking.now c.args.clock c.loop-t.t (map entry_view c.loop-t.entries.items) c.loop-t.invariant (omega arith) }

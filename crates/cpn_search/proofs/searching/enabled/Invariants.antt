@@ -1,8 +1,8 @@
 -- The entries are the enabled elements of the transitions so far.
 use Rattle.std.proofs.Common.{map}
-use Rattle.cpn_definitions.proofs.AllTransitions.{EnabledBelow}
 use Rattle.cpn_core.specs.Nets.{net_view}
-use Rattle.cpn_core.specs.Occurrences.{entry_view}
+use Rattle.cpn_core.specs.Elements.{entry_view}
+use Rattle.cpn_search.specs.Found.{EnabledBelow}
 use Rattle.cpn_search.proofs.searching.enabled.Given as goal
 
 abbrev pub invariant-loop-t : goal.invariant-loop-t

@@ -1,9 +1,8 @@
--- What a refusal gives, by its cause.
-use Rattle.std.proofs.Common.{◌≡◌, ◌⊎◌, ℕ, List, inl, inr, ⊎_elim, refl, subst}
+-- What a report and a refusal give.
+use Rattle.std.proofs.Common.{ℕ, List, map, string_bytes, inr, refl, subst}
 use Rattle.std.specs.Io.KnownBytes.{Appends}
-use Rattle.cpn_sim.specs.Causes.{error_line}
-use Rattle.cpn_sim.specs.declared.refusals.Refusal.TheVariants as refusals
-use Rattle.cpn_sim.proofs.Refused.{refused_words, refused_long, refused_document, refused_complete}
+use Rattle.cpn_sim.specs.Causes.{PlainRefusal, HasCause, error_line, IsRefused}
+use Rattle.cpn_sim.proofs.Refused.{plain_of, no_report, words_told, read_told, long_told, document_told, refused_words, refused_long, refused_document, refused_complete}
 use Rattle.cpn_sim.proofs.OneReport.{of_every_report}
 use Rattle.cpn_sim.proofs.simulation.simulate.Goals as goal
 
@@ -12,21 +11,37 @@ returns-in-Ok-write_all-clause-only g c = λ _.
     let P : List ℕ → Type 0 = λ text. Appends (g.K.Sink.held c.args.sink.now) (g.K.Sink.held c.write_all.new.sink) text in
     of_every_report _ (g.S.Source.left c.args.source.now) _ P c.in-Ok.ensures.one_worker c.in-Ok.ensures.report (subst P c.as_bytes.ensures.value c.in-Ok-write_all.ensures.ok)
 
-pub returns-clause-write_part : goal.returns-clause-write_part
-returns-clause-write_part g c = λ is. (error_line c.in-Err.refusal, inr (c.in-Err.refusal, c.in-Err.ensures.cause, refl), c.refuse.ensures.part is)
-
-pub returns-clause-bad_words : goal.returns-clause-bad_words
-returns-clause-bad_words g c = λ none.
-    let which : (c.in-Err.refusal ≡ refusals.Words) ⊎ (c.in-Err.refusal ≡ refusals.Memory) = ⊎_elim (λ e. inl (cc e)) (λ e. inr (cc e)) (c.in-Err.ensures.words none) in
-    refused_words c.in-Err.refusal _ _ _ _ c.refuse.result _ (record { cause = c.in-Err.ensures.cause; status_is = c.refuse.ensures.status; fault = c.refuse.ensures.fault }) which
-
-pub returns-clause-too_long : goal.returns-clause-too_long
-returns-clause-too_long g c =
-    refused_long c.in-Err.refusal _ _ _ _ c.refuse.result _ (record { cause = c.in-Err.ensures.cause; status_is = c.refuse.ensures.status; fault = c.refuse.ensures.fault })
-
-pub returns-clause-bad_document : goal.returns-clause-bad_document
-returns-clause-bad_document g c = λ options some bytes is short which. refused_document c.in-Err.refusal _ _ _ _ c.refuse.result _ (record { cause = c.in-Err.ensures.cause; status_is = c.refuse.ensures.status; fault = c.refuse.ensures.fault }) options some bytes is short
-
-pub returns-clause-complete : goal.returns-clause-complete
-returns-clause-complete g c =
-    refused_complete c.in-Err.refusal _ _ _ _ c.refuse.result _ (record { cause = c.in-Err.ensures.cause; status_is = c.refuse.ensures.status; fault = c.refuse.ensures.fault })
+pub returns-in-Ok-line_of : goal.returns-in-Ok-line_of
+returns-in-Ok-line_of g c =
+    let words : List (List ℕ) = map string_bytes c.args.words.now in
+    let left = g.S.Source.left c.args.source.now in
+    let before = g.S.Source.faults c.args.source.now in
+    let after = g.S.Source.faults c.answer.new.source in
+    let old = g.K.Sink.held c.args.sink.now in
+    let new = g.K.Sink.held c.refuse.new.sink in
+    let faults = g.K.Sink.faults c.args.sink.now in
+    let now = g.K.Sink.faults c.refuse.new.sink in
+    let given : (plain : PlainRefusal) × HasCause plain words left before after × IsRefused plain c.refuse.result old new faults now =
+    plain_of c.in-Err.refusal _ c.in-Err.ensures.cause c.refuse.ensures.refused c.in-Ok-line_of.ensures.memory in
+    let plain = given.0 in
+    let cause = given.1 in
+    let written = given.2 in
+    record {
+      done = λ is. absurd (no_report plain words left before after c.refuse.result old new faults now cause written is);
+      only = λ is. absurd (no_report plain words left before after c.refuse.result old new faults now cause written is);
+      read_to_end = λ is. absurd (no_report plain words left before after c.refuse.result old new faults now cause written is);
+      words = λ is. (words_told plain words left before after c.refuse.result old new faults now cause written is).0;
+      read = λ is. (read_told plain words left before after c.refuse.result old new faults now cause written is).0;
+      long = λ is. (long_told plain words left before after c.refuse.result old new faults now cause written is).0;
+      document = λ is. let told = document_told plain words left before after c.refuse.result old new faults now cause written is in (told.1.0, (told.0, told.2, told.1.1));
+      write = λ is. written.fault is;
+      words_line = λ is. (words_told plain words left before after c.refuse.result old new faults now cause written is).1;
+      read_line = λ is. (read_told plain words left before after c.refuse.result old new faults now cause written is).1;
+      long_line = λ is. (long_told plain words left before after c.refuse.result old new faults now cause written is).1;
+      memory = λ is. written.memory is;
+      write_part = λ is. (error_line plain, inr (plain, cause, refl), written.part is);
+      bad_words = refused_words plain words left before after c.refuse.result old new faults now cause written;
+      too_long = refused_long plain words left before after c.refuse.result old new faults now cause written;
+      bad_document = λ options some bytes is short which reads. refused_document plain words left before after c.refuse.result old new faults now cause written options some bytes is short;
+      complete = refused_complete plain words left before after c.refuse.result old new faults now cause written;
+    }

@@ -7,9 +7,9 @@ use Rattle.clap.specs.declared.error.kind.ErrorKind.{ErrorKind}
 use Rattle.clap.specs.declared.error.kind.ErrorKind.TheVariants as kind
 use Rattle.clap.proofs.OnLiterals.{clap_on_literals}
 use Rattle.cpn_sim.specs.Options.{command_line, options_from, options_in, unless_faulty}
-use Rattle.cpn_sim.specs.Causes.{IsOfWords}
-use Rattle.cpn_sim.specs.declared.refusals.Refusal.{Refusal}
-use Rattle.cpn_sim.specs.declared.refusals.Refusal.TheVariants as refusals
+use Rattle.cpn_sim.specs.Words.{IsOfWords}
+use Rattle.cpn_sim.specs.declared.no_options.NoOptions.{NoOptions}
+use Rattle.cpn_sim.specs.declared.no_options.NoOptions.TheVariants as reasons
 use Rattle.cpn_sim.proofs.Readings.{given_values}
 use Rattle.cpn_sim.proofs.words.matches_of.Goals as goal
 
@@ -28,8 +28,8 @@ faulty words k among = go (fault_of command_line words) among
     go (x ∷ xs) among = refl
 
 -- an error that is not want of memory is a fault of the command
-of_error : (words : List (List ℕ)) (e : Error) (r : Refusal) → HasKind (fault_of command_line words) e → (kind_of e ≡ kind.OutOfMemory → r ≡ refusals.Memory)
-    → (r ≡ refusals.Words) ⊎ (kind_of e ≡ kind.OutOfMemory) → IsOfWords r words
+of_error : (words : List (List ℕ)) (e : Error) (r : NoOptions) → HasKind (fault_of command_line words) e → (kind_of e ≡ kind.OutOfMemory → r ≡ reasons.Memory)
+    → (r ≡ reasons.Refused) ⊎ (kind_of e ≡ kind.OutOfMemory) → IsOfWords r words
 of_error words e r (inl memory) to_memory which = subst (λ q. IsOfWords q words) (sym (to_memory memory)) tt
 of_error words e r (inr among) to_memory (inr memory) = subst (λ q. IsOfWords q words) (sym (to_memory memory)) tt
 of_error words e r (inr among) to_memory (inl is) = subst (λ q. IsOfWords q words) (sym is) (faulty words (kind_of e) among)
@@ -42,4 +42,4 @@ pub returns-in-Err-clause-cause : goal.returns-in-Err-clause-cause
 returns-in-Err-clause-cause c =
     let simple : is_simple_and_free (app_of c.in-Ok.command) ≡ true = ap is_simple_and_free c.in-Ok.ensures ∙ is_simple in
     let fails = c.in-Err.ensures.kinds simple in
-    of_error (map string_bytes c.args.words.now) c.in-Err.error c.refusal_of.result (subst (λ a. HasKind (fault_of a (map string_bytes c.args.words.now)) c.in-Err.error) c.in-Ok.ensures fails) (λ m. c.refusal_of.ensures.memory (c.kind.ensures ∙ m)) (⊎_elim (λ is. inl is) (λ m. inr (sym c.kind.ensures ∙ m)) c.refusal_of.ensures.words)
+    of_error (map string_bytes c.args.words.now) c.in-Err.error c.reason_of.result (subst (λ a. HasKind (fault_of a (map string_bytes c.args.words.now)) c.in-Err.error) c.in-Ok.ensures fails) (λ m. c.reason_of.ensures.memory (c.kind.ensures ∙ m)) (⊎_elim (λ is. inl is) (λ m. inr (sym c.kind.ensures ∙ m)) c.reason_of.ensures.words)

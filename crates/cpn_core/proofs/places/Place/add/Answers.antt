@@ -1,7 +1,8 @@
 -- The new token stands at its place, and the tokens stay sorted.
 use Rattle.std.proofs.Common.{sym, subst}
-use Rattle.cpn_definitions.specs.Marking.{token_at, AreSorted, IsPlaceOf}
-use Rattle.cpn_definitions.proofs.Sorting.{add_token_sorted}
+use Rattle.cpn_definitions.specs.Marking.{token_at, AreSorted}
+use Rattle.cpn_core.specs.Positions.{IsPlaceOf}
+use Rattle.cpn_definitions.proofs.SortedTokens.{add_token_sorted}
 use Rattle.cpn_core.specs.Views.{value_view}
 use Rattle.cpn_core.specs.Tokens.{tokens_view}
 use Rattle.cpn_core.proofs.Placing.{inserted}

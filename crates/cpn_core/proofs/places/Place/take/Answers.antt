@@ -1,7 +1,7 @@
 -- The token that is found is removed, and the tokens stay sorted.
 use Rattle.std.proofs.Common.{◌≡◌, remove, sym, subst, ◌∙◌, List}
 use Rattle.cpn_definitions.specs.Marking.{without_token, AreSorted}
-use Rattle.cpn_definitions.proofs.Sorting.{without_token_sorted}
+use Rattle.cpn_definitions.proofs.SortedTokens.{without_token_sorted}
 use Rattle.cpn_core.specs.declared.places.Token.{Token}
 use Rattle.cpn_core.specs.Views.{value_view}
 use Rattle.cpn_core.specs.Tokens.{tokens_view}

@@ -1,0 +1,124 @@
+-- A round as the code plays it: which element it draws, what it takes and makes, and what it notes. It keeps a run under way.
+use Rattle.std.proofs.Common.{◌≡◌, ℕ, ◌<◌, ◌%◌, ◌==◌, true, List, [], ◌∷◌, ◌++◌, length, map, Some, sym, ap, ◌∙◌, subst, slice_get, arith, eqb-true}
+use Rattle.std.proofs.Math.Path.{ap₂}
+use Rattle.std.proofs.lemmas.Bool.{and_parts}
+use Rattle.std.proofs.lemmas.List.{length-map}
+use Rattle.cpn_definitions.specs.Marking.{Marking}
+use Rattle.cpn_definitions.specs.Net.{PlainNet}
+use Rattle.cpn_definitions.specs.Meaning.{gives}
+use Rattle.cpn_definitions.specs.Occurrence.{PlainElement, Needed, Made, threshold, threshold_in, are_covered, may_occur, needs_of, covered, outputs_of, subtract, add_made}
+use Rattle.cpn_definitions.specs.Enabled.{PlainEntry, Enabled, ready}
+use Rattle.cpn_definitions.specs.Sound.{Gives, IsUntimed, IsMarking}
+use Rattle.cpn_definitions.proofs.Outcomes.{gives_and_parts}
+use Rattle.cpn_definitions.proofs.Rising.{in_filter_from, contains_from_in}
+use Rattle.cpn_definitions.proofs.UntimedNets.{all_are_ready}
+use Rattle.cpn_definitions.proofs.Markings.{occurred_marking}
+use Rattle.cpn_core.specs.declared.bindings.Element.{Element}
+use Rattle.cpn_core.specs.declared.entries.Entry.{Entry}
+use Rattle.cpn_core.specs.Elements.{element_view, entry_view}
+use Rattle.cpn_runs.specs.declared.occurrences.Occurrence.{Occurrence}
+use Rattle.cpn_runs.specs.declared.events.Event.{Event}
+use Rattle.cpn_runs.specs.declared.events.Event.TheVariants as events
+use Rattle.cpn_runs.specs.Views.{occurrence_view, event_view}
+use Rattle.cpn_runs.specs.Draw.{word}
+use Rattle.cpn_runs.specs.State.{PlainSetup, PlainEvent, claim_made, claim_completed, PlainOccurrence, given_needs}
+use Rattle.cpn_runs.specs.Rounds.{IsUnderWay, IsRound, next_occurrence, marking_after}
+use Rattle.cpn_runs.proofs.Items.{map_more, in_from_get}
+use Rattle.cpn_runs.proofs.Rounds.{round_more}
+use Rattle.cpn_book.specs.Playable.{IsPlayable}
+
+-- ---- what is drawn
+
+-- where something is enabled in an untimed net, something is ready
+pub some_are_ready : (n : PlainNet) (m : Marking) (clock : ℕ) (entries : List Entry) → IsUntimed n → Enabled n m clock (map entry_view entries) → 0 < length entries → 0 < length (ready clock (map entry_view entries))
+some_are_ready n m clock entries untimed enabled some =
+    let all : ready clock (map entry_view entries) ≡ map entry_view entries = all_are_ready n m clock (map entry_view entries) untimed enabled in
+    let same : length (ready clock (map entry_view entries)) ≡ length entries = ap length all ∙ length-map entries entry_view in
+    omega arith
+
+-- what is drawn from the ready elements is covered at the clock
+pub drawn_covered : (n : PlainNet) (m : Marking) (clock : ℕ) (entries : List PlainEntry) (i : ℕ) (x : PlainEntry) → Enabled n m clock entries → slice_get (ready clock entries) i ≡ Some x → covered n m clock x.element ≡ true
+drawn_covered n m clock entries i x enabled is =
+    let kept = in_filter_from (λ (y : PlainEntry). y.earliest == clock) entries x (in_from_get (ready clock entries) i x is) in
+    let now : x.earliest ≡ clock = eqb-true x.earliest clock kept.1 in
+    subst (λ (t : ℕ). covered n m t x.element ≡ true) now ((enabled.exact x).0 (contains_from_in entries x kept.0)).is_covered
+
+-- what is covered has needs
+pub covered_needs_given : (n : PlainNet) (m : Marking) (time : ℕ) (e : PlainElement) → covered n m time e ≡ true → Gives (needs_of n e)
+unfolding covered
+covered_needs_given n m time e is =
+    let needs = gives_and_parts (needs_of n e) (are_covered (threshold_in n time) m) (and_parts (may_occur n e) _ is).1 in
+    (needs.0, needs.1)
+
+-- ---- a round
+
+-- What the code of a round did: the journal, the occurrences and the marking before and after it.
+pub record HasPlayed (setup : PlainSetup) (J J' : List Event) (O O' : List Occurrence) (M M' : Marking) : Type 0 where
+  pub entries : List Entry
+  pub position : ℕ
+  pub entry : Entry
+  pub element : Element
+  pub needs : List Needed
+  pub outputs : List Made
+  pub number : ℕ
+  pub enabled : Enabled setup.net M setup.clock (map entry_view entries)
+  pub some : 0 < length entries
+  pub below_limit : length O < setup.limits.steps
+  pub number_is : number ≡ length O
+  pub position_is : position ≡ word setup.seed (length O) % length (ready setup.clock (map entry_view entries))
+  pub entry_is : slice_get (ready setup.clock (map entry_view entries)) position ≡ Some (entry_view entry)
+  pub element_is : element_view element ≡ element_view entry.element
+  pub needs_are : needs_of setup.net (element_view element) ≡ gives needs
+  pub outputs_are : outputs_of setup.net (element_view element) setup.clock ≡ gives outputs
+  pub journal_is : J' ≡ (J ++ events.Claim 0 number ∷ []) ++ events.Done 0 number ∷ []
+  pub occurrences_are : O' ≡ O ++ record { number = number; time = setup.clock; element = element } ∷ []
+  pub marking_is : M' ≡ add_made outputs (subtract (threshold setup.clock) needs M)
+
+module _ (setup : PlainSetup) (J J' : List Event) (O O' : List Occurrence) (M M' : Marking) (playable : IsPlayable setup) (p : HasPlayed setup J J' O O' M M') where
+  drawn : PlainEntry
+  drawn = entry_view p.entry
+
+  is_round : IsRound setup (map occurrence_view O) M (entry_view p.entry) p.outputs
+  is_round =
+      let same : length (map occurrence_view O) ≡ length O = length-map O occurrence_view in
+      record {
+        entries = map entry_view p.entries;
+        enabled = p.enabled;
+        drawn_is = record {
+          some = some_are_ready setup.net M setup.clock p.entries playable.untimed p.enabled p.some;
+          position = ap (slice_get (ready setup.clock (map entry_view p.entries))) (ap (λ (k : ℕ). word setup.seed k % length (ready setup.clock (map entry_view p.entries))) same ∙ sym p.position_is) ∙ p.entry_is;
+        };
+        below_limit = subst (λ (k : ℕ). k < setup.limits.steps) (sym same) p.below_limit;
+        has_seat = (let seat = playable.seat in omega arith);
+        is_covered = drawn_covered setup.net M setup.clock (map entry_view p.entries) p.position (entry_view p.entry) p.enabled p.entry_is;
+        outputs_are = ap (λ e. outputs_of setup.net e setup.clock) (sym p.element_is) ∙ p.outputs_are;
+      }
+
+  journal_seen : map event_view J' ≡ (map event_view J ++ claim_made 0 (length (map occurrence_view O)) ∷ []) ++ claim_completed 0 (length (map occurrence_view O)) ∷ []
+  journal_seen =
+      let k : p.number ≡ length (map occurrence_view O) = p.number_is ∙ sym (length-map O occurrence_view) in
+      ap (map event_view) p.journal_is ∙ map_more event_view (J ++ events.Claim 0 p.number ∷ []) (events.Done 0 p.number) ∙ ap (λ xs. xs ++ claim_completed 0 p.number ∷ []) (map_more event_view J (events.Claim 0 p.number)) ∙ ap (λ (n : ℕ). (map event_view J ++ claim_made 0 n ∷ []) ++ claim_completed 0 n ∷ []) k
+
+  occurrences_seen : map occurrence_view O' ≡ map occurrence_view O ++ next_occurrence setup (map occurrence_view O) (entry_view p.entry).element ∷ []
+  occurrences_seen =
+      let k : p.number ≡ length (map occurrence_view O) = p.number_is ∙ sym (length-map O occurrence_view) in
+      ap (map occurrence_view) p.occurrences_are ∙ map_more occurrence_view O (record { number = p.number; time = setup.clock; element = p.element }) ∙ ap₂ (λ n e. map occurrence_view O ++ record { number = n; time = setup.clock; element = e } ∷ []) k p.element_is
+
+  marking_seen : M' ≡ marking_after setup M (entry_view p.entry).element p.outputs
+  marking_seen =
+      let needs : p.needs ≡ given_needs (needs_of setup.net (entry_view p.entry).element) = sym (ap given_needs (ap (needs_of setup.net) (sym p.element_is) ∙ p.needs_are)) in
+      p.marking_is ∙ ap (λ xs. add_made p.outputs (subtract (threshold setup.clock) xs M)) needs
+
+  -- a round keeps a run under way
+  pub played : IsUnderWay setup (map event_view J) (map occurrence_view O) M → IsUnderWay setup (map event_view J') (map occurrence_view O') M'
+  played way =
+      let next = round_more setup (map event_view J) (map occurrence_view O) M (entry_view p.entry) p.outputs way is_round in
+      let A : List PlainEvent → Type 0 = λ j. IsUnderWay setup j (map occurrence_view O') M' in
+      let B : List PlainOccurrence → Type 0 = λ o. IsUnderWay setup ((map event_view J ++ claim_made 0 (length (map occurrence_view O)) ∷ []) ++ claim_completed 0 (length (map occurrence_view O)) ∷ []) o M' in
+      let C : Marking → Type 0 = λ m. IsUnderWay setup ((map event_view J ++ claim_made 0 (length (map occurrence_view O)) ∷ []) ++ claim_completed 0 (length (map occurrence_view O)) ∷ []) (map occurrence_view O ++ next_occurrence setup (map occurrence_view O) (entry_view p.entry).element ∷ []) m in
+      subst A (sym journal_seen) (subst B (sym occurrences_seen) (subst C (sym marking_seen) next))
+
+  -- and its marking one of the net's places
+  pub kept_marking : IsMarking setup.net.places M → IsMarking setup.net.places M'
+  kept_marking is =
+      subst (IsMarking setup.net.places) (sym p.marking_is) (occurred_marking setup.net (threshold setup.clock) p.needs (element_view p.element) setup.clock p.outputs M playable.sound p.outputs_are is)

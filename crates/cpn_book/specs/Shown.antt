@@ -1,0 +1,23 @@
+-- What a run of one seat shows when it ends.
+use Rattle.std.specs.Prelude.{ℕ, List, length, map}
+use Rattle.cpn_definitions.specs.Enabled.{PlainEntry, ready, next_time}
+use Rattle.cpn_runs.specs.State.{PlainSetup, PlainEnd}
+use Rattle.cpn_runs.specs.Run.{Outlook, PlainFinished}
+use Rattle.cpn_runs.specs.Views.{occurrence_view, event_view}
+use Rattle.cpn_book.specs.declared.progresses.Progress.{Progress}
+
+-- the outlook of a list of enabled elements at a clock
+abbrev pub outlook_at : ℕ → List PlainEntry → Outlook
+outlook_at clock entries = record { ready_count = length (ready clock entries); next = next_time entries }
+
+-- what the progress shows, with the outlook at the start, what is enabled at the end, and the cause of the end
+abbrev pub shown : PlainSetup → Progress → Outlook → List PlainEntry → PlainEnd → PlainFinished
+shown setup p opening entries cause = record {
+  opening = opening;
+  journal = map event_view p.journal.items;
+  occurrences = map occurrence_view p.occurrences.items;
+  marking = p.marking;
+  clock = setup.clock;
+  cause = cause;
+  closing = outlook_at setup.clock entries;
+}

@@ -1,0 +1,95 @@
+//! A round of a run of one seat: an element is claimed, and the claim is completed.
+
+ghost use Rattle.std.specs.Prelude.{◌≡◌, ◌+◌, ◌<◌, ◌≤◌, Some, length, map, slice_get, IfOk, OnOk};
+ghost use Rattle.cpn_definitions.specs.Meaning.{gives};
+ghost use Rattle.cpn_definitions.specs.Occurrence.{needs_of, outputs_of};
+ghost use Rattle.cpn_definitions.specs.Enabled.{Enabled, ready};
+ghost use Rattle.cpn_definitions.specs.Sound.{Gives};
+ghost use Rattle.cpn_definitions.specs.Times.{last_time};
+ghost use Rattle.cpn_core.specs.Nets.{net_view};
+ghost use Rattle.cpn_core.specs.Elements.{element_view, entry_view};
+ghost use Rattle.cpn_runs.specs.FinishedViews.{setup_view};
+ghost use Rattle.cpn_book.specs.Playable.{IsPlayable};
+ghost use Rattle.cpn_book.specs.Progress.{IsRunning};
+
+use crate::outlooks::ready_count;
+use crate::progresses::Progress;
+use cpn_core::{Element, Entry, Memory, Needs, Net, Outputs};
+use cpn_eval::{Refused, needs_of, outputs_of};
+use cpn_runs::{Event, Occurrence, Setup};
+use std::alloc::Global;
+
+/// Claims the drawn one of the ready elements and completes it.
+pub fn play_round(
+    alloc: Global,
+    setup: &Setup,
+    entries: &[Entry],
+    progress: &mut Progress,
+) -> Result<(), Memory>
+    requires playable { IsPlayable (setup_view setup.now) }
+    requires running { IsRunning (setup_view setup.now) progress.old }
+    requires enabled { Enabled (net_view setup.now.net.value) progress.old.marking setup.now.clock (map entry_view entries.now) }
+    requires some { 0 < length entries.now }
+    requires below_limit { length progress.old.occurrences.items < setup.now.limits.steps }
+    ensures running { OnOk result (IsRunning (setup_view setup.now) progress.new) }
+    ensures count { OnOk result (length progress.new.occurrences.items ≡ length progress.old.occurrences.items + 1) }
+{
+    let number = progress.occurrences.len() as u64;
+    let position = progress.draws.pick(ready_count(entries, setup.clock));
+    let drawn = ready_entry(entries, setup.clock, position);
+    let element = drawn.element.copy()?;
+    let needs = needs_taken(alloc, &setup.net, &element)?;
+    let outputs = outputs_made(alloc, &setup.net, &element, setup.clock)?;
+    progress.journal.push(Event::Claim { seat: 0, number })?;
+    progress.marking.subtract(&needs, setup.clock);
+    progress.marking.add_made(outputs)?;
+    progress.journal.push(Event::Done { seat: 0, number })?;
+    progress.occurrences.push(Occurrence {
+        number,
+        time: setup.clock,
+        element,
+    })?;
+    Ok(())
+}
+
+/// The entry at a position, from 0, among the ready ones.
+fn ready_entry(entries: &[Entry], clock: u64, position: u64) -> &Entry
+    requires within { position < length (ready clock (map entry_view entries.now)) }
+    ensures entry { slice_get (ready clock (map entry_view entries.now)) position ≡ Some (entry_view result.now) }
+{
+    let mut ahead = position;
+    for entry in entries {
+        if entry.earliest == clock {
+            if ahead == 0 {
+                return entry;
+            }
+            ahead -= 1;
+        }
+    }
+    unreachable!()
+}
+
+/// The needs of an element that has them.
+fn needs_taken(alloc: Global, net: &Net, element: &Element) -> Result<Needs, Memory>
+    requires given { Gives (needs_of (net_view net.now) (element_view element.now)) }
+    ensures needs { IfOk result (λ needs. needs_of (net_view net.now) (element_view element.now) ≡ gives needs) }
+{
+    match needs_of(alloc, net, element.transition, &element.binding) {
+        Ok(needs) => Ok(needs),
+        Err(Refused::Memory) => Err(Memory),
+        Err(Refused::Fault(_)) => unreachable!(),
+    }
+}
+
+/// The outputs at the time of an element that has them.
+fn outputs_made(alloc: Global, net: &Net, element: &Element, time: u64) -> Result<Outputs, Memory>
+    requires time { time ≤ last_time }
+    requires given { Gives (outputs_of (net_view net.now) (element_view element.now) time) }
+    ensures outputs { IfOk result (λ outputs. outputs_of (net_view net.now) (element_view element.now) time ≡ gives outputs) }
+{
+    match outputs_of(alloc, net, element, time) {
+        Ok(outputs) => Ok(outputs),
+        Err(Refused::Memory) => Err(Memory),
+        Err(Refused::Fault(_)) => unreachable!(),
+    }
+}

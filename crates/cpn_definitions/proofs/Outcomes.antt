@@ -1,0 +1,24 @@
+-- What follows from an outcome that gives a value.
+use Rattle.std.proofs.Common.{◌≡◌, Bool, true, refl, ap, ◌∙◌}
+use Rattle.cpn_definitions.specs.Meaning.{Outcome, gives, faults, no_meaning, ◌>>=◌, gives_and}
+use Rattle.cpn_definitions.specs.Sound.{Gives}
+
+-- two values that are given are the same
+pub same_given : {A : Type 0} (x y : A) → gives x ≡ gives y → x ≡ y
+same_given x y h = cc
+
+-- what gives a value after an outcome comes from a value of the outcome
+pub bound_parts : {A B : Type 0} (o : Outcome A) (f : A → Outcome B) (y : B) → (o >>= f) ≡ gives y → (x : A) × (o ≡ gives x) × (f x ≡ gives y)
+bound_parts (gives x) f y is = (x, refl, is)
+bound_parts (faults fault) f y is = cc
+bound_parts no_meaning f y is = cc
+
+-- where there is a value that passes, there is a value
+pub gives_and_parts : {A : Type 0} (o : Outcome A) (test : A → Bool) → gives_and o test ≡ true → (x : A) × (o ≡ gives x) × (test x ≡ true)
+gives_and_parts (gives x) test h = (x, refl, h)
+gives_and_parts (faults fault) test h = cc
+gives_and_parts no_meaning test h = cc
+
+-- where an outcome gives, and what follows gives at each value, both together give
+pub gives_then : {A B : Type 0} (o : Outcome A) (f : A → Outcome B) → Gives o → ((x : A) → Gives (f x)) → Gives (o >>= f)
+gives_then o f first second = let next = second first.0 in (next.0, ap (λ p. p >>= f) first.1 ∙ next.1)

@@ -1,0 +1,68 @@
+-- Tokens stay sorted when one is added or taken, and one that is added is there beside all the others.
+use Rattle.std.proofs.Common.{◌≡◌, ℕ, true, false, cond, [], ◌∷◌, refl, ap, ◌∙◌, Ordering, Less, Equal, Greater, is_lt, is_gt, IsPermutation}
+use Rattle.std.specs.Ordering.{ordering_reverse}
+use Rattle.std.specs.List.{list_any}
+use Rattle.std.proofs.lemmas.Cmp.{upto}
+use Rattle.std.proofs.lemmas.Bool.{cond_both}
+use Rattle.std.proofs.lemmas.List.Sorted.{IsPermutation-refl, IsPermutation-cons, IsPermutation-trans, IsPermutation-append_left, IsPermutation-append_comm}
+use Rattle.cpn_definitions.specs.Value.{PlainValue}
+use Rattle.cpn_definitions.specs.Marking.{PlainToken, Tokens, token_cmp, add_token, without_token, is_taken_by, MayPrecede, AreSorted}
+use Rattle.cpn_definitions.specs.ValueOrder.{token_cmp_total}
+
+-- a token that comes before another is not above it
+below : (o : Ordering) → is_lt o ≡ true → is_gt o ≡ false
+below Less h = refl
+below Equal h = refl
+below Greater h = cc
+
+-- a token is not above another that does not come before it
+turned : (t u : PlainToken) → is_lt (token_cmp t u) ≡ false → is_gt (token_cmp u t) ≡ false
+turned t u h = ap is_gt (token_cmp_total.antisymm u t) ∙ back (token_cmp t u) h
+  where
+    back : (o : Ordering) → is_lt o ≡ false → is_gt (ordering_reverse o) ≡ false
+    back Less h = cc
+    back Equal h = refl
+    back Greater h = refl
+
+-- ---- adding
+
+precedes_added : (u t : PlainToken) (us : Tokens) → MayPrecede u us → is_gt (token_cmp u t) ≡ false → MayPrecede u (add_token t us)
+precedes_added u t [] before h = h
+precedes_added u t (w ∷ ws) before h = cond_both (is_lt (token_cmp t w)) (t ∷ w ∷ ws) (w ∷ add_token t ws) (MayPrecede u) (λ _. h) (λ _. before)
+
+-- sorted tokens stay sorted when one is added
+pub add_token_sorted : (t : PlainToken) (us : Tokens) → AreSorted us → AreSorted (add_token t us)
+add_token_sorted t [] sorted = (tt, tt)
+add_token_sorted t (u ∷ us) sorted =
+    cond_both (is_lt (token_cmp t u)) (t ∷ u ∷ us) (u ∷ add_token t us) AreSorted (λ h. (below (token_cmp t u) h, sorted))
+    (λ h. (precedes_added u t us sorted.0 (turned t u h), add_token_sorted t us sorted.1))
+
+-- the tokens with one more have that one and all the others
+pub add_token_permutation : (t : PlainToken) (us : Tokens) → IsPermutation (t ∷ us) (add_token t us)
+add_token_permutation t [] = IsPermutation-refl (t ∷ [])
+add_token_permutation t (u ∷ us) =
+    cond_both (is_lt (token_cmp t u)) (t ∷ u ∷ us) (u ∷ add_token t us) (IsPermutation (t ∷ u ∷ us)) (λ _. IsPermutation-refl (t ∷ u ∷ us))
+    (λ _. IsPermutation-trans (t ∷ u ∷ us) (u ∷ t ∷ us) (u ∷ add_token t us) (exchanged t u us) (IsPermutation-cons u (t ∷ us) (add_token t us) (add_token_permutation t us)))
+  where
+    exchanged : (a b : PlainToken) (ks : Tokens) → IsPermutation (a ∷ b ∷ ks) (b ∷ a ∷ ks)
+    exchanged a b ks = IsPermutation-append_left ks (a ∷ b ∷ []) (b ∷ a ∷ []) (IsPermutation-append_comm (a ∷ []) (b ∷ []))
+
+-- ---- taking
+
+-- a token that may stand before sorted tokens may stand before those after the first
+precedes_rest : (k l : PlainToken) (ls : Tokens) → is_gt (token_cmp k l) ≡ false → MayPrecede l ls → MayPrecede k ls
+precedes_rest k l [] h before = tt
+precedes_rest k l (m ∷ ms) h before = upto token_cmp_total k l m h before
+
+precedes_without : (v : PlainValue) (t : ℕ) (k : PlainToken) (ks : Tokens) → MayPrecede k ks → AreSorted ks → MayPrecede k (without_token v t ks)
+precedes_without v t k [] before sorted = tt
+precedes_without v t k (l ∷ ls) before sorted =
+    cond_both (list_any (is_taken_by v t) ls) (l ∷ without_token v t ls) (cond (is_taken_by v t l) ls (l ∷ ls)) (MayPrecede k) (λ _. before)
+    (λ _. cond_both (is_taken_by v t l) ls (l ∷ ls) (MayPrecede k) (λ _. precedes_rest k l ls before sorted.0) (λ _. before))
+
+-- sorted tokens stay sorted when one is taken
+pub without_token_sorted : (v : PlainValue) (t : ℕ) (ks : Tokens) → AreSorted ks → AreSorted (without_token v t ks)
+without_token_sorted v t [] sorted = tt
+without_token_sorted v t (k ∷ ks) sorted =
+    cond_both (list_any (is_taken_by v t) ks) (k ∷ without_token v t ks) (cond (is_taken_by v t k) ks (k ∷ ks)) AreSorted
+    (λ _. (precedes_without v t k ks sorted.0 sorted.1, without_token_sorted v t ks sorted.1)) (λ _. cond_both (is_taken_by v t k) ks (k ∷ ks) AreSorted (λ _. sorted.1) (λ _. sorted))

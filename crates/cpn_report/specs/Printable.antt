@@ -1,0 +1,43 @@
+-- Which nets and runs can be printed. Source: own choice.
+use Rattle.std.specs.Prelude.{◌≡◌, ℕ, Bool, true, ◌&&◌, nat_lt, length}
+use Rattle.std.specs.List.{list_all}
+use Rattle.cpn_definitions.specs.Value.{PlainValue}
+use Rattle.cpn_definitions.specs.Colour.{admits}
+use Rattle.cpn_definitions.specs.Net.{PlainNet, variable_at, transition_at}
+use Rattle.cpn_definitions.specs.Named.{IsNamed}
+use Rattle.cpn_definitions.specs.Occurrence.{PlainElement, binds}
+use Rattle.cpn_definitions.specs.Sound.{IsSound, IsMarking}
+use Rattle.cpn_runs.specs.State.{PlainEnd, dead, steps_made, fault_end, PlainOccurrence}
+use Rattle.cpn_runs.specs.Run.{PlainFinished}
+
+-- The net is sound, and has the names of the colour sets of its places and variables.
+pub record IsPrintableNet (n : PlainNet) : Type 0 where
+  pub sound : IsSound n
+  pub named : IsNamed n
+
+-- whether a pair is of a variable of the net and a value of its colour set
+abbrev pub is_bound : PlainNet → ℕ × PlainValue → Bool
+is_bound n pair = nat_lt pair.0 (length n.variables) && admits (variable_at n pair.0).colour pair.1
+
+-- Binding element: its transition is one of the net, and its binding gives each of the variables an admitted value. Its
+-- guard may be false.
+abbrev pub is_binding_element : PlainNet → PlainElement → Bool
+is_binding_element n e = nat_lt e.transition (length n.transitions) && binds n (transition_at n e.transition).vars e.binding
+
+-- whether an occurrence is of a binding element
+abbrev pub is_occurrence : PlainNet → PlainOccurrence → Bool
+is_occurrence n o = is_binding_element n o.element
+
+-- the cause of an end tells no element, or a binding element
+abbrev pub IsCause : PlainNet → PlainEnd → Type 0
+IsCause n dead = Unit {0}
+IsCause n steps_made = Unit {0}
+IsCause n (fault_end e fault) = is_binding_element n e ≡ true
+
+-- The report of the run can be printed: each value in it is one of the colour set of its variable or its place, and has
+-- its names in the net.
+pub record IsPrintable (n : PlainNet) (run : PlainFinished) : Type 0 where
+  pub net : IsPrintableNet n
+  pub occurrences : list_all (is_occurrence n) run.occurrences ≡ true
+  pub cause : IsCause n run.cause
+  pub marking : IsMarking n.places run.marking

@@ -1,0 +1,302 @@
+-- Every journal, whatever the order in which claims are made and completed, and for any number of seats: the claims leave a
+-- marking, and those that are committed are a legal occurrence sequence.
+use Rattle.std.proofs.Common.{◌≡◌, ℕ, suc, ◌==◌, ◌⊎◌, true, false, cond, List, [], ◌∷◌, ◌++◌, map, take, drop, Some, None, refl, sym, ap, subst, ◌∙◌, inl, inr, slice_get}
+use Rattle.std.specs.List.{AllByRecursion, list_any}
+use Rattle.std.proofs.lemmas.Bool.{cond_both, and_parts}
+use Rattle.std.proofs.lemmas.List.{take-append-drop}
+use Rattle.std.proofs.lemmas.Option.{same_Some}
+use Rattle.cpn_definitions.specs.Lists.{IsInOrder}
+use Rattle.cpn_definitions.specs.Marking.{Marking}
+use Rattle.cpn_definitions.specs.Net.{PlainNet}
+use Rattle.cpn_definitions.specs.Meaning.{Outcome, gives, faults, no_meaning}
+use Rattle.cpn_definitions.specs.Occurrence.{PlainElement, Needed, Made, needed_cmp, threshold, are_covered, after, needs_of, outputs_of, subtract, add_made}
+use Rattle.cpn_definitions.specs.Legal.{LeastTime, Legal}
+use Rattle.cpn_definitions.specs.Sound.{IsStamped, IsMarking}
+use Rattle.cpn_definitions.proofs.UntimedPlaces.{MadeStamped, stamped_subtracted, stamped_added, outputs_stamped, marking_stamped}
+use Rattle.cpn_definitions.proofs.Markings.{held_at}
+use Rattle.cpn_definitions.proofs.Needs.{needs_in_order}
+use Rattle.cpn_definitions.proofs.Subtraction.{AllAreSorted}
+use Rattle.cpn_definitions.proofs.Addition.{sorted_added}
+use Rattle.cpn_definitions.proofs.Richer.{IsRicher, richer_covers, richer_subtracted, richer_added, richer_with_more, sorted_subtracted}
+use Rattle.cpn_runs.specs.HoleRun.{PlainClaim, Status, open_claim, done_with, faulted_with, added, after_claim, marking_left, is_open, is_done, done_prefix}
+use Rattle.cpn_runs.specs.State.{PlainSetup, PlainState, PlainEvent, claim_made, claim_completed, PlainEnd, first_state, unclaimed_in, settled_in, committed, owed_cut, cut_at, cut_by, given_needs, new_claim, status_after, MayClaim, MayComplete, Happens, Leads, IsState, timed, numbered, committed_occurrences, EndsBy}
+use Rattle.cpn_runs.specs.Run.{Outlook, HasOutlook, IsRun}
+use Rattle.cpn_runs.proofs.Items.{split_at, all_parts}
+use Rattle.cpn_runs.proofs.Sequences.{left_parts, left_from, marking_left_more}
+use Rattle.cpn_runs.proofs.Covered.{covered_needs, covered_too, after_is, least_now}
+use Rattle.cpn_runs.proofs.Rounds.{no_cut_at_any}
+use Rattle.cpn_runs.proofs.States.{IsClaimOf, drawn_now, IsReached, event_reaches, every_state}
+
+-- ---- a hole is filled
+
+-- the needs of a claim stand in their order
+abbrev pub HasOrder : PlainClaim → Type 0
+HasOrder claim = IsInOrder needed_cmp claim.needs
+
+given_in_order : (n : PlainNet) (e : PlainElement) (o : Outcome (List Needed)) → needs_of n e ≡ o → IsInOrder needed_cmp (given_needs o)
+given_in_order n e (gives needs) is = needs_in_order n e needs is
+given_in_order n e (faults fault) is = tt
+given_in_order n e no_meaning is = tt
+
+has_order : (setup : PlainSetup) (claim : PlainClaim) → IsClaimOf setup claim → HasOrder claim
+has_order setup claim is = subst (IsInOrder needed_cmp) (sym is.needs_are) (given_in_order setup.net claim.element (needs_of setup.net claim.element) refl)
+
+have_order : (setup : PlainSetup) (claims : List PlainClaim) → AllByRecursion (IsClaimOf setup) claims → AllByRecursion HasOrder claims
+have_order setup [] all = tt
+have_order setup (claim ∷ claims) all = (has_order setup claim all.0, have_order setup claims all.1)
+
+sorted_after : (claim : PlainClaim) (m : Marking) → AllAreSorted m → AllAreSorted (after_claim claim m)
+sorted_after claim m sorted = sorted_added (added claim.status) (subtract (threshold claim.time) claim.needs m) (sorted_subtracted (threshold claim.time) claim.needs m sorted)
+
+richer_after : (claim : PlainClaim) (k m : Marking) → AllAreSorted k → AllAreSorted m → HasOrder claim → IsRicher k m → are_covered (threshold claim.time) m claim.needs ≡ true → IsRicher (after_claim claim k) (after_claim claim m)
+richer_after claim k m sorted_k sorted_m ordered richer all =
+    richer_added (added claim.status) (subtract (threshold claim.time) claim.needs k) (subtract (threshold claim.time) claim.needs m) (sorted_subtracted (threshold claim.time) claim.needs k sorted_k) (sorted_subtracted (threshold claim.time) claim.needs m sorted_m)
+    (richer_subtracted claim.time k m claim.needs sorted_k sorted_m ordered richer all)
+
+-- claims that leave a marking leave one from each richer marking too
+leaves_from_richer : (k m : Marking) (claims : List PlainClaim) (last : Marking) → AllAreSorted k → AllAreSorted m → AllByRecursion HasOrder claims → IsRicher k m → marking_left m claims ≡ Some last → (end : Marking) × (marking_left k claims ≡ Some end)
+leaves_from_richer k m [] last sorted_k sorted_m ordered richer is = (k, refl)
+leaves_from_richer k m (claim ∷ claims) last sorted_k sorted_m ordered richer is =
+    let parts = left_parts m claim claims last is in
+    let rest = leaves_from_richer (after_claim claim k) (after_claim claim m) claims last (sorted_after claim k sorted_k) (sorted_after claim m sorted_m) ordered.1 (richer_after claim k m sorted_k sorted_m ordered.0 richer parts.0) parts.1 in
+    (rest.0, left_from k claim claims rest.0 (richer_covers (threshold claim.time) k m claim.needs richer parts.0) rest.1)
+
+-- a claim of which something became
+abbrev pub completed : Status → PlainClaim → PlainClaim
+completed status claim = record claim { status = status }
+
+-- A hole among claims that leave a marking may be filled with whatever outputs: the claims leave a marking still.
+pub filled_leaves
+    : (m : Marking) (before : List PlainClaim) (claim : PlainClaim) (later : List PlainClaim) (status : Status) (last : Marking)
+    → AllAreSorted m
+    → AllByRecursion HasOrder (before ++ claim ∷ later)
+    → added claim.status ≡ []
+    → marking_left m (before ++ claim ∷ later) ≡ Some last
+    → (end : Marking) × (marking_left m (before ++ completed status claim ∷ later) ≡ Some end)
+filled_leaves m [] claim later status last sorted ordered none is =
+    let parts = left_parts m claim later last is in
+    let left = subtract (threshold claim.time) claim.needs m in
+    let sorted_left = sorted_subtracted (threshold claim.time) claim.needs m sorted in
+    let nothing_added : marking_left left later ≡ Some last = ap (λ made. marking_left (add_made made left) later) (sym none) ∙ parts.1 in
+    let rest = leaves_from_richer (add_made (added status) left) left later last (sorted_added (added status) left sorted_left) sorted_left ordered.1 (richer_with_more (added status) left sorted_left) nothing_added in
+    (rest.0, left_from m (completed status claim) later rest.0 parts.0 rest.1)
+filled_leaves m (first ∷ before) claim later status last sorted ordered none is =
+    let parts = left_parts m first (before ++ claim ∷ later) last is in
+    let rest = filled_leaves (after_claim first m) before claim later status last (sorted_after first m sorted) ordered.1 none parts.1 in
+    (rest.0, left_from m first (before ++ completed status claim ∷ later) rest.0 parts.0 rest.1)
+
+-- ---- what claims add
+
+-- what a claim is done with are its outputs
+done_with_outputs : (o : Outcome (List Made)) (status : Status) (made : List Made) → (is_open status ≡ true) ⊎ (status_after o ≡ Some status) → status ≡ done_with made → o ≡ gives made
+done_with_outputs (gives outputs) status made (inl h) done = let e : is_open (done_with made) ≡ true = ap is_open (sym done) ∙ h in cc
+done_with_outputs (gives outputs) status made (inr is) done = cc
+done_with_outputs (faults fault) status made (inl h) done = let e : is_open (done_with made) ≡ true = ap is_open (sym done) ∙ h in cc
+done_with_outputs (faults fault) status made (inr is) done = cc
+done_with_outputs no_meaning status made (inl h) done = let e : is_open (done_with made) ≡ true = ap is_open (sym done) ∙ h in cc
+done_with_outputs no_meaning status made (inr is) done = cc
+
+outputs_are : (setup : PlainSetup) (claim : PlainClaim) (made : List Made) → IsClaimOf setup claim → claim.status ≡ done_with made → outputs_of setup.net claim.element claim.time ≡ gives made
+outputs_are setup claim made is done = done_with_outputs (outputs_of setup.net claim.element claim.time) claim.status made is.status_is done
+
+added_stamped : (setup : PlainSetup) (claim : PlainClaim) → IsClaimOf setup claim → MadeStamped setup.net (added claim.status)
+added_stamped setup claim is = split claim.status refl
+  where
+    split : (status : Status) → claim.status ≡ status → MadeStamped setup.net (added status)
+    split open_claim e = tt
+    split (done_with made) e = outputs_stamped setup.net claim.element claim.time made (outputs_are setup claim made is e)
+    split (faulted_with fault) e = tt
+
+stamped_after : (setup : PlainSetup) (claim : PlainClaim) (m : Marking) → IsClaimOf setup claim → IsStamped setup.net m → IsStamped setup.net (after_claim claim m)
+stamped_after setup claim m is stamped =
+    stamped_added setup.net (added claim.status) (subtract (threshold claim.time) claim.needs m) (added_stamped setup claim is) (stamped_subtracted setup.net (threshold claim.time) claim.needs m stamped)
+
+-- claims of a run leave a marking of the net
+stamped_left : (setup : PlainSetup) (m : Marking) (claims : List PlainClaim) (last : Marking) → AllByRecursion (IsClaimOf setup) claims → IsStamped setup.net m → marking_left m claims ≡ Some last → IsStamped setup.net last
+stamped_left setup m [] last each stamped is = subst (IsStamped setup.net) (same_Some m last is) stamped
+stamped_left setup m (claim ∷ claims) last each stamped is =
+    stamped_left setup (after_claim claim m) claims last each.1 (stamped_after setup claim m each.0 stamped) (left_parts m claim claims last is).1
+
+-- ---- the unclaimed marking is there in each state
+
+-- The claims leave a marking.
+pub record LeavesMarking (setup : PlainSetup) (state : PlainState) : Type 0 where
+  pub last : Marking
+  pub is : unclaimed_in setup state ≡ Some last
+
+open_adds_none : (status : Status) → is_open status ≡ true → added status ≡ []
+open_adds_none open_claim h = refl
+open_adds_none (done_with outputs) h = cc
+open_adds_none (faulted_with fault) h = refl
+
+claim_leaves : (setup : PlainSetup) (old : PlainState) (seat number : ℕ) (new : PlainState) → (c : MayClaim setup old seat number new) → IsStamped setup.net c.marking → LeavesMarking setup new
+claim_leaves setup old seat number new c stamped =
+    let claim = new_claim setup.net seat old.clock c.drawn.element in
+    subst (LeavesMarking setup) (sym c.new_is) (record {
+      last = after_claim claim c.marking;
+      is = marking_left_more setup.start old.claims claim c.marking c.marking_is (covered_needs setup.net c.marking old.clock c.drawn.element stamped (drawn_now setup old seat number new c));
+    })
+
+completion_leaves : (setup : PlainSetup) (old : PlainState) (seat number : ℕ) (new : PlainState) → AllAreSorted setup.start → AllByRecursion (IsClaimOf setup) old.claims → LeavesMarking setup old → MayComplete setup old seat number new → LeavesMarking setup new
+completion_leaves setup old seat number new sorted claims leaves c =
+    let claim = c.held_claim in
+    let parts = split_at old.claims number claim c.claim_is in
+    let none = open_adds_none claim.status (and_parts (is_open claim.status) (claim.seat == seat) c.held).0 in
+    let ordered = subst (AllByRecursion HasOrder) parts.is (have_order setup old.claims claims) in
+    let filled = filled_leaves setup.start parts.before claim parts.later c.status leaves.last sorted ordered none (subst (λ cs. marking_left setup.start cs ≡ Some leaves.last) parts.is leaves.is) in
+    subst (LeavesMarking setup) (sym (c.new_is ∙ ap (λ cs. record old { claims = cs }) (parts.changed (completed c.status claim)))) (record { last = filled.0; is = filled.1 })
+
+-- What is kept from the start of a run on: its first marking is sorted, and stamped as the net is timed.
+pub record IsStart (setup : PlainSetup) : Type 0 where
+  pub sorted : AllAreSorted setup.start
+  pub stamped : IsStamped setup.net setup.start
+
+-- a marking of the net's places is such a start
+pub marking_is_start : (setup : PlainSetup) → IsMarking setup.net.places setup.start → IsStart setup
+marking_is_start setup is = record { sorted = λ p. (held_at setup.net.places setup.start is p).0; stamped = marking_stamped setup.net setup.start is }
+
+event_leaves : (setup : PlainSetup) (old : PlainState) (event : PlainEvent) (new : PlainState) → IsStart setup → AllByRecursion (IsClaimOf setup) old.claims → LeavesMarking setup old → Happens setup old event new → LeavesMarking setup new
+event_leaves setup old (claim_made seat number) new start claims leaves c =
+    claim_leaves setup old seat number new c (stamped_left setup setup.start old.claims c.marking claims start.stamped c.marking_is)
+event_leaves setup old (claim_completed seat number) new start claims leaves c = completion_leaves setup old seat number new start.sorted claims leaves c
+
+events_leave
+    : (setup : PlainSetup) (journal : List PlainEvent) (old : PlainState) (events : List PlainEvent) (state : PlainState)
+    → IsStart setup
+    → IsReached setup journal old
+    → LeavesMarking setup old
+    → Leads setup old events state
+    → LeavesMarking setup state
+events_leave setup journal old [] state start reached leaves leads = subst (LeavesMarking setup) (sym leads) leaves
+events_leave setup journal old (event ∷ events) state start reached leaves leads =
+    events_leave setup (journal ++ event ∷ []) leads.0 events state start (event_reaches setup journal old event leads.0 reached leads.1) (event_leaves setup old event leads.0 start reached.claims_are leaves leads.1) leads.2
+
+-- ---- the committed claims
+
+is_done_with : (status : Status) → is_done status ≡ true → (made : List Made) × (status ≡ done_with made)
+is_done_with open_claim h = cc
+is_done_with (done_with outputs) h = (outputs, refl)
+is_done_with (faulted_with fault) h = cc
+
+committed_are_done : (claims : List PlainClaim) → AllByRecursion (λ claim. is_done claim.status ≡ true) (take (done_prefix claims) claims)
+committed_are_done [] = tt
+committed_are_done (claim ∷ claims) =
+    cond_both (is_done claim.status) (suc (done_prefix claims)) 0 (λ k. AllByRecursion (λ c. is_done c.status ≡ true) (take k (claim ∷ claims))) (λ h. (h, committed_are_done claims)) (λ _. tt)
+
+-- the first of claims that leave a marking leave one
+front_leaves : (m : Marking) (before later : List PlainClaim) (last : Marking) → marking_left m (before ++ later) ≡ Some last → (end : Marking) × (marking_left m before ≡ Some end)
+front_leaves m [] later last is = (m, refl)
+front_leaves m (claim ∷ before) later last is =
+    let parts = left_parts m claim (before ++ later) last is in
+    let rest = front_leaves (after_claim claim m) before later last parts.1 in
+    (rest.0, left_from m claim before rest.0 parts.0 rest.1)
+
+-- claims that are all done, from a marking whose clock is theirs, are a legal sequence
+done_are_legal
+    : (setup : PlainSetup) (m : Marking) (claims : List PlainClaim) (last : Marking) (k : ℕ)
+    → IsStamped setup.net m
+    → AllByRecursion (IsClaimOf setup) claims
+    → AllByRecursion (λ claim. is_done claim.status ≡ true) claims
+    → marking_left m claims ≡ Some last
+    → Legal setup.net m setup.clock (map timed (numbered k claims)) last setup.clock
+done_are_legal setup m [] last k stamped each done is = (sym (same_Some m last is), inl refl)
+done_are_legal setup m (claim ∷ claims) last k stamped each done is =
+    let n = setup.net in
+    let e = claim.element in
+    let parts = left_parts m claim claims last is in
+    let needs_covered = subst (λ needs. are_covered (threshold claim.time) m needs ≡ true) each.0.needs_are parts.0 in
+    let is_covered = covered_too n each.0.marking m claim.time e stamped each.0.was_covered needs_covered in
+    let made = is_done_with claim.status done.0 in
+    let next : after n m claim.time e ≡ Some (after_claim claim m) =
+    after_is n m claim.time e made.0 stamped is_covered (outputs_are setup claim made.0 each.0 made.1)
+    ∙ ap (λ needs. Some (add_made made.0 (subtract (threshold claim.time) needs m))) (sym each.0.needs_are)
+    ∙ ap (λ status. Some (add_made (added status) (subtract (threshold claim.time) claim.needs m))) (sym made.1) in (
+      subst (λ t. LeastTime n m t claim.time) each.0.time_is (least_now n m claim.time e is_covered),
+      is_covered,
+      (
+        after_claim claim m,
+        next,
+        subst (λ t. Legal n (after_claim claim m) t (map timed (numbered (suc k) claims)) last setup.clock) (sym each.0.time_is)
+            (done_are_legal setup (after_claim claim m) claims last (suc k) (stamped_after setup claim m each.0 stamped) each.1 done.1 parts.1),
+      ),
+    )
+
+-- With no claim open and no cut owed, all claims are committed.
+pub all_are_committed : (claims : List PlainClaim) → list_any (λ claim. is_open claim.status) claims ≡ false → cut_at (done_prefix claims) (slice_get claims (done_prefix claims)) ≡ None → take (done_prefix claims) claims ≡ claims
+all_are_committed [] none_open none_owed = refl
+all_are_committed (claim ∷ claims) none_open none_owed = split claim.status refl (all_are_committed claims)
+  where
+    split
+        : (status : Status) → claim.status ≡ status
+        → (list_any (λ c. is_open c.status) claims ≡ false → cut_at (done_prefix claims) (slice_get claims (done_prefix claims)) ≡ None → take (done_prefix claims) claims ≡ claims)
+        → take (done_prefix (claim ∷ claims)) (claim ∷ claims) ≡ claim ∷ claims
+    split open_claim is rest = let e : true ≡ false = rw is at none_open in cc
+    split (done_with outputs) is rest =
+        let none_open_later : list_any (λ c. is_open c.status) claims ≡ false = rw is at none_open in
+        let owed : cut_at (suc (done_prefix claims)) (slice_get claims (done_prefix claims)) ≡ None = rw is at none_owed in
+        ap (λ (status : Status). take (cond (is_done status) (suc (done_prefix claims)) 0) (claim ∷ claims)) is
+        ∙ ap (λ cs. claim ∷ cs) (rest none_open_later (no_cut_at_any (suc (done_prefix claims)) (done_prefix claims) (slice_get claims (done_prefix claims)) owed))
+    split (faulted_with fault) is rest = let e : cut_by 0 claim.element (faulted_with fault) ≡ None = rw is at none_owed in cc
+
+-- What holds of every journal: the claims leave a marking; the committed ones leave one, and are a legal occurrence
+-- sequence from the start to it and the clock; and where no claim is open and no cut is owed, all claims are committed and
+-- both markings are the same.
+pub record Settles (setup : PlainSetup) (state : PlainState) : Type 0 where
+  pub last : Marking
+  pub leaves : unclaimed_in setup state ≡ Some last
+  pub marking : Marking
+  pub settled_is : settled_in setup state ≡ Some marking
+  pub legal : Legal setup.net setup.start setup.clock (map timed (committed_occurrences setup state)) marking state.clock
+  pub all_committed : list_any (λ claim. is_open claim.status) state.claims ≡ false → owed_cut setup state ≡ None → take (committed setup state) state.claims ≡ state.claims
+  pub all_settled : list_any (λ claim. is_open claim.status) state.claims ≡ false → owed_cut setup state ≡ None → marking ≡ last
+
+-- every journal settles, for any number of seats
+pub every_journal_settles : (setup : PlainSetup) (journal : List PlainEvent) (state : PlainState) → IsStart setup → IsState setup journal state → Settles setup state
+every_journal_settles setup journal state start reached =
+    let r = every_state setup journal state reached in
+    let leaves = events_leave setup [] (first_state setup) journal state start (every_state setup [] (first_state setup) refl) (record { last = setup.start; is = refl }) reached in
+    let k = committed setup state in
+    let whole : take k state.claims ++ drop k state.claims ≡ state.claims = take-append-drop k state.claims in
+    let front = front_leaves setup.start (take k state.claims) (drop k state.claims) leaves.last (subst (λ cs. marking_left setup.start cs ≡ Some leaves.last) (sym whole) leaves.is) in
+    let each = all_parts (IsClaimOf setup) (take k state.claims) (drop k state.claims) (subst (AllByRecursion (IsClaimOf setup)) (sym whole) r.claims_are) in
+    record {
+      last = leaves.last;
+      leaves = leaves.is;
+      marking = front.0;
+      settled_is = front.1;
+      legal = subst (Legal setup.net setup.start setup.clock (map timed (committed_occurrences setup state)) front.0) (sym r.clock_is) (done_are_legal setup setup.start (take k state.claims) front.0 0 start.stamped each.0 (committed_are_done state.claims) front.1);
+      all_committed = λ none_open none_owed. all_are_committed state.claims none_open none_owed;
+      all_settled =
+          λ none_open none_owed. same_Some front.0 leaves.last (sym front.1 ∙ ap (marking_left setup.start) (all_are_committed state.claims none_open none_owed) ∙ leaves.is);
+    }
+
+-- where a run ends, all that it claimed has occurred: its last marking is the one that all its claims leave
+pub ended_is_settled : (setup : PlainSetup) (journal : List PlainEvent) (state : PlainState) (cause : PlainEnd) → IsStart setup → IsState setup journal state → EndsBy setup state cause → settled_in setup state ≡ unclaimed_in setup state
+ended_is_settled setup journal state cause start reached ends =
+    let s = every_journal_settles setup journal state start reached in
+    s.settled_is ∙ ap (λ m. Some m) (s.all_settled ends.none_open ends.none_owed) ∙ sym s.leaves
+
+-- a journal with an end is that of a run, for any number of seats: that its occurrences are legal follows
+pub ended_is_run
+    : (setup : PlainSetup) (journal : List PlainEvent) (state : PlainState) (cause : PlainEnd) (marking : Marking) (opening closing : Outlook)
+    → IsStart setup
+    → IsState setup journal state
+    → EndsBy setup state cause
+    → settled_in setup state ≡ Some marking
+    → HasOutlook setup setup.start setup.clock opening
+    → HasOutlook setup marking state.clock closing
+    → IsRun setup (record { opening = opening; journal = journal; occurrences = committed_occurrences setup state; marking = marking; clock = state.clock; cause = cause; closing = closing })
+ended_is_run setup journal state cause marking opening closing start reached ends is at_start at_end =
+    let s = every_journal_settles setup journal state start reached in
+    let same : s.marking ≡ marking = same_Some s.marking marking (sym s.settled_is ∙ is) in
+    record {
+      state = state;
+      reached = reached;
+      ends = ends;
+      occurrences_are = refl;
+      marking_is = is;
+      clock_is = refl;
+      legal = subst (λ m. Legal setup.net setup.start setup.clock (map timed (committed_occurrences setup state)) m state.clock) same s.legal;
+      opening = at_start;
+      closing = at_end;
+    }

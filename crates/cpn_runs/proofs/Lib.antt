@@ -1,0 +1,13 @@
+pub mod Items
+pub mod Sequences
+pub mod Covered
+pub mod States
+pub mod Rounds
+pub mod Ending
+pub mod OneJournal
+pub mod OneRun
+pub mod Journals
+pub mod Picks
+pub mod Rows
+pub mod WorkedNet
+pub mod TwoSeats

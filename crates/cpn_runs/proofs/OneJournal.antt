@@ -1,0 +1,249 @@
+-- With one seat there is at most one journal that has an end.
+use Rattle.std.proofs.Common.{◌≡◌, ℕ, zero, suc, ◌<◌, ◌==◌, Bool, true, false, ◌||◌, List, [], ◌∷◌, ◌++◌, length, Some, None, Option, refl, sym, ap, ◌∙◌, subst, arith, slice_get, slice_set, eqb-true, eq-eqb}
+use Rattle.std.specs.List.{list_any}
+use Rattle.std.specs.Option.{MatchOption}
+use Rattle.std.proofs.Math.Path.{ap₂}
+use Rattle.std.proofs.lemmas.Bool.{and_parts}
+use Rattle.std.proofs.lemmas.Option.{same_Some}
+use Rattle.cpn_definitions.specs.Marking.{Marking}
+use Rattle.cpn_definitions.specs.Occurrence.{covered}
+use Rattle.cpn_definitions.specs.Enabled.{ready}
+use Rattle.cpn_runs.specs.HoleRun.{PlainClaim, is_open}
+use Rattle.cpn_runs.specs.State.{PlainSetup, PlainEvent, claim_made, claim_completed, PlainEnd, dead, steps_made, fault_end, PlainState, is_held_by, new_claim, PlainCut, MayClaim, MayComplete, Happens, Leads, HasCause, EndsBy}
+use Rattle.cpn_definitions.proofs.Rising.{in_filter_from, contains_from_in}
+use Rattle.cpn_runs.proofs.Items.{last_changed, in_from_get}
+use Rattle.cpn_runs.proofs.States.{claim_is_unique, completion_is_unique, closed_status}
+
+-- no claim is open
+abbrev pub AreClosed : List PlainClaim → Type 0
+AreClosed claims = list_any (λ claim. is_open claim.status) claims ≡ false
+
+-- Between rounds: no cut, and no claim is open.
+pub record IsCalm (state : PlainState) : Type 0 where
+  pub no_cut : state.cut ≡ None
+  pub closed : AreClosed state.claims
+
+-- Within a round: no cut, and the last claim alone is open, and is seat 0's.
+pub record IsBusy (state : PlainState) : Type 0 where
+  pub no_cut : state.cut ≡ None
+  pub before : List PlainClaim
+  pub last : PlainClaim
+  pub claims_are : state.claims ≡ before ++ last ∷ []
+  pub closed : AreClosed before
+  pub last_open : is_open last.status ≡ true
+  pub seat : last.seat ≡ 0
+
+clash : (b : Bool) → b ≡ true → b ≡ false → ⊥
+clash b is_true is_false = cc
+
+or_false : (a b : Bool) → (a || b) ≡ false → (a ≡ false) × (b ≡ false)
+or_false true b is = cc
+or_false false b is = (refl, is)
+
+-- a claim among closed ones is not open
+closed_at : (claims : List PlainClaim) (i : ℕ) (claim : PlainClaim) → AreClosed claims → slice_get claims i ≡ Some claim → is_open claim.status ≡ false
+closed_at [] zero claim closed is = cc
+closed_at [] (suc i) claim closed is = cc
+closed_at (k ∷ ks) zero claim closed is =
+    let same : k ≡ claim = cc in
+    let P : PlainClaim → Type 0 = λ c. is_open c.status ≡ false in
+    subst P same (or_false (is_open k.status) _ closed).0
+closed_at (k ∷ ks) (suc i) claim closed is = closed_at ks i claim (or_false (is_open k.status) _ closed).1 is
+
+-- an open claim behind closed ones is the last
+open_is_last : (before : List PlainClaim) (last claim : PlainClaim) (i : ℕ) → AreClosed before → slice_get (before ++ last ∷ []) i ≡ Some claim → is_open claim.status ≡ true → (i ≡ length before) × (claim ≡ last)
+open_is_last [] last claim zero closed is opened = (refl, (let same : last ≡ claim = cc in sym same))
+open_is_last [] last claim (suc zero) closed is opened = cc
+open_is_last [] last claim (suc (suc i)) closed is opened = cc
+open_is_last (k ∷ ks) last claim zero closed is opened =
+    let same : k ≡ claim = cc in
+    let P : PlainClaim → Type 0 = λ c. is_open c.status ≡ false in
+    absurd (clash (is_open claim.status) opened (subst P same (or_false (is_open k.status) _ closed).0))
+open_is_last (k ∷ ks) last claim (suc i) closed is opened =
+    let rest = open_is_last ks last claim i (or_false (is_open k.status) _ closed).1 is opened in
+    (ap (λ (n : ℕ). suc n) rest.0, rest.1)
+
+-- the last claim is held by seat 0
+last_is_held : (before : List PlainClaim) (last : PlainClaim) → is_open last.status ≡ true → last.seat ≡ 0 → list_any (is_held_by 0) (before ++ last ∷ []) ≡ true
+last_is_held [] last opened seat = rw opened (rw (eq-eqb last.seat 0 seat) refl)
+last_is_held (k ∷ ks) last opened seat = or_later (is_held_by 0 k) (list_any (is_held_by 0) (ks ++ last ∷ [])) (last_is_held ks last opened seat)
+  where
+    or_later : (a b : Bool) → b ≡ true → (a || b) ≡ true
+    or_later true b is = refl
+    or_later false b is = is
+
+-- a claim leads from a calm state to a busy one, and what it leads to is determined
+pub record IsSameClaim (seat number seat' number' : ℕ) (new new' : PlainState) : Type 0 where
+  pub seats : seat ≡ seat'
+  pub numbers : number ≡ number'
+  pub news : new ≡ new'
+
+pub claim_is_determined : (setup : PlainSetup) (old : PlainState) (seat number seat' number' : ℕ) (new new' : PlainState) → setup.limits.seats ≡ 1 → MayClaim setup old seat number new → MayClaim setup old seat' number' new' → IsSameClaim seat number seat' number' new new'
+claim_is_determined setup old seat number seat' number' new new' one a b =
+    let seats : seat ≡ seat' = (let p = a.seat_known in let q = b.seat_known in omega arith) in
+    let numbers : number ≡ number' = a.next_number ∙ sym b.next_number in
+    let P : ℕ → ℕ → Type 0 = λ s k. MayClaim setup old s k new in
+    let same : MayClaim setup old seat' number' new = subst (λ k. P seat' k) numbers (subst (λ s. P s number) seats a) in
+    record { seats = seats; numbers = numbers; news = claim_is_unique setup old seat' number' new new' same b }
+
+-- ---- which events may happen where
+
+held_is_open : (seat : ℕ) (claim : PlainClaim) → is_held_by seat claim ≡ true → (is_open claim.status ≡ true) × (claim.seat ≡ seat)
+held_is_open seat claim held =
+    let parts = and_parts (is_open claim.status) (claim.seat == seat) held in
+    (parts.0, eqb-true claim.seat seat parts.1)
+
+pub none_completes_calmly : (setup : PlainSetup) (old : PlainState) (seat number : ℕ) (new : PlainState) → IsCalm old → MayComplete setup old seat number new → ⊥
+none_completes_calmly setup old seat number new calm c =
+    clash (is_open c.held_claim.status) (held_is_open seat c.held_claim c.held).0 (closed_at old.claims number c.held_claim calm.closed c.claim_is)
+
+pub none_claims_busily : (setup : PlainSetup) (old : PlainState) (seat number : ℕ) (new : PlainState) → setup.limits.seats ≡ 1 → IsBusy old → MayClaim setup old seat number new → ⊥
+none_claims_busily setup old seat number new one busy c =
+    let zero_seat : seat ≡ 0 = (let known = c.seat_known in omega arith) in
+    let P : ℕ → Type 0 = λ s. list_any (is_held_by s) old.claims ≡ false in
+    let Q : List PlainClaim → Type 0 = λ cs. list_any (is_held_by 0) cs ≡ false in
+    clash (list_any (is_held_by 0) (busy.before ++ busy.last ∷ [])) (last_is_held busy.before busy.last busy.last_open busy.seat) (subst Q busy.claims_are (subst P zero_seat c.seat_free))
+
+-- ---- what they lead to
+
+pub claim_makes_busy : (setup : PlainSetup) (old : PlainState) (seat number : ℕ) (new : PlainState) → setup.limits.seats ≡ 1 → IsCalm old → MayClaim setup old seat number new → IsBusy new
+claim_makes_busy setup old seat number new one calm c =
+    let known : seat ≡ 0 = (let s = c.seat_known in omega arith) in
+    let P : PlainState → Type 0 = λ s. IsBusy s in
+    subst P (sym c.new_is) (record {
+      no_cut = calm.no_cut;
+      before = old.claims;
+      last = new_claim setup.net seat old.clock c.drawn.element;
+      claims_are = refl;
+      closed = calm.closed;
+      last_open = refl;
+      seat = known;
+    })
+
+closed_more : (claims : List PlainClaim) (claim : PlainClaim) → AreClosed claims → is_open claim.status ≡ false → AreClosed (claims ++ claim ∷ [])
+closed_more [] claim closed is = rw is refl
+closed_more (k ∷ ks) claim closed is =
+    let parts = or_false (is_open k.status) _ closed in
+    rw parts.0 (closed_more ks claim parts.1 is)
+
+-- what a completion completes, in a busy state
+completed_last : (setup : PlainSetup) (old : PlainState) (seat number : ℕ) (new : PlainState) (busy : IsBusy old) (c : MayComplete setup old seat number new) → (number ≡ length busy.before) × (c.held_claim ≡ busy.last) × (seat ≡ 0)
+completed_last setup old seat number new busy c =
+    let held = held_is_open seat c.held_claim c.held in
+    let P : List PlainClaim → Type 0 = λ cs. slice_get cs number ≡ Some c.held_claim in
+    let which = open_is_last busy.before busy.last c.held_claim number busy.closed (subst P busy.claims_are c.claim_is) held.0 in
+    (which.0, which.1, sym held.1 ∙ ap (λ (k : PlainClaim). k.seat) which.1 ∙ busy.seat)
+
+completed_claims : (setup : PlainSetup) (old : PlainState) (seat number : ℕ) (new : PlainState) (busy : IsBusy old) (c : MayComplete setup old seat number new) → new ≡ record old { claims = busy.before ++ record busy.last { status = c.status } ∷ [] }
+completed_claims setup old seat number new busy c =
+    let which = completed_last setup old seat number new busy c in
+    let same : slice_set old.claims number (record c.held_claim { status = c.status }) ≡ slice_set (busy.before ++ busy.last ∷ []) (length busy.before) (record busy.last { status = c.status }) =
+    ap₂ (λ cs (n : ℕ). slice_set cs n (record c.held_claim { status = c.status })) busy.claims_are which.0 ∙ ap (λ (k : PlainClaim). slice_set (busy.before ++ busy.last ∷ []) (length busy.before) (record k { status = c.status })) which.1 in
+    c.new_is ∙ ap (λ cs. record old { claims = cs }) (same ∙ last_changed busy.before busy.last (record busy.last { status = c.status }))
+
+pub completion_makes_calm : (setup : PlainSetup) (old : PlainState) (seat number : ℕ) (new : PlainState) → IsBusy old → MayComplete setup old seat number new → IsCalm new
+completion_makes_calm setup old seat number new busy c =
+    let P : PlainState → Type 0 = λ s. IsCalm s in
+    let status_closed : is_open c.status ≡ false = closed_status _ c.status c.status_is in
+    subst P (sym (completed_claims setup old seat number new busy c)) (record { no_cut = busy.no_cut; closed = closed_more busy.before (record busy.last { status = c.status }) busy.closed status_closed })
+
+pub completion_is_determined : (setup : PlainSetup) (old : PlainState) (seat number seat' number' : ℕ) (new new' : PlainState) → IsBusy old → MayComplete setup old seat number new → MayComplete setup old seat' number' new' → IsSameClaim seat number seat' number' new new'
+completion_is_determined setup old seat number seat' number' new new' busy a b =
+    let first = completed_last setup old seat number new busy a in
+    let second = completed_last setup old seat' number' new' busy b in
+    let seats : seat ≡ seat' = first.2 ∙ sym second.2 in
+    let numbers : number ≡ number' = first.0 ∙ sym second.0 in
+    let P : ℕ → ℕ → Type 0 = λ s k. MayComplete setup old s k new in
+    let same : MayComplete setup old seat' number' new = subst (λ k. P seat' k) numbers (subst (λ s. P s number) seats a) in
+    record { seats = seats; numbers = numbers; news = completion_is_unique setup old seat' number' new new' same b }
+
+-- ---- events and ends
+
+-- What is known of an event that happens: each one that happens there is the same and leads to the same state.
+pub record IsSameEvent (event event' : PlainEvent) (new new' : PlainState) : Type 0 where
+  pub events : event ≡ event'
+  pub news : new ≡ new'
+
+calm_same : (setup : PlainSetup) (old : PlainState) (event event' : PlainEvent) (new new' : PlainState) → setup.limits.seats ≡ 1 → IsCalm old → Happens setup old event new → Happens setup old event' new' → IsSameEvent event event' new new' × IsBusy new
+calm_same setup old (claim_made seat number) (claim_made seat' number') new new' one calm a b =
+    let same = claim_is_determined setup old seat number seat' number' new new' one a b in
+    (record { events = ap₂ claim_made same.seats same.numbers; news = same.news }, claim_makes_busy setup old seat number new one calm a)
+calm_same setup old (claim_made seat number) (claim_completed seat' number') new new' one calm a b = absurd (none_completes_calmly setup old seat' number' new' calm b)
+calm_same setup old (claim_completed seat number) event' new new' one calm a b = absurd (none_completes_calmly setup old seat number new calm a)
+
+busy_same : (setup : PlainSetup) (old : PlainState) (event event' : PlainEvent) (new new' : PlainState) → setup.limits.seats ≡ 1 → IsBusy old → Happens setup old event new → Happens setup old event' new' → IsSameEvent event event' new new' × IsCalm new
+busy_same setup old (claim_completed seat number) (claim_completed seat' number') new new' one busy a b =
+    let same = completion_is_determined setup old seat number seat' number' new new' busy a b in
+    (record { events = ap₂ claim_completed same.seats same.numbers; news = same.news }, completion_makes_calm setup old seat number new busy a)
+busy_same setup old (claim_completed seat number) (claim_made seat' number') new new' one busy a b = absurd (none_claims_busily setup old seat' number' new' one busy b)
+busy_same setup old (claim_made seat number) event' new new' one busy a b = absurd (none_claims_busily setup old seat number new one busy a)
+
+open_is_found : (before : List PlainClaim) (last : PlainClaim) → is_open last.status ≡ true → list_any (λ claim. is_open claim.status) (before ++ last ∷ []) ≡ true
+open_is_found [] last opened = rw opened refl
+open_is_found (k ∷ ks) last opened = later (is_open k.status) (list_any (λ claim. is_open claim.status) (ks ++ last ∷ [])) (open_is_found ks last opened)
+  where
+    later : (a b : Bool) → b ≡ true → (a || b) ≡ true
+    later true b is = refl
+    later false b is = is
+
+-- a busy state has no end
+pub busy_has_no_end : (setup : PlainSetup) (state : PlainState) (cause : PlainEnd) → IsBusy state → EndsBy setup state cause → ⊥
+busy_has_no_end setup state cause busy ends =
+    let P : List PlainClaim → Type 0 = λ cs. list_any (λ claim. is_open claim.status) cs ≡ false in
+    clash (list_any (λ claim. is_open claim.status) (busy.before ++ busy.last ∷ [])) (open_is_found busy.before busy.last busy.last_open) (subst P busy.claims_are ends.none_open)
+
+-- the cause of the end of a calm state
+calm_cause : (setup : PlainSetup) (state : PlainState) (cause : PlainEnd) → IsCalm state → EndsBy setup state cause → HasCause setup state cause
+calm_cause setup state cause calm ends =
+    let P : Option PlainCut → Type 0 = λ cut. MatchOption cut (HasCause setup state cause) (λ c. cause ≡ c.cause) in
+    subst P calm.no_cut ends.has_cause
+
+-- what a claim draws is covered at some time
+drawn_covered : (setup : PlainSetup) (old : PlainState) (seat number : ℕ) (new : PlainState) (c : MayClaim setup old seat number new) → covered setup.net c.marking c.drawn.earliest c.drawn.element ≡ true
+drawn_covered setup old seat number new c =
+    ((c.enabled.exact c.drawn).0 (contains_from_in c.entries c.drawn (in_filter_from _ c.entries c.drawn (in_from_get (ready old.clock c.entries) _ c.drawn c.drawn_is.position)).0)).is_covered
+
+no_claim_at_end : (setup : PlainSetup) (state : PlainState) (cause : PlainEnd) (seat number : ℕ) (new : PlainState) → HasCause setup state cause → MayClaim setup state seat number new → ⊥
+no_claim_at_end setup state steps_made seat number new has c =
+    let below : number < setup.limits.steps = c.below_limit in
+    let is : number ≡ length state.claims = c.next_number in
+    let all : length state.claims ≡ setup.limits.steps = has in
+    absurd (omega arith)
+no_claim_at_end setup state dead seat number new has c =
+    let same : c.marking ≡ has.1.0 = same_Some c.marking has.1.0 (sym c.marking_is ∙ has.1.1) in
+    let P : Marking → Type 0 = λ m. covered setup.net m c.drawn.earliest c.drawn.element ≡ true in
+    clash (covered setup.net has.1.0 c.drawn.earliest c.drawn.element) (subst P same (drawn_covered setup state seat number new c)) (has.1.2 c.drawn.earliest c.drawn.element)
+no_claim_at_end setup state (fault_end e fault) seat number new has c = has
+
+-- a calm state that has an end has no event
+pub end_has_no_event : (setup : PlainSetup) (state : PlainState) (cause : PlainEnd) (event : PlainEvent) (new : PlainState) → IsCalm state → EndsBy setup state cause → Happens setup state event new → ⊥
+end_has_no_event setup state cause (claim_made seat number) new calm ends happens = no_claim_at_end setup state cause seat number new (calm_cause setup state cause calm ends) happens
+end_has_no_event setup state cause (claim_completed seat number) new calm ends happens = none_completes_calmly setup state seat number new calm happens
+
+-- Two journals that have an end, from one calm or busy state with one seat, are the same and lead to the same state.
+pub record IsSameEnd (journal journal' : List PlainEvent) (state state' : PlainState) : Type 0 where
+  pub journals : journal ≡ journal'
+  pub states : state ≡ state'
+
+moved_ends : (setup : PlainSetup) (old state : PlainState) (cause : PlainEnd) → state ≡ old → EndsBy setup state cause → EndsBy setup old cause
+moved_ends setup old state cause same ends = let P : PlainState → Type 0 = λ s. EndsBy setup s cause in subst P same ends
+
+mutual
+  pub calm_journal : (setup : PlainSetup) (old : PlainState) (J J' : List PlainEvent) (s s' : PlainState) (cause cause' : PlainEnd) → setup.limits.seats ≡ 1 → IsCalm old → Leads setup old J s → EndsBy setup s cause → Leads setup old J' s' → EndsBy setup s' cause' → IsSameEnd J J' s s'
+  calm_journal setup old [] [] s s' cause cause' one calm a ends b ends' = record { journals = refl; states = a ∙ sym b }
+  calm_journal setup old [] (event ∷ J') s s' cause cause' one calm a ends b ends' = absurd (end_has_no_event setup old cause event b.0 calm (moved_ends setup old s cause a ends) b.1)
+  calm_journal setup old (event ∷ J) [] s s' cause cause' one calm a ends b ends' = absurd (end_has_no_event setup old cause' event a.0 calm (moved_ends setup old s' cause' b ends') a.1)
+  calm_journal setup old (event ∷ J) (event' ∷ J') s s' cause cause' one calm a ends b ends' =
+      let same = calm_same setup old event event' a.0 b.0 one calm a.1 b.1 in
+      let P : PlainState → Type 0 = λ mid. Leads setup mid J' s' in
+      let rest = busy_journal setup a.0 J J' s s' cause cause' one same.1 a.2 ends (subst P (sym same.0.news) b.2) ends' in
+      record { journals = ap₂ (λ e es. e ∷ es) same.0.events rest.journals; states = rest.states }
+
+  pub busy_journal : (setup : PlainSetup) (old : PlainState) (J J' : List PlainEvent) (s s' : PlainState) (cause cause' : PlainEnd) → setup.limits.seats ≡ 1 → IsBusy old → Leads setup old J s → EndsBy setup s cause → Leads setup old J' s' → EndsBy setup s' cause' → IsSameEnd J J' s s'
+  busy_journal setup old [] J' s s' cause cause' one busy a ends b ends' = absurd (busy_has_no_end setup old cause busy (moved_ends setup old s cause a ends))
+  busy_journal setup old (event ∷ J) [] s s' cause cause' one busy a ends b ends' = absurd (busy_has_no_end setup old cause' busy (moved_ends setup old s' cause' b ends'))
+  busy_journal setup old (event ∷ J) (event' ∷ J') s s' cause cause' one busy a ends b ends' =
+      let same = busy_same setup old event event' a.0 b.0 one busy a.1 b.1 in
+      let P : PlainState → Type 0 = λ mid. Leads setup mid J' s' in
+      let rest = calm_journal setup a.0 J J' s s' cause cause' one same.1 a.2 ends (subst P (sym same.0.news) b.2) ends' in
+      record { journals = ap₂ (λ e es. e ∷ es) same.0.events rest.journals; states = rest.states }

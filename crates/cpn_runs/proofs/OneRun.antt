@@ -1,0 +1,62 @@
+-- With one seat a setup has one run.
+use Rattle.std.proofs.Common.{◌≡◌, ℕ, List, length, Some, None, Option, refl, sym, ap, ◌∙◌, subst}
+use Rattle.std.specs.Option.{MatchOption}
+use Rattle.std.proofs.Math.Path.{ap₂}
+use Rattle.std.proofs.lemmas.Option.{same_Some}
+use Rattle.cpn_definitions.specs.Marking.{Marking}
+use Rattle.cpn_definitions.specs.Enabled.{ready, next_time}
+use Rattle.cpn_runs.specs.State.{PlainSetup, PlainEvent, PlainEnd, dead, steps_made, fault_end, PlainCut, PlainState, first_state, IsState, HasCause, EndsBy, committed_occurrences, settled_in}
+use Rattle.cpn_runs.specs.Run.{PlainFinished, IsRun, Outlook, HasOutlook}
+use Rattle.cpn_definitions.proofs.Unique.{enabled_is_unique}
+use Rattle.cpn_runs.proofs.States.{every_state}
+use Rattle.cpn_runs.proofs.OneJournal.{IsSameEnd, calm_journal}
+
+-- with one seat there is at most one journal that has an end, and it leads to one state
+pub one_journal : (setup : PlainSetup) (J J' : List PlainEvent) (s s' : PlainState) (cause cause' : PlainEnd) → setup.limits.seats ≡ 1 → IsState setup J s → EndsBy setup s cause → IsState setup J' s' → EndsBy setup s' cause' → IsSameEnd J J' s s'
+one_journal setup J J' s s' cause cause' one a ends b ends' =
+    calm_journal setup (first_state setup) J J' s s' cause cause' one (record { no_cut = refl; closed = refl }) a ends b ends'
+
+-- a run without a cut has one cause
+one_cause : (setup : PlainSetup) (s : PlainState) (c c' : PlainEnd) → HasCause setup s c → HasCause setup s c' → c ≡ c'
+one_cause setup s steps_made steps_made has has' = refl
+one_cause setup s steps_made dead has has' = absurd (has'.0 has)
+one_cause setup s dead steps_made has has' = absurd (has.0 has')
+one_cause setup s dead dead has has' = refl
+one_cause setup s (fault_end e f) c' has has' = absurd has
+one_cause setup s steps_made (fault_end e f) has has' = absurd has'
+one_cause setup s dead (fault_end e f) has has' = absurd has'
+
+end_cause : (setup : PlainSetup) (s : PlainState) (cause : PlainEnd) → s.cut ≡ None → EndsBy setup s cause → HasCause setup s cause
+end_cause setup s cause no_cut ends =
+    let P : Option PlainCut → Type 0 = λ cut. MatchOption cut (HasCause setup s cause) (λ c. cause ≡ c.cause) in
+    subst P no_cut ends.has_cause
+
+-- a marking at a clock has one outlook
+pub one_outlook : (setup : PlainSetup) (m : Marking) (clock : ℕ) (o o' : Outlook) → HasOutlook setup m clock o → HasOutlook setup m clock o' → o ≡ o'
+one_outlook setup m clock o o' a b =
+    let same : a.entries ≡ b.entries = enabled_is_unique setup.net m clock a.entries b.entries a.enabled b.enabled in
+    ap₂ (λ count next. record { ready_count = count; next = next }) (a.ready_count_is ∙ ap (λ xs. length (ready clock xs)) same ∙ sym b.ready_count_is) (a.next_is ∙ ap next_time same ∙ sym b.next_is)
+
+same_finished
+    : (r r' : PlainFinished) → r.opening ≡ r'.opening → r.journal ≡ r'.journal → r.occurrences ≡ r'.occurrences → r.marking ≡ r'.marking → r.clock ≡ r'.clock → r.cause ≡ r'.cause → r.closing ≡ r'.closing → r ≡ r'
+same_finished r r' a j o m c e z =
+    ap₂ (λ opening journal. record r { opening = opening; journal = journal }) a j
+    ∙ ap₂ (λ occurrences marking. record { opening = r'.opening; journal = r'.journal; occurrences = occurrences; marking = marking; clock = r.clock; cause = r.cause; closing = r.closing }) o m
+    ∙ ap₂ (λ clock cause. record { opening = r'.opening; journal = r'.journal; occurrences = r'.occurrences; marking = r'.marking; clock = clock; cause = cause; closing = r.closing }) c e
+    ∙ ap (λ closing. record r' { closing = closing }) z
+
+-- with one seat a setup has one run
+pub one_run : (setup : PlainSetup) (r r' : PlainFinished) → setup.limits.seats ≡ 1 → IsRun setup r → IsRun setup r' → r ≡ r'
+one_run setup r r' one a b =
+    let same = one_journal setup r.journal r'.journal a.state b.state r.cause r'.cause one a.reached a.ends b.reached b.ends in
+    let P : PlainState → Type 0 = λ s. EndsBy setup s r.cause in
+    let ends : EndsBy setup b.state r.cause = subst P same.states a.ends in
+    let no_cut : b.state.cut ≡ None = (every_state setup r'.journal b.state b.reached).no_cut in
+    let causes : r.cause ≡ r'.cause = one_cause setup b.state r.cause r'.cause (end_cause setup b.state r.cause no_cut ends) (end_cause setup b.state r'.cause no_cut b.ends) in
+    let Q : PlainState → Type 0 = λ s. settled_in setup s ≡ Some r.marking in
+    let markings : r.marking ≡ r'.marking = same_Some r.marking r'.marking (sym (subst Q same.states a.marking_is) ∙ b.marking_is) in
+    let clocks : r.clock ≡ r'.clock = a.clock_is ∙ ap (λ (s : PlainState). s.clock) same.states ∙ sym b.clock_is in
+    let R : Marking → ℕ → Type 0 = λ m clock. HasOutlook setup m clock r.closing in
+    let closing : HasOutlook setup r'.marking r'.clock r.closing = subst (λ clock. R r'.marking clock) clocks (subst (λ m. R m r.clock) markings a.closing) in
+    same_finished r r' (one_outlook setup setup.start setup.clock r.opening r'.opening a.opening b.opening) same.journals (a.occurrences_are ∙ ap (committed_occurrences setup) same.states ∙ sym b.occurrences_are) markings clocks causes
+    (one_outlook setup r'.marking r'.clock r.closing r'.closing closing b.closing)

@@ -1,0 +1,186 @@
+-- A run of one seat, each claim being completed before the next: it is under way at its start, and stays so with each round.
+use Rattle.std.proofs.Common.{◌≡◌, ℕ, suc, ◌+◌, true, false, List, [], ◌∷◌, ◌++◌, length, map, take, Some, None, Option, refl, sym, ap, ◌∙◌, subst, inl, arith, slice_get, zero-add}
+use Rattle.std.proofs.Math.Path.{ap₂}
+use Rattle.std.specs.List.{list_any}
+use Rattle.cpn_definitions.specs.Marking.{Marking}
+use Rattle.cpn_definitions.specs.Net.{PlainNet}
+use Rattle.cpn_definitions.specs.Occurrence.{PlainElement, Made, threshold, needs_of, subtract}
+use Rattle.cpn_definitions.specs.Legal.{TimedElement, Legal}
+use Rattle.cpn_definitions.specs.Enabled.{PlainEntry}
+use Rattle.cpn_definitions.specs.Sound.{IsStamped}
+use Rattle.cpn_definitions.proofs.UntimedPlaces.{stamped_subtracted, stamped_added, outputs_stamped}
+use Rattle.cpn_runs.specs.HoleRun.{PlainClaim, Status, open_claim, done_with, faulted_with, marking_left, is_open, is_done, done_prefix}
+use Rattle.cpn_runs.specs.State.{PlainSetup, PlainEvent, claim_made, claim_completed, PlainCut, PlainState, PlainOccurrence, first_state, cut_by, cut_at, is_held_by, given_needs, new_claim, MayClaim, MayComplete, Leads, timed, numbered}
+use Rattle.cpn_runs.specs.Rounds.{given_outputs, done_claim, done_claims, state_with, IsUnderWay, IsRound, next_occurrence, marking_after}
+use Rattle.cpn_runs.proofs.Items.{last_is_at, last_changed_at, map_more}
+use Rattle.cpn_runs.proofs.Sequences.{legal_more, marking_left_more}
+use Rattle.cpn_runs.proofs.Covered.{covered_needs, after_is, least_now}
+
+-- events go on from where other events led
+pub leads_more : (setup : PlainSetup) (old : PlainState) (events more : List PlainEvent) (mid new : PlainState) → Leads setup old events mid → Leads setup mid more new → Leads setup old (events ++ more) new
+leads_more setup old [] more mid new first second = let P : PlainState → Type 0 = λ s. Leads setup s more new in subst P first second
+leads_more setup old (event ∷ events) more mid new first second = (first.0, first.1, leads_more setup first.0 events more mid new first.2 second)
+
+-- ---- claims that are all done
+
+-- whether a claim makes a cut owed doesn't depend on its number
+pub no_cut_at_any : (j k : ℕ) (claim : Option PlainClaim) → cut_at j claim ≡ None → cut_at k claim ≡ None
+no_cut_at_any j k None none = refl
+no_cut_at_any j k (Some claim) none = by_status claim.status none
+  where
+    by_status : (status : Status) → cut_by j claim.element status ≡ None → cut_by k claim.element status ≡ None
+    by_status open_claim is = refl
+    by_status (done_with outputs) is = refl
+    by_status (faulted_with fault) is = cc
+
+-- the cut that claims make owed
+abbrev cut_of : List PlainClaim → Option PlainCut
+cut_of claims = cut_at (done_prefix claims) (slice_get claims (done_prefix claims))
+
+-- claims that are all done make no cut owed; none is open or held, and all are committed
+pub done_owe_no_cut : (n : PlainNet) (os : List PlainOccurrence) → cut_of (done_claims n os) ≡ None
+done_owe_no_cut n [] = refl
+done_owe_no_cut n (o ∷ os) = no_cut_at_any (done_prefix (done_claims n os)) (suc (done_prefix (done_claims n os))) (slice_get (done_claims n os) (done_prefix (done_claims n os))) (done_owe_no_cut n os)
+
+pub done_are_not_open : (n : PlainNet) (os : List PlainOccurrence) → list_any (λ claim. is_open claim.status) (done_claims n os) ≡ false
+done_are_not_open n [] = refl
+done_are_not_open n (o ∷ os) = done_are_not_open n os
+
+pub done_are_not_held : (n : PlainNet) (seat : ℕ) (os : List PlainOccurrence) → list_any (is_held_by seat) (done_claims n os) ≡ false
+done_are_not_held n seat [] = refl
+done_are_not_held n seat (o ∷ os) = done_are_not_held n seat os
+
+pub done_are_committed : (n : PlainNet) (os : List PlainOccurrence) → take (done_prefix (done_claims n os)) (done_claims n os) ≡ done_claims n os
+done_are_committed n [] = refl
+done_are_committed n (o ∷ os) = ap (λ cs. done_claim n o ∷ cs) (done_are_committed n os)
+
+pub length_done : (n : PlainNet) (os : List PlainOccurrence) → length (done_claims n os) ≡ length os
+length_done n [] = refl
+length_done n (o ∷ os) = ap (λ (k : ℕ). suc k) (length_done n os)
+
+-- an open claim behind them makes no cut owed
+open_is_not_done : (status : Status) → is_open status ≡ true → is_done status ≡ false
+open_is_not_done open_claim is = refl
+open_is_not_done (done_with outputs) is = cc
+open_is_not_done (faulted_with fault) is = refl
+
+open_makes_no_cut : (k : ℕ) (e : PlainElement) (status : Status) → is_open status ≡ true → cut_by k e status ≡ None
+open_makes_no_cut k e open_claim is = refl
+open_makes_no_cut k e (done_with outputs) is = refl
+open_makes_no_cut k e (faulted_with fault) is = cc
+
+open_owes_no_cut : (n : PlainNet) (os : List PlainOccurrence) (claim : PlainClaim) → is_open claim.status ≡ true → cut_of (done_claims n os ++ claim ∷ []) ≡ None
+open_owes_no_cut n [] claim is = rw (open_is_not_done claim.status is) (open_makes_no_cut 0 claim.element claim.status is)
+open_owes_no_cut n (o ∷ os) claim is =
+    let claims = done_claims n os ++ claim ∷ [] in
+    no_cut_at_any (done_prefix claims) (suc (done_prefix claims)) (slice_get claims (done_prefix claims)) (open_owes_no_cut n os claim is)
+
+numbered_more : (k : ℕ) (cs : List PlainClaim) (claim : PlainClaim) → numbered k (cs ++ claim ∷ []) ≡ numbered k cs ++ record { number = k + length cs; time = claim.time; element = claim.element } ∷ []
+numbered_more k [] claim = let same : k ≡ k + 0 = omega arith in rw (← same) refl
+numbered_more k (c ∷ cs) claim =
+    let same : suc k + length cs ≡ k + suc (length cs) = omega arith in
+    rw (← same) (ap (λ xs. record { number = k; time = c.time; element = c.element } ∷ xs) (numbered_more (suc k) cs claim))
+
+-- ---- the start
+
+-- a run is under way at its start, where each token on an untimed place has stamp 0
+pub begins : (setup : PlainSetup) → IsStamped setup.net setup.start → IsUnderWay setup [] [] setup.start
+begins setup stamped = record { reached = refl; numbers = refl; marking_is = refl; stamped = stamped; legal = (refl, inl refl) }
+
+-- ---- a round
+
+-- the claim of a round, completed
+abbrev completed_claim : PlainSetup → PlainElement → List Made → PlainClaim
+completed_claim setup e outputs = record (new_claim setup.net 0 setup.clock e) { status = done_with outputs }
+
+-- the claims after the round
+claims_are : (setup : PlainSetup) (os : List PlainOccurrence) (marking : Marking) (drawn : PlainEntry) (outputs : List Made) → IsRound setup os marking drawn outputs
+    → done_claims setup.net (os ++ next_occurrence setup os drawn.element ∷ []) ≡ done_claims setup.net os ++ completed_claim setup drawn.element outputs ∷ []
+claims_are setup os marking drawn outputs round =
+    map_more (done_claim setup.net) os (next_occurrence setup os drawn.element)
+    ∙ ap (λ made. done_claims setup.net os ++ completed_claim setup drawn.element (given_outputs made) ∷ []) round.outputs_are
+
+-- the state within a round: the claim is made, and not completed
+abbrev within : PlainSetup → List PlainOccurrence → PlainElement → PlainState
+within setup os e = record { clock = setup.clock; claims = done_claims setup.net os ++ new_claim setup.net 0 setup.clock e ∷ []; cut = None }
+
+claims_it : (setup : PlainSetup) (os : List PlainOccurrence) (marking : Marking) (drawn : PlainEntry) (outputs : List Made)
+    → marking_left setup.start (done_claims setup.net os) ≡ Some marking → IsRound setup os marking drawn outputs
+    → MayClaim setup (state_with setup os) 0 (length os) (within setup os drawn.element)
+claims_it setup os marking drawn outputs marking_is round = record {
+  no_cut = refl;
+  none_owed = done_owe_no_cut setup.net os;
+  next_number = sym (length_done setup.net os);
+  below_limit = round.below_limit;
+  seat_known = round.has_seat;
+  seat_free = done_are_not_held setup.net 0 os;
+  marking = marking;
+  marking_is = marking_is;
+  entries = round.entries;
+  enabled = round.enabled;
+  drawn = drawn;
+  drawn_is = round.drawn_is;
+  new_is = refl;
+}
+
+completes_it : (setup : PlainSetup) (os : List PlainOccurrence) (marking : Marking) (drawn : PlainEntry) (outputs : List Made) → IsRound setup os marking drawn outputs
+    → MayComplete setup (within setup os drawn.element) 0 (length os) (state_with setup (os ++ next_occurrence setup os drawn.element ∷ []))
+completes_it setup os marking drawn outputs round =
+    let claim = new_claim setup.net 0 setup.clock drawn.element in
+    let cs = done_claims setup.net os in
+    record {
+      none_owed = open_owes_no_cut setup.net os claim refl;
+      held_claim = claim;
+      claim_is = last_is_at cs (length os) claim (length_done setup.net os);
+      held = refl;
+      status = done_with outputs;
+      status_is = rw round.outputs_are refl;
+      new_is = ap (λ claims. record { clock = setup.clock; claims = claims; cut = None }) (claims_are setup os marking drawn outputs round ∙ sym (last_changed_at cs (length os) claim (completed_claim setup drawn.element outputs) (length_done setup.net os)));
+    }
+
+numbers_after : (setup : PlainSetup) (os : List PlainOccurrence) (marking : Marking) (drawn : PlainEntry) (outputs : List Made)
+    → numbered 0 (done_claims setup.net os) ≡ os → IsRound setup os marking drawn outputs
+    → numbered 0 (done_claims setup.net (os ++ next_occurrence setup os drawn.element ∷ [])) ≡ os ++ next_occurrence setup os drawn.element ∷ []
+numbers_after setup os marking drawn outputs numbers round =
+    ap (numbered 0) (claims_are setup os marking drawn outputs round)
+    ∙ numbered_more 0 (done_claims setup.net os) (completed_claim setup drawn.element outputs)
+    ∙ ap₂ (λ xs k. xs ++ record { number = k; time = setup.clock; element = drawn.element } ∷ []) numbers (zero-add (length (done_claims setup.net os)) ∙ length_done setup.net os)
+
+left_after : (setup : PlainSetup) (os : List PlainOccurrence) (marking : Marking) (drawn : PlainEntry) (outputs : List Made)
+    → marking_left setup.start (done_claims setup.net os) ≡ Some marking → IsStamped setup.net marking → IsRound setup os marking drawn outputs
+    → marking_left setup.start (done_claims setup.net (os ++ next_occurrence setup os drawn.element ∷ [])) ≡ Some (marking_after setup marking drawn.element outputs)
+left_after setup os marking drawn outputs marking_is stamped round =
+    ap (marking_left setup.start) (claims_are setup os marking drawn outputs round)
+    ∙ marking_left_more setup.start (done_claims setup.net os) (completed_claim setup drawn.element outputs) marking marking_is (covered_needs setup.net marking setup.clock drawn.element stamped round.is_covered)
+
+stamped_after : (setup : PlainSetup) (os : List PlainOccurrence) (marking : Marking) (drawn : PlainEntry) (outputs : List Made) → IsStamped setup.net marking → IsRound setup os marking drawn outputs
+    → IsStamped setup.net (marking_after setup marking drawn.element outputs)
+stamped_after setup os marking drawn outputs stamped round =
+    let needs = given_needs (needs_of setup.net drawn.element) in
+    stamped_added setup.net outputs (subtract (threshold setup.clock) needs marking) (outputs_stamped setup.net drawn.element setup.clock outputs round.outputs_are) (stamped_subtracted setup.net (threshold setup.clock) needs marking stamped)
+
+legal_after : (setup : PlainSetup) (os : List PlainOccurrence) (marking : Marking) (drawn : PlainEntry) (outputs : List Made)
+    → Legal setup.net setup.start setup.clock (map timed os) marking setup.clock → IsStamped setup.net marking → IsRound setup os marking drawn outputs
+    → Legal setup.net setup.start setup.clock (map timed (os ++ next_occurrence setup os drawn.element ∷ [])) (marking_after setup marking drawn.element outputs) setup.clock
+legal_after setup os marking drawn outputs legal stamped round =
+    let next = marking_after setup marking drawn.element outputs in
+    let P : List TimedElement → Type 0 = λ h. Legal setup.net setup.start setup.clock h next setup.clock in
+    subst P (sym (map_more timed os (next_occurrence setup os drawn.element)))
+    (legal_more setup.net setup.start setup.clock (map timed os) marking setup.clock (timed (next_occurrence setup os drawn.element)) next legal (least_now setup.net marking setup.clock drawn.element round.is_covered) round.is_covered
+    (after_is setup.net marking setup.clock drawn.element outputs stamped round.is_covered round.outputs_are))
+
+-- A run under way stays so with one round more: the journal has a claim and its completion more, the occurrences one more,
+-- and the marking is the one after the round.
+pub round_more : (setup : PlainSetup) (journal : List PlainEvent) (os : List PlainOccurrence) (marking : Marking) (drawn : PlainEntry) (outputs : List Made)
+    → IsUnderWay setup journal os marking → IsRound setup os marking drawn outputs
+    → IsUnderWay setup ((journal ++ claim_made 0 (length os) ∷ []) ++ claim_completed 0 (length os) ∷ []) (os ++ next_occurrence setup os drawn.element ∷ []) (marking_after setup marking drawn.element outputs)
+round_more setup journal os marking drawn outputs way round = record {
+  reached =
+      leads_more setup (first_state setup) (journal ++ claim_made 0 (length os) ∷ []) (claim_completed 0 (length os) ∷ []) (within setup os drawn.element) (state_with setup (os ++ next_occurrence setup os drawn.element ∷ []))
+      (leads_more setup (first_state setup) journal (claim_made 0 (length os) ∷ []) (state_with setup os) (within setup os drawn.element) way.reached (within setup os drawn.element, claims_it setup os marking drawn outputs way.marking_is round, refl))
+      (state_with setup (os ++ next_occurrence setup os drawn.element ∷ []), completes_it setup os marking drawn outputs round, refl);
+  numbers = numbers_after setup os marking drawn outputs way.numbers round;
+  marking_is = left_after setup os marking drawn outputs way.marking_is way.stamped round;
+  stamped = stamped_after setup os marking drawn outputs way.stamped round;
+  legal = legal_after setup os marking drawn outputs way.legal way.stamped round;
+}

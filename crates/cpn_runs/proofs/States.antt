@@ -1,0 +1,359 @@
+-- The states of a run, for any number of seats: a journal leads to one state; what holds in each state that a journal allows;
+-- and where nothing happens and nothing ends.
+use Rattle.std.proofs.Common.{◌≡◌, ℕ, suc, ◌+◌, ◌<◌, ◌≤◌, ◌==◌, ◌⊎◌, Bool, true, false, ◌&&◌, ◌||◌, cond, List, [], ◌∷◌, ◌++◌, length, map, append_assoc, length-append, Some, None, Option, refl, sym, ap, ◌∙◌, subst, inl, inr, arith, slice_set, eqb-true, count_by}
+use Rattle.std.specs.List.{list_any, AllByRecursion}
+use Rattle.std.specs.Option.{MatchOption}
+use Rattle.std.proofs.Math.Path.{ap₂}
+use Rattle.std.proofs.lemmas.Bool.{and_parts}
+use Rattle.std.proofs.lemmas.Option.{same_Some}
+use Rattle.std.proofs.lemmas.List.Sums.{sum_by-cons, sum_by-append}
+use Rattle.cpn_definitions.specs.Marking.{Marking}
+use Rattle.cpn_definitions.specs.Meaning.{Outcome, gives, faults, no_meaning}
+use Rattle.cpn_definitions.specs.Occurrence.{Made, covered, needs_of, outputs_of}
+use Rattle.cpn_definitions.specs.Enabled.{PlainEntry, Enabled, ready}
+use Rattle.cpn_definitions.proofs.Rising.{in_filter_from, contains_from_in}
+use Rattle.cpn_definitions.proofs.Unique.{enabled_is_unique}
+use Rattle.cpn_runs.specs.HoleRun.{PlainClaim, Status, done_with, faulted_with, is_open}
+use Rattle.cpn_runs.specs.State.{PlainSetup, PlainEvent, claim_made, claim_completed, PlainEnd, PlainCut, PlainState, first_state, owed_cut, is_held_by, given_needs, new_claim, status_after, IsDrawn, MayClaim, MayComplete, Happens, Leads, IsState, HasCause, EndsBy}
+use Rattle.cpn_runs.proofs.Items.{IsSplit, split_at, in_from_get, map_more, all_joined, all_parts}
+
+-- ---- one state
+
+drawn_is_unique : (seed k : ℕ) (xs ys : List PlainEntry) (x y : PlainEntry) → xs ≡ ys → IsDrawn seed k xs x → IsDrawn seed k ys y → x ≡ y
+drawn_is_unique seed k xs ys x y same first second =
+    let P : List PlainEntry → Type 0 = λ zs. IsDrawn seed k zs x in
+    let moved : IsDrawn seed k ys x = subst P same first in
+    same_Some x y (sym moved.position ∙ second.position)
+
+-- a claim of a seat leads to one state
+pub claim_is_unique : (setup : PlainSetup) (old : PlainState) (seat number : ℕ) (new new' : PlainState) → MayClaim setup old seat number new → MayClaim setup old seat number new' → new ≡ new'
+claim_is_unique setup old seat number new new' a b =
+    let markings : a.marking ≡ b.marking = same_Some a.marking b.marking (sym a.marking_is ∙ b.marking_is) in
+    let P : Marking → Type 0 = λ m. Enabled setup.net m old.clock a.entries in
+    let lists : a.entries ≡ b.entries = enabled_is_unique setup.net b.marking old.clock a.entries b.entries (subst P markings a.enabled) b.enabled in
+    let drawn : a.drawn ≡ b.drawn = drawn_is_unique setup.seed number (ready old.clock a.entries) (ready old.clock b.entries) a.drawn b.drawn (ap (ready old.clock) lists) a.drawn_is b.drawn_is in
+    a.new_is ∙ ap (λ x. record old { claims = old.claims ++ new_claim setup.net seat old.clock x.element ∷ [] }) drawn ∙ sym b.new_is
+
+-- a completion leads to one state
+pub completion_is_unique : (setup : PlainSetup) (old : PlainState) (seat number : ℕ) (new new' : PlainState) → MayComplete setup old seat number new → MayComplete setup old seat number new' → new ≡ new'
+completion_is_unique setup old seat number new new' a b =
+    let claims : a.held_claim ≡ b.held_claim = same_Some a.held_claim b.held_claim (sym a.claim_is ∙ b.claim_is) in
+    let P : PlainClaim → Type 0 = λ k. status_after (outputs_of setup.net k.element k.time) ≡ Some a.status in
+    let statuses : a.status ≡ b.status = same_Some a.status b.status (sym (subst P claims a.status_is) ∙ b.status_is) in
+    a.new_is ∙ ap₂ (λ claim status. record old { claims = slice_set old.claims number (record claim { status = status }) }) claims statuses ∙ sym b.new_is
+
+pub event_is_unique : (setup : PlainSetup) (old : PlainState) (event : PlainEvent) (new new' : PlainState) → Happens setup old event new → Happens setup old event new' → new ≡ new'
+event_is_unique setup old (claim_made seat number) new new' a b = claim_is_unique setup old seat number new new' a b
+event_is_unique setup old (claim_completed seat number) new new' a b = completion_is_unique setup old seat number new new' a b
+
+lead_to_one : (setup : PlainSetup) (old : PlainState) (journal : List PlainEvent) (s s' : PlainState) → Leads setup old journal s → Leads setup old journal s' → s ≡ s'
+lead_to_one setup old [] s s' a b = a ∙ sym b
+lead_to_one setup old (event ∷ journal) s s' a b =
+    let P : PlainState → Type 0 = λ mid. Leads setup mid journal s' in
+    lead_to_one setup a.0 journal s s' a.2 (subst P (sym (event_is_unique setup old event a.0 b.0 a.1 b.1)) b.2)
+
+-- For any number of seats the state is a function of setup and journal.
+pub one_state : (setup : PlainSetup) (journal : List PlainEvent) (s s' : PlainState) → IsState setup journal s → IsState setup journal s' → s ≡ s'
+one_state setup journal s s' a b = lead_to_one setup (first_state setup) journal s s' a b
+
+-- ---- where nothing happens and nothing ends
+
+some_is_not_none : {A : Type 0} (o : Option A) (x : A) → o ≡ Some x → o ≡ None → ⊥
+some_is_not_none o x some none = let e : Some x ≡ None = sym some ∙ none in cc
+
+-- nothing happens where a cut is owed
+pub nothing_happens_where_owed : (setup : PlainSetup) (old : PlainState) (cut : PlainCut) (event : PlainEvent) (new : PlainState) → owed_cut setup old ≡ Some cut → Happens setup old event new → ⊥
+nothing_happens_where_owed setup old cut (claim_made seat number) new owed happens = some_is_not_none (owed_cut setup old) cut owed happens.none_owed
+nothing_happens_where_owed setup old cut (claim_completed seat number) new owed happens = some_is_not_none (owed_cut setup old) cut owed happens.none_owed
+
+-- no claim is made after a cut
+pub no_claim_after_a_cut : (setup : PlainSetup) (old : PlainState) (cut : PlainCut) (seat number : ℕ) (new : PlainState) → old.cut ≡ Some cut → MayClaim setup old seat number new → ⊥
+no_claim_after_a_cut setup old cut seat number new stands c = some_is_not_none old.cut cut stands c.no_cut
+
+-- a run ends with no cut owed and no claim open
+pub no_end_where_owed : (setup : PlainSetup) (state : PlainState) (cut : PlainCut) (cause : PlainEnd) → owed_cut setup state ≡ Some cut → EndsBy setup state cause → ⊥
+no_end_where_owed setup state cut cause owed ends = some_is_not_none (owed_cut setup state) cut owed ends.none_owed
+
+pub no_end_with_an_open_claim : (setup : PlainSetup) (state : PlainState) (cause : PlainEnd) → list_any (λ claim. is_open claim.status) state.claims ≡ true → EndsBy setup state cause → ⊥
+no_end_with_an_open_claim setup state cause opened ends = let e : true ≡ false = sym opened ∙ ends.none_open in cc
+
+-- after a cut a run ends by the cause of the cut
+pub ends_by_its_cut : (setup : PlainSetup) (state : PlainState) (cut : PlainCut) (cause : PlainEnd) → state.cut ≡ Some cut → EndsBy setup state cause → cause ≡ cut.cause
+ends_by_its_cut setup state cut cause stands ends =
+    let P : Option PlainCut → Type 0 = λ c. MatchOption c (HasCause setup state cause) (λ k. cause ≡ k.cause) in
+    subst P stands ends.has_cause
+
+-- ---- what a journal says of its seats
+
+-- the numbers of the claims that a journal makes
+abbrev pub claim_numbers : List PlainEvent → List ℕ
+claim_numbers [] = []
+claim_numbers (claim_made seat number ∷ events) = number ∷ claim_numbers events
+claim_numbers (claim_completed seat number ∷ events) = claim_numbers events
+
+-- the seats of the claims that a journal makes
+abbrev pub claim_seats : List PlainEvent → List ℕ
+claim_seats [] = []
+claim_seats (claim_made seat number ∷ events) = seat ∷ claim_seats events
+claim_seats (claim_completed seat number ∷ events) = claim_seats events
+
+-- whether an event is a claim of the seat, and whether it is a completion of the seat
+abbrev pub is_claim_by : ℕ → PlainEvent → Bool
+is_claim_by seat (claim_made by number) = by == seat
+is_claim_by seat (claim_completed by number) = false
+
+abbrev pub is_completion_by : ℕ → PlainEvent → Bool
+is_completion_by seat (claim_made by number) = false
+is_completion_by seat (claim_completed by number) = by == seat
+
+-- the numbers count up from k
+abbrev pub AreCounted : ℕ → List ℕ → Type 0
+AreCounted k [] = Unit {0}
+AreCounted k (x ∷ xs) = (x ≡ k) × AreCounted (suc k) xs
+
+-- A claim of a run: its seat is one of the run's, its time is the clock, its needs are those of its element, which was
+-- covered in some marking at that time; and it is open, or is done with what its outputs are.
+pub record IsClaimOf (setup : PlainSetup) (claim : PlainClaim) : Type 0 where
+  pub seat_known : claim.seat < setup.limits.seats
+  pub time_is : claim.time ≡ setup.clock
+  pub needs_are : claim.needs ≡ given_needs (needs_of setup.net claim.element)
+  pub marking : Marking
+  pub was_covered : covered setup.net marking claim.time claim.element ≡ true
+  pub status_is : (is_open claim.status ≡ true) ⊎ (status_after (outputs_of setup.net claim.element claim.time) ≡ Some claim.status)
+
+-- What holds in each state that a journal allows: no event moved the clock or made a cut; at most as many claims were made as
+-- may be, numbered from 0, each by the seat that its event names; each is one of the run; no seat has two open claims; and of
+-- the claims that a seat made those are open that it has not completed.
+pub record IsReached (setup : PlainSetup) (journal : List PlainEvent) (state : PlainState) : Type 0 where
+  pub clock_is : state.clock ≡ setup.clock
+  pub no_cut : state.cut ≡ None
+  pub few_claims : length state.claims ≤ setup.limits.steps
+  pub numbers : AreCounted 0 (claim_numbers journal)
+  pub as_many : length (claim_numbers journal) ≡ length state.claims
+  pub claimed_by : map (λ (claim : PlainClaim). claim.seat) state.claims ≡ claim_seats journal
+  pub claims_are : AllByRecursion (IsClaimOf setup) state.claims
+  pub one_each : (seat : ℕ) → count_by (is_held_by seat) state.claims ≤ 1
+  pub balance : (seat : ℕ) → count_by (is_held_by seat) state.claims + count_by (is_completion_by seat) journal ≡ count_by (is_claim_by seat) journal
+
+-- ---- counting
+
+count_one : {A : Type 0} (p : A → Bool) (x : A) → count_by p (x ∷ []) ≡ cond (p x) 1 0
+count_one p x = sum_by-cons (λ y. cond (p y) 1 0) x [] ∙ plus_none (cond (p x) 1 0)
+  where
+    plus_none : (k : ℕ) → k + 0 ≡ k
+    plus_none k = omega arith
+
+count_last : {A : Type 0} (p : A → Bool) (xs : List A) (x : A) → count_by p (xs ++ x ∷ []) ≡ count_by p xs + cond (p x) 1 0
+count_last p xs x = sum_by-append (λ y. cond (p y) 1 0) xs (x ∷ []) ∙ ap (λ (k : ℕ). count_by p xs + k) (count_one p x)
+
+count_split : {A : Type 0} (p : A → Bool) (before : List A) (x : A) (later : List A) → count_by p (before ++ x ∷ later) ≡ count_by p before + (cond (p x) 1 0 + count_by p later)
+count_split p before x later = sum_by-append (λ y. cond (p y) 1 0) before (x ∷ later) ∙ ap (λ (k : ℕ). count_by p before + k) (sum_by-cons (λ y. cond (p y) 1 0) x later)
+
+count_none : {A : Type 0} (p : A → Bool) (xs : List A) → list_any p xs ≡ false → count_by p xs ≡ 0
+count_none p [] none = refl
+count_none p (x ∷ xs) none = split (λ h. count_none p xs h) (p x) refl none
+  where
+    plus : (k : ℕ) → k ≡ 0 → 0 + k ≡ 0
+    plus k e = omega arith
+
+    split : (list_any p xs ≡ false → count_by p xs ≡ 0) → (b : Bool) → p x ≡ b → (b || list_any p xs) ≡ false → count_by p (x ∷ xs) ≡ 0
+    split rest true is h = cc
+    split rest false is h = sum_by-cons (λ y. cond (p y) 1 0) x xs ∙ ap (λ b. cond b 1 0 + count_by p xs) is ∙ plus (count_by p xs) (rest h)
+
+counted_more : (k : ℕ) (xs : List ℕ) (x : ℕ) → AreCounted k xs → x ≡ k + length xs → AreCounted k (xs ++ x ∷ [])
+counted_more k [] x counted is = (omega arith, tt)
+counted_more k (y ∷ ys) x counted is = (counted.0, counted_more (suc k) ys x counted.1 (omega arith))
+
+numbers_joined : (events more : List PlainEvent) → claim_numbers (events ++ more) ≡ claim_numbers events ++ claim_numbers more
+numbers_joined [] more = refl
+numbers_joined (claim_made seat number ∷ events) more = ap (λ xs. number ∷ xs) (numbers_joined events more)
+numbers_joined (claim_completed seat number ∷ events) more = numbers_joined events more
+
+seats_joined : (events more : List PlainEvent) → claim_seats (events ++ more) ≡ claim_seats events ++ claim_seats more
+seats_joined [] more = refl
+seats_joined (claim_made seat number ∷ events) more = ap (λ xs. seat ∷ xs) (seats_joined events more)
+seats_joined (claim_completed seat number ∷ events) more = seats_joined events more
+
+no_more : {A : Type 0} (xs : List A) → xs ++ [] ≡ xs
+no_more [] = refl
+no_more (x ∷ xs) = ap (λ ys. x ∷ ys) (no_more xs)
+
+-- ---- a claim
+
+-- what is drawn is covered at the clock
+pub drawn_now : (setup : PlainSetup) (old : PlainState) (seat number : ℕ) (new : PlainState) (c : MayClaim setup old seat number new) → covered setup.net c.marking old.clock c.drawn.element ≡ true
+drawn_now setup old seat number new c =
+    let kept = in_filter_from (λ (x : PlainEntry). x.earliest == old.clock) c.entries c.drawn (in_from_get (ready old.clock c.entries) _ c.drawn c.drawn_is.position) in
+    let now : c.drawn.earliest ≡ old.clock = eqb-true c.drawn.earliest old.clock kept.1 in
+    subst (λ t. covered setup.net c.marking t c.drawn.element ≡ true) now ((c.enabled.exact c.drawn).0 (contains_from_in c.entries c.drawn kept.0)).is_covered
+
+claim_of : (setup : PlainSetup) (old : PlainState) (seat number : ℕ) (new : PlainState) → old.clock ≡ setup.clock → (c : MayClaim setup old seat number new) → IsClaimOf setup (new_claim setup.net seat old.clock c.drawn.element)
+claim_of setup old seat number new clock c = record {
+  seat_known = c.seat_known;
+  time_is = clock;
+  needs_are = refl;
+  marking = c.marking;
+  was_covered = drawn_now setup old seat number new c;
+  status_is = inl refl;
+}
+
+-- how the counts of a seat go on
+balanced_by_a_claim : (h h' c c' k k' x : ℕ) → h' ≡ h + x → c' ≡ c + 0 → k' ≡ k + x → h + c ≡ k → h' + c' ≡ k'
+balanced_by_a_claim h h' c c' k k' x a b d e = omega arith
+
+balanced_by_a_completion : (h h' c c' k k' x : ℕ) → h' + x ≡ h → c' ≡ c + x → k' ≡ k + 0 → h + c ≡ k → h' + c' ≡ k'
+balanced_by_a_completion h h' c c' k k' x a b d e = omega arith
+
+few_more : (all before number limit : ℕ) → all ≡ before + 1 → number ≡ before → number < limit → all ≤ limit
+few_more all before number limit a b c = omega arith
+
+claim_reaches : (setup : PlainSetup) (journal : List PlainEvent) (old : PlainState) (seat number : ℕ) (new : PlainState) → IsReached setup journal old → MayClaim setup old seat number new → IsReached setup (journal ++ claim_made seat number ∷ []) new
+claim_reaches setup journal old seat number new r c =
+    let numbers_are = numbers_joined journal (claim_made seat number ∷ []) in
+    subst (IsReached setup (journal ++ claim_made seat number ∷ [])) (sym c.new_is) (record {
+      clock_is = r.clock_is;
+      no_cut = r.no_cut;
+      few_claims = few_more (length (old.claims ++ claim ∷ [])) (length old.claims) number setup.limits.steps joined c.next_number c.below_limit;
+      numbers = subst (AreCounted 0) (sym numbers_are) (counted_more 0 (claim_numbers journal) number r.numbers (next c.next_number r.as_many));
+      as_many = ap (λ (xs : List ℕ). length xs) numbers_are ∙ length-append (claim_numbers journal) (number ∷ []) ∙ ap (λ (k : ℕ). k + 1) r.as_many ∙ sym joined;
+      claimed_by = map_more (λ (k : PlainClaim). k.seat) old.claims claim ∙ ap (λ xs. xs ++ seat ∷ []) r.claimed_by ∙ sym (seats_joined journal (claim_made seat number ∷ []));
+      claims_are = all_joined (IsClaimOf setup) old.claims (claim ∷ []) r.claims_are (claim_of setup old seat number new r.clock_is c, tt);
+      one_each = λ s. one s (seat == s) refl;
+      balance =
+          λ s. balanced_by_a_claim _ _ _ _ _ _ (cond (seat == s) 1 0) (count_last (is_held_by s) old.claims claim) (count_last (is_completion_by s) journal (claim_made seat number)) (count_last (is_claim_by s) journal (claim_made seat number))
+          (r.balance s);
+    })
+  where
+    claim : PlainClaim
+    claim = new_claim setup.net seat old.clock c.drawn.element
+
+    joined : length (old.claims ++ claim ∷ []) ≡ length old.claims + 1
+    joined = length-append old.claims (claim ∷ [])
+
+    next : number ≡ length old.claims → length (claim_numbers journal) ≡ length old.claims → number ≡ 0 + length (claim_numbers journal)
+    next is many = omega arith
+
+    one : (s : ℕ) (b : Bool) → (seat == s) ≡ b → count_by (is_held_by s) (old.claims ++ claim ∷ []) ≤ 1
+    one s true is =
+        let counted : count_by (is_held_by s) (old.claims ++ claim ∷ []) ≡ count_by (is_held_by s) old.claims + 1 = count_last (is_held_by s) old.claims claim ∙ ap (λ b. count_by (is_held_by s) old.claims + cond b 1 0) is in
+        let free : list_any (is_held_by s) old.claims ≡ false = subst (λ k. list_any (is_held_by k) old.claims ≡ false) (eqb-true seat s is) c.seat_free in
+        let none : count_by (is_held_by s) old.claims ≡ 0 = count_none (is_held_by s) old.claims free in
+        omega arith
+    one s false is =
+        let counted : count_by (is_held_by s) (old.claims ++ claim ∷ []) ≡ count_by (is_held_by s) old.claims + 0 = count_last (is_held_by s) old.claims claim ∙ ap (λ b. count_by (is_held_by s) old.claims + cond b 1 0) is in
+        let before : count_by (is_held_by s) old.claims ≤ 1 = r.one_each s in
+        omega arith
+
+-- ---- a completion
+
+-- what became of a claim when its outputs are known is not open
+pub closed_status : (o : Outcome (List Made)) (status : Status) → status_after o ≡ Some status → is_open status ≡ false
+closed_status (gives outputs) status is = let same : done_with outputs ≡ status = cc in let P : Status → Type 0 = λ s. is_open s ≡ false in subst P same refl
+closed_status (faults fault) status is = let same : faulted_with fault ≡ status = cc in let P : Status → Type 0 = λ s. is_open s ≡ false in subst P same refl
+closed_status no_meaning status is = cc
+
+-- a completed claim is held by no seat, and was held by its own
+count_completed : (s : ℕ) (claim : PlainClaim) (status : Status) (before later : List PlainClaim) → is_open status ≡ false
+    → count_by (is_held_by s) (before ++ record claim { status = status } ∷ later) + cond (is_held_by s claim) 1 0 ≡ count_by (is_held_by s) (before ++ claim ∷ later)
+count_completed s claim status before later closed =
+    sums (cond (is_held_by s claim) 1 0) _ _ _ _ (count_split (is_held_by s) before (record claim { status = status }) later ∙ ap (λ b. count_by (is_held_by s) before + (cond (b && (claim.seat == s)) 1 0 + count_by (is_held_by s) later)) closed) (count_split (is_held_by s) before claim later)
+  where
+    sums : (x b l new old : ℕ) → new ≡ b + (0 + l) → old ≡ b + (x + l) → new + x ≡ old
+    sums x b l new old first second = omega arith
+
+completion_reaches : (setup : PlainSetup) (journal : List PlainEvent) (old : PlainState) (seat number : ℕ) (new : PlainState) → IsReached setup journal old → MayComplete setup old seat number new → IsReached setup (journal ++ claim_completed seat number ∷ []) new
+completion_reaches setup journal old seat number new r c =
+    let numbers_are = numbers_joined journal (claim_completed seat number ∷ []) ∙ no_more (claim_numbers journal) in
+    let seats_are = seats_joined journal (claim_completed seat number ∷ []) ∙ no_more (claim_seats journal) in
+    subst (IsReached setup (journal ++ claim_completed seat number ∷ [])) (sym (c.new_is ∙ ap (λ cs. record old { claims = cs }) (parts.changed completed))) (record {
+      clock_is = r.clock_is;
+      no_cut = r.no_cut;
+      few_claims = subst (λ k. k ≤ setup.limits.steps) (sym lengths) r.few_claims;
+      numbers = subst (AreCounted 0) (sym numbers_are) r.numbers;
+      as_many = ap (λ (xs : List ℕ). length xs) numbers_are ∙ r.as_many ∙ sym lengths;
+      claimed_by = seats_of ∙ r.claimed_by ∙ sym seats_are;
+      claims_are = all_joined (IsClaimOf setup) parts.before (completed ∷ parts.later) each.0 (now, each.1.1);
+      one_each = λ s. at_most _ (cond (is_held_by s c.held_claim) 1 0) _ (count s) (r.one_each s);
+      balance =
+          λ s. balanced_by_a_completion _ _ _ _ _ _ (cond (seat == s) 1 0) (ap (λ b. count_by (is_held_by s) (parts.before ++ completed ∷ parts.later) + cond b 1 0) (sym (held_by s)) ∙ count s)
+          (count_last (is_completion_by s) journal (claim_completed seat number)) (count_last (is_claim_by s) journal (claim_completed seat number)) (r.balance s);
+    })
+  where
+    claim : PlainClaim
+    claim = c.held_claim
+
+    completed : PlainClaim
+    completed = record c.held_claim { status = c.status }
+
+    parts : IsSplit old.claims number c.held_claim
+    parts = split_at old.claims number c.held_claim c.claim_is
+
+    lengths : length (parts.before ++ completed ∷ parts.later) ≡ length old.claims
+    lengths = length-append parts.before (completed ∷ parts.later) ∙ sym (length-append parts.before (claim ∷ parts.later)) ∙ ap (λ (cs : List PlainClaim). length cs) (sym parts.is)
+
+    seats_joined_claims : (xs ys : List PlainClaim) → map (λ (k : PlainClaim). k.seat) (xs ++ ys) ≡ map (λ (k : PlainClaim). k.seat) xs ++ map (λ (k : PlainClaim). k.seat) ys
+    seats_joined_claims [] ys = refl
+    seats_joined_claims (x ∷ xs) ys = ap (λ zs. x.seat ∷ zs) (seats_joined_claims xs ys)
+
+    seats_of : map (λ (k : PlainClaim). k.seat) (parts.before ++ completed ∷ parts.later) ≡ map (λ (k : PlainClaim). k.seat) old.claims
+    seats_of = seats_joined_claims parts.before (completed ∷ parts.later) ∙ sym (seats_joined_claims parts.before (claim ∷ parts.later)) ∙ ap (map (λ (k : PlainClaim). k.seat)) (sym parts.is)
+
+    each : AllByRecursion (IsClaimOf setup) parts.before × AllByRecursion (IsClaimOf setup) (c.held_claim ∷ parts.later)
+    each = all_parts (IsClaimOf setup) parts.before (claim ∷ parts.later) (subst (AllByRecursion (IsClaimOf setup)) parts.is r.claims_are)
+
+    now : IsClaimOf setup (record c.held_claim { status = c.status })
+    now = record {
+      seat_known = each.1.0.seat_known;
+      time_is = each.1.0.time_is;
+      needs_are = each.1.0.needs_are;
+      marking = each.1.0.marking;
+      was_covered = each.1.0.was_covered;
+      status_is = inr c.status_is;
+    }
+
+    count : (s : ℕ) → count_by (is_held_by s) (parts.before ++ completed ∷ parts.later) + cond (is_held_by s c.held_claim) 1 0 ≡ count_by (is_held_by s) old.claims
+    count s = count_completed s claim c.status parts.before parts.later (closed_status (outputs_of setup.net claim.element claim.time) c.status c.status_is) ∙ ap (count_by (is_held_by s)) (sym parts.is)
+
+    at_most : (a x b : ℕ) → a + x ≡ b → b ≤ 1 → a ≤ 1
+    at_most a x b e h = omega arith
+
+    held_by : (s : ℕ) → is_held_by s c.held_claim ≡ (seat == s)
+    held_by s =
+        let held = and_parts (is_open c.held_claim.status) (c.held_claim.seat == seat) c.held in
+        ap (λ b. b && (c.held_claim.seat == s)) held.0 ∙ ap (λ (k : ℕ). k == s) (eqb-true c.held_claim.seat seat held.1)
+
+-- ---- every journal
+
+pub event_reaches : (setup : PlainSetup) (journal : List PlainEvent) (old : PlainState) (event : PlainEvent) (new : PlainState) → IsReached setup journal old → Happens setup old event new → IsReached setup (journal ++ event ∷ []) new
+event_reaches setup journal old (claim_made seat number) new r happens = claim_reaches setup journal old seat number new r happens
+event_reaches setup journal old (claim_completed seat number) new r happens = completion_reaches setup journal old seat number new r happens
+
+events_reach : (setup : PlainSetup) (journal : List PlainEvent) (old : PlainState) (events : List PlainEvent) (state : PlainState) → IsReached setup journal old → Leads setup old events state → IsReached setup (journal ++ events) state
+events_reach setup journal old [] state r leads = subst (IsReached setup (journal ++ [])) (sym leads) (subst (λ J. IsReached setup J old) (sym (no_more journal)) r)
+events_reach setup journal old (event ∷ events) state r leads =
+    subst (λ J. IsReached setup J state) (append_assoc journal (event ∷ []) events)
+    (events_reach setup (journal ++ event ∷ []) leads.0 events state (event_reaches setup journal old event leads.0 r leads.1) leads.2)
+
+-- what holds in each state that a journal allows, for any number of seats
+pub every_state : (setup : PlainSetup) (journal : List PlainEvent) (state : PlainState) → IsState setup journal state → IsReached setup journal state
+every_state setup journal state reached =
+    let first : IsReached setup [] (first_state setup) = record {
+      clock_is = refl;
+      no_cut = refl;
+      few_claims = omega arith;
+      numbers = tt;
+      as_many = refl;
+      claimed_by = refl;
+      claims_are = tt;
+      one_each = λ s. at_most_one;
+      balance = λ s. refl;
+    } in
+    events_reach setup [] (first_state setup) journal state first reached
+  where
+    at_most_one : 0 ≤ 1
+    at_most_one = omega arith
+
+-- where a cut is owed a journal goes no further
+pub no_journal_goes_on_where_owed : (setup : PlainSetup) (old : PlainState) (cut : PlainCut) (events : List PlainEvent) (new : PlainState) → owed_cut setup old ≡ Some cut → Leads setup old events new → events ≡ []
+no_journal_goes_on_where_owed setup old cut [] new owed leads = refl
+no_journal_goes_on_where_owed setup old cut (event ∷ events) new owed leads = absurd (nothing_happens_where_owed setup old cut event leads.0 owed leads.1)

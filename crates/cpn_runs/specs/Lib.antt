@@ -1,0 +1,8 @@
+pub mod HoleRun
+pub mod Draw
+pub mod State
+pub mod Run
+pub mod Rounds
+pub mod Views
+pub mod FinishedViews
+pub mod Bounds

@@ -1,0 +1,43 @@
+-- What a run that has ended shows. Source: own choice.
+use Rattle.std.specs.Prelude.{◌≡◌, ℕ, List, length, map, Option, Some}
+use Rattle.cpn_definitions.specs.Marking.{Marking}
+use Rattle.cpn_definitions.specs.Legal.{Legal}
+use Rattle.cpn_definitions.specs.Enabled.{PlainEntry, Enabled, ready, next_time}
+use Rattle.cpn_runs.specs.State.{PlainSetup, PlainEvent, PlainEnd, PlainState, IsState, EndsBy, PlainOccurrence, timed, committed_occurrences, settled_in}
+
+-- The number of the ready elements of a marking at a clock, and the next time.
+pub record Outlook : Type 0 where
+  pub ready_count : ℕ
+  pub next : Option ℕ
+
+-- the outlook of the list of enabled elements
+pub record HasOutlook (setup : PlainSetup) (marking : Marking) (clock : ℕ) (outlook : Outlook) : Type 0 where
+  pub entries : List PlainEntry
+  pub enabled : Enabled setup.net marking clock entries
+  pub ready_count_is : outlook.ready_count ≡ length (ready clock entries)
+  pub next_is : outlook.next ≡ next_time entries
+
+-- What a run shows when it has ended: the outlook at its start, its journal, its committed occurrences, its last marking
+-- and clock, the cause of its end, and the outlook at its end.
+pub record PlainFinished : Type 0 where
+  pub opening : Outlook
+  pub journal : List PlainEvent
+  pub occurrences : List PlainOccurrence
+  pub marking : Marking
+  pub clock : ℕ
+  pub cause : PlainEnd
+  pub closing : Outlook
+
+-- A run of a setup: the journal leads to a state that ends by the cause; the occurrences are those that are committed
+-- there, and are a legal occurrence sequence from the start to the marking and the clock, which are the state's; and the
+-- outlooks are those of the marking and the clock at the start and at the end.
+pub record IsRun (setup : PlainSetup) (run : PlainFinished) : Type 0 where
+  pub state : PlainState
+  pub reached : IsState setup run.journal state
+  pub ends : EndsBy setup state run.cause
+  pub occurrences_are : run.occurrences ≡ committed_occurrences setup state
+  pub marking_is : settled_in setup state ≡ Some run.marking
+  pub clock_is : run.clock ≡ state.clock
+  pub legal : Legal setup.net setup.start setup.clock (map timed run.occurrences) run.marking run.clock
+  pub opening : HasOutlook setup setup.start setup.clock run.opening
+  pub closing : HasOutlook setup run.marking run.clock run.closing

@@ -1,0 +1,183 @@
+-- What a run's journal says: the events that may happen, and the state that they lead to.
+-- Source: own choice. The occurrences of such a run are a legal occurrence sequence of Jensen and
+-- Kristensen, chapter 11, which is a theorem and no part of this definition.
+use Rattle.std.specs.Prelude.{◌≡◌, ◌≢◌, ℕ, suc, ◌<◌, ◌%◌, ◌&&◌, ◌==◌, Bool, true, false, List, [], ◌∷◌, ◌++◌, length, take, Option, Some, None, MatchOption, slice_get, slice_set}
+use Rattle.std.specs.List.{list_any}
+use Rattle.cpn_definitions.specs.Marking.{Marking}
+use Rattle.cpn_definitions.specs.Net.{PlainNet}
+use Rattle.cpn_definitions.specs.Meaning.{Fault, Outcome, gives, faults, no_meaning}
+use Rattle.cpn_definitions.specs.Occurrence.{PlainElement, Needed, Made, needs_of, outputs_of}
+use Rattle.cpn_definitions.specs.Enabled.{PlainEntry, Enabled, ready, IsDead}
+use Rattle.cpn_definitions.specs.Legal.{TimedElement}
+use Rattle.cpn_runs.specs.HoleRun.{PlainClaim, Status, open_claim, done_with, faulted_with, unclaimed, settled, is_open, done_prefix}
+use Rattle.cpn_runs.specs.Draw.{word}
+
+-- The limits of a run: how many claims it may make, the last time that it may reach, and its seats.
+pub record PlainLimits : Type 0 where
+  pub steps : ℕ
+  pub until : ℕ
+  pub seats : ℕ
+
+-- What a run starts from: its net, marking and clock, its limits, and the seed of its draws.
+pub record PlainSetup : Type 0 where
+  pub net : PlainNet
+  pub start : Marking
+  pub clock : ℕ
+  pub limits : PlainLimits
+  pub seed : ℕ
+
+-- An event of a run: a seat claims an enabled element, under the next number; a seat completes the
+-- claim of a number.
+pub data PlainEvent : Type 0 where
+  claim_made : ℕ → ℕ → PlainEvent
+  claim_completed : ℕ → ℕ → PlainEvent
+
+-- How a run ends: no element is covered at any time, as many claims were made as it may make, or the outputs
+-- of an element had a fault.
+pub data PlainEnd : Type 0 where
+  dead : PlainEnd
+  steps_made : PlainEnd
+  fault_end : PlainElement → Fault → PlainEnd
+
+-- A cut: the number from which on claims were removed, and the cause.
+pub record PlainCut : Type 0 where
+  pub number : ℕ
+  pub cause : PlainEnd
+
+-- The state of a run: the clock, the claims, and the last cut. No event below makes a cut, so there is none
+-- in any state of a journal.
+pub record PlainState : Type 0 where
+  pub clock : ℕ
+  pub claims : List PlainClaim
+  pub cut : Option PlainCut
+
+abbrev pub first_state : PlainSetup → PlainState
+first_state setup = record { clock = setup.clock; claims = []; cut = None }
+
+-- the marking that the state's claims leave
+abbrev pub unclaimed_in : PlainSetup → PlainState → Option Marking
+unclaimed_in setup state = unclaimed setup.start state.claims
+
+-- how many claims are committed: those of the longest prefix in which each is done without fault
+abbrev pub committed : PlainSetup → PlainState → ℕ
+committed setup state = done_prefix state.claims
+
+-- the marking that the committed claims leave
+abbrev pub settled_in : PlainSetup → PlainState → Option Marking
+settled_in setup state = settled setup.start (committed setup state) state.claims
+
+-- the cut that a claim of a number makes owed where it is the first that is not committed
+abbrev pub cut_by : ℕ → PlainElement → Status → Option PlainCut
+cut_by k e open_claim = None
+cut_by k e (done_with outputs) = None
+cut_by k e (faulted_with fault) = Some (record { number = k; cause = fault_end e fault })
+
+abbrev pub cut_at : ℕ → Option PlainClaim → Option PlainCut
+cut_at k None = None
+cut_at k (Some claim) = cut_by k claim.element claim.status
+
+-- the cut that is owed: at the first claim that is not committed, where it is done with a fault
+abbrev pub owed_cut : PlainSetup → PlainState → Option PlainCut
+owed_cut setup state = cut_at (committed setup state) (slice_get state.claims (committed setup state))
+
+-- whether a claim is open, and is open for the seat
+abbrev pub is_held_by : ℕ → PlainClaim → Bool
+is_held_by seat claim = is_open claim.status && (claim.seat == seat)
+
+-- the tokens that an element takes, of one that is covered
+abbrev pub given_needs : Outcome (List Needed) → List Needed
+given_needs (gives needs) = needs
+given_needs (faults fault) = []
+given_needs no_meaning = []
+
+-- the claim on an element that a seat makes at a time
+abbrev pub new_claim : PlainNet → ℕ → ℕ → PlainElement → PlainClaim
+new_claim n seat time e = record { seat = seat; element = e; time = time; needs = given_needs (needs_of n e); status = open_claim }
+
+-- what becomes of a claim when its outputs are evaluated
+abbrev pub status_after : Outcome (List Made) → Option Status
+status_after (gives outputs) = Some (done_with outputs)
+status_after (faults fault) = Some (faulted_with fault)
+status_after no_meaning = None
+
+-- The entry is the one that word k draws from the ready ones: the word modulo their number is its position.
+pub record IsDrawn (seed k : ℕ) (entries : List PlainEntry) (drawn : PlainEntry) : Type 0 where
+  pub some : 0 < length entries
+  pub position : slice_get entries (word seed k % length entries) ≡ Some drawn
+
+-- Claim: no cut stands or is owed; the number is that of the next claim and below the limit; the seat is one of the
+-- run's and has no open claim. The claim is open on the drawn one of the ready elements.
+pub record MayClaim (setup : PlainSetup) (old : PlainState) (seat number : ℕ) (new : PlainState) : Type 0 where
+  pub no_cut : old.cut ≡ None
+  pub none_owed : owed_cut setup old ≡ None
+  pub next_number : number ≡ length old.claims
+  pub below_limit : number < setup.limits.steps
+  pub seat_known : seat < setup.limits.seats
+  pub seat_free : list_any (is_held_by seat) old.claims ≡ false
+  pub marking : Marking
+  pub marking_is : unclaimed_in setup old ≡ Some marking
+  pub entries : List PlainEntry
+  pub enabled : Enabled setup.net marking old.clock entries
+  pub drawn : PlainEntry
+  pub drawn_is : IsDrawn setup.seed number (ready old.clock entries) drawn
+  pub new_is : new ≡ record old { claims = old.claims ++ new_claim setup.net seat old.clock drawn.element ∷ [] }
+
+-- Completion: no cut is owed, and the claim is open and of the seat. It is then done with its outputs, or
+-- with their fault.
+pub record MayComplete (setup : PlainSetup) (old : PlainState) (seat number : ℕ) (new : PlainState) : Type 0 where
+  pub none_owed : owed_cut setup old ≡ None
+  pub held_claim : PlainClaim
+  pub claim_is : slice_get old.claims number ≡ Some held_claim
+  pub held : is_held_by seat held_claim ≡ true
+  pub status : Status
+  pub status_is : status_after (outputs_of setup.net held_claim.element held_claim.time) ≡ Some status
+  pub new_is : new ≡ record old { claims = slice_set old.claims number (record held_claim { status = status }) }
+
+-- the event may happen in the old state, and leads to the new one
+abbrev pub Happens : PlainSetup → PlainState → PlainEvent → PlainState → Type 0
+Happens setup old (claim_made seat number) new = MayClaim setup old seat number new
+Happens setup old (claim_completed seat number) new = MayComplete setup old seat number new
+
+-- the events may happen one after another from the old state, and lead to the new one
+abbrev pub Leads : PlainSetup → PlainState → List PlainEvent → PlainState → Type 0
+Leads setup old [] new = new ≡ old
+Leads setup old (event ∷ events) new = (mid : PlainState) × Happens setup old event mid × Leads setup mid events new
+
+-- State: the journal's events may happen one after another from the start of the run, and lead to the state.
+abbrev pub IsState : PlainSetup → List PlainEvent → PlainState → Type 0
+IsState setup journal state = Leads setup (first_state setup) journal state
+
+-- An occurrence of a run: the number of its claim, its time, and its element.
+pub record PlainOccurrence : Type 0 where
+  pub number : ℕ
+  pub time : ℕ
+  pub element : PlainElement
+
+-- what an occurrence is in a legal sequence
+abbrev pub timed : PlainOccurrence → TimedElement
+timed o = record { element = o.element; time = o.time }
+
+-- the claims as occurrences, numbered from k
+abbrev pub numbered : ℕ → List PlainClaim → List PlainOccurrence
+numbered k [] = []
+numbered k (claim ∷ claims) = record { number = k; time = claim.time; element = claim.element } ∷ numbered (suc k) claims
+
+-- the occurrences of the committed claims, in claim order
+abbrev pub committed_occurrences : PlainSetup → PlainState → List PlainOccurrence
+committed_occurrences setup state = numbered 0 (take (committed setup state) state.claims)
+
+-- the cause for which a run with no cut ends, the first that holds: the limit of claims is reached, or
+-- nothing is covered at any time
+abbrev pub HasCause : PlainSetup → PlainState → PlainEnd → Type 0
+HasCause setup state steps_made = length state.claims ≡ setup.limits.steps
+HasCause setup state dead =
+    (length state.claims ≢ setup.limits.steps)
+    × ((marking : Marking) × (unclaimed_in setup state ≡ Some marking) × IsDead setup.net marking)
+HasCause setup state (fault_end e fault) = ⊥
+
+-- End: no claim is open and no cut is owed. The cause is that of the last cut, or else that for which a run
+-- with no cut ends.
+pub record EndsBy (setup : PlainSetup) (state : PlainState) (cause : PlainEnd) : Type 0 where
+  pub none_open : list_any (λ claim. is_open claim.status) state.claims ≡ false
+  pub none_owed : owed_cut setup state ≡ None
+  pub has_cause : MatchOption state.cut (HasCause setup state cause) (λ cut. cause ≡ cut.cause)

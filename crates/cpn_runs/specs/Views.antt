@@ -1,0 +1,23 @@
+-- The plain events, limits, ends and occurrences that those of the program stand for.
+use Rattle.cpn_core.specs.Elements.{element_view}
+use Rattle.cpn_runs.specs.State.{PlainEvent, claim_made, claim_completed, PlainEnd, dead, steps_made, PlainLimits, PlainOccurrence}
+use Rattle.cpn_runs.specs.declared.occurrences.Occurrence.{Occurrence}
+use Rattle.cpn_runs.specs.declared.events.Event.{Event}
+use Rattle.cpn_runs.specs.declared.events.Event.TheVariants as events
+use Rattle.cpn_runs.specs.declared.events.End.{End}
+use Rattle.cpn_runs.specs.declared.events.End.TheVariants as ends
+use Rattle.cpn_runs.specs.declared.events.Limits.{Limits}
+
+abbrev pub occurrence_view : Occurrence → PlainOccurrence
+occurrence_view o = record { number = o.number; time = o.time; element = element_view o.element }
+
+abbrev pub event_view : Event → PlainEvent
+event_view (events.Claim seat number) = claim_made seat number
+event_view (events.Done seat number) = claim_completed seat number
+
+abbrev pub end_view : End → PlainEnd
+end_view ends.Dead = dead
+end_view ends.Steps = steps_made
+
+abbrev pub limits_view : Limits → PlainLimits
+limits_view limits = record { steps = limits.steps; until = limits.until; seats = limits.seats }

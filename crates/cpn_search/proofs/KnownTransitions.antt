@@ -1,0 +1,110 @@
+-- What a search knows of a transition of a sound net, and of a marking of the net's places.
+use Rattle.std.proofs.Common.{◌≡◌, ℕ, zero, suc, ◌<◌, Bool, true, false, ◌&&◌, nat_lt, List, [], ◌∷◌, map, length, get_or, slice_index_or, refl, sym, ap, ap₂, ◌∙◌, subst, arith}
+use Rattle.std.specs.List.{list_all, list_any, AllByRecursion}
+use Rattle.std.proofs.lemmas.Bool.Decides.{nat_tests}
+use Rattle.cpn_definitions.specs.Marking.{Marking}
+use Rattle.cpn_definitions.specs.Net.{PlainArc, PlainTransition, PlainNet, no_transition, transition_at, is_variable}
+use Rattle.cpn_definitions.specs.Meaning.{PlainBinding, HasMeaning}
+use Rattle.cpn_definitions.specs.Occurrence.{binds, guard_holds, may_occur, needs_of}
+use Rattle.cpn_definitions.specs.Sound.{IsSound, IsSoundTransition, IsSoundInput, is_bindable, IsMarking}
+use Rattle.cpn_definitions.proofs.Markings.{marking_length}
+use Rattle.cpn_core.specs.declared.nets.Net.{Net}
+use Rattle.cpn_core.specs.declared.nets.PlaceArc.{PlaceArc}
+use Rattle.cpn_core.specs.declared.nets.Transition.{Transition}
+use Rattle.cpn_core.specs.Nets.{arc_view, transition_view, net_view}
+use Rattle.cpn_search.specs.Known.{IsKnown}
+use Rattle.cpn_eval.specs.Guards.{GuardHasMeaning}
+use Rattle.cpn_search.specs.Found.{element_of, IsNeverCovered}
+use Rattle.cpn_search.proofs.Completeness.{sound_transition}
+use Rattle.cpn_search.proofs.Needs.{needs_mean}
+use Rattle.cpn_search.proofs.LeastTimes.{never_by_guard}
+
+pub length_map : {A B : Type 0} (f : A → B) (xs : List A) → length (map f xs) ≡ length xs
+length_map f [] = refl
+length_map f (x ∷ xs) = ap (λ (k : ℕ). suc k) (length_map f xs)
+
+any_mapped : {A B : Type 0} (p : B → Bool) (f : A → B) (xs : List A) → list_any p (map f xs) ≡ list_any (λ x. p (f x)) xs
+any_mapped p f [] = refl
+any_mapped p f (x ∷ xs) = rw (any_mapped p f xs) refl
+
+all_alike : {A : Type 0} (p q : A → Bool) (xs : List A) → ((x : A) → p x ≡ q x) → list_all p xs ≡ list_all q xs
+all_alike p q [] same = refl
+all_alike p q (x ∷ xs) same = ap₂ (λ b c. b && c) (same x) (all_alike p q xs same)
+
+above : (i k : ℕ) → i < k → nat_lt i k ≡ true
+above i k h = grind (arith, nat_tests)
+
+-- ---- the transition of a number
+
+transition_among : (ts : List Transition) (t : ℕ) (tr : Transition) → t < length ts → slice_index_or (map transition_view ts) t no_transition ≡ transition_view (get_or ts t tr)
+transition_among [] t tr lt = absurd (omega arith)
+transition_among (x ∷ ts) zero tr lt = refl
+transition_among (x ∷ ts) (suc t) tr lt = transition_among ts t tr (omega arith)
+
+-- a transition of the net is the one of its number
+pub transition_is : (n : Net) (t : ℕ) (tr : Transition) → t < length n.transitions.items → tr ≡ get_or n.transitions.items t tr → transition_at (net_view n) t ≡ transition_view tr
+transition_is n t tr lt is = transition_among n.transitions.items t tr lt ∙ sym (ap transition_view is)
+
+-- a number of a transition is below the number of transitions
+pub in_range : (n : Net) (t : ℕ) → t < length n.transitions.items → nat_lt t (length (net_view n).transitions) ≡ true
+in_range n t lt = ap (nat_lt t) (length_map transition_view n.transitions.items) ∙ above t (length n.transitions.items) lt
+
+-- ---- what is known
+
+-- the places of sound input arcs are below the number of places
+arcs_placed : (n : PlainNet) (t : PlainTransition) (k : ℕ) (arcs : List PlaceArc) → length n.places ≡ k → AllByRecursion (IsSoundInput n t) (map arc_view arcs) → list_all (λ arc. nat_lt arc.place k) arcs ≡ true
+arcs_placed n t k [] long sound = refl
+arcs_placed n t k (arc ∷ arcs) long sound =
+    let first : nat_lt arc.place k ≡ true = above arc.place k (subst (λ (j : ℕ). arc.place < j) long sound.0.sound.place_known) in
+    rw first (arcs_placed n t k arcs long sound.1)
+
+known_parts : (n : Net) (m : Marking) (tr : Transition) → IsSoundTransition (net_view n) (transition_view tr) → IsMarking (net_view n).places m → IsKnown n m tr
+known_parts n m tr sound marking = record {
+  placed = arcs_placed (net_view n) (transition_view tr) (length m) tr.inputs.items (sym (marking_length (net_view n).places m marking)) sound.inputs_sound;
+  declared = ap (λ (k : ℕ). list_all (λ x. nat_lt x k) tr.vars.items) (sym (length_map _ n.variables.items)) ∙ sound.declared;
+  bindable =
+      all_alike (λ x. list_any (λ (arc : PlaceArc). is_variable x (arc_view arc).expr) tr.inputs.items) (is_bindable (transition_view tr)) tr.vars.items
+      (λ x. sym (any_mapped (λ (arc : PlainArc). is_variable x arc.expr) arc_view tr.inputs.items))
+      ∙ sound.bindable;
+}
+
+-- what is known of a transition of a sound net
+pub known_transition : (n : Net) (m : Marking) (t : ℕ) (tr : Transition) → IsSound (net_view n) → IsMarking (net_view n).places m → t < length n.transitions.items → tr ≡ get_or n.transitions.items t tr → IsKnown n m tr
+known_transition n m t tr sound marking lt is =
+    known_parts n m tr (subst (IsSoundTransition (net_view n)) (transition_is n t tr lt is) (sound_transition (net_view n) t sound (in_range n t lt))) marking
+
+-- ---- what may be asked
+
+-- the guard of a transition of a sound net has a meaning under each binding of the transition's variables
+pub guard_means
+    : (n : Net) (t : ℕ) (tr : Transition) (b : PlainBinding)
+    → IsSound (net_view n) → t < length n.transitions.items → tr ≡ get_or n.transitions.items t tr → binds (net_view n) (transition_at (net_view n) t).vars b ≡ true
+    → GuardHasMeaning (net_view n).functions (transition_view tr).guard b
+guard_means n t tr b sound lt is bound =
+    subst (λ (k : PlainTransition). GuardHasMeaning (net_view n).functions k.guard b) (transition_is n t tr lt is) ((sound_transition (net_view n) t sound (in_range n t lt)).guard_means b bound)
+
+-- and so have the needs
+pub needs_have_meaning
+    : (n : Net) (t : ℕ) (b : PlainBinding)
+    → IsSound (net_view n) → t < length n.transitions.items → binds (net_view n) (transition_at (net_view n) t).vars b ≡ true
+    → HasMeaning (needs_of (net_view n) (element_of t b))
+needs_have_meaning n t b sound lt bound = needs_mean (net_view n) t b (sound_transition (net_view n) t sound (in_range n t lt)).inputs_sound bound
+
+-- an element of a transition of the net whose guard is true may occur
+pub may
+    : (n : Net) (t : ℕ) (tr : Transition) (b : PlainBinding)
+    → t < length n.transitions.items → tr ≡ get_or n.transitions.items t tr → binds (net_view n) (transition_at (net_view n) t).vars b ≡ true
+    → true ≡ guard_holds (net_view n).functions (transition_view tr).guard b
+    → may_occur (net_view n) (element_of t b) ≡ true
+may n t tr b lt is bound guarded =
+    let its : guard_holds (net_view n).functions (transition_at (net_view n) t).guard b ≡ true = ap (λ (k : PlainTransition). guard_holds (net_view n).functions k.guard b) (transition_is n t tr lt is) ∙ sym guarded in
+    rw (in_range n t lt, bound, its) refl
+
+-- one whose guard is not true is never covered
+pub never_guarded
+    : (n : Net) (m : Marking) (t : ℕ) (tr : Transition) (b : PlainBinding)
+    → t < length n.transitions.items → tr ≡ get_or n.transitions.items t tr
+    → false ≡ guard_holds (net_view n).functions (transition_view tr).guard b
+    → IsNeverCovered (net_view n) m (element_of t b)
+never_guarded n m t tr b lt is fails =
+    never_by_guard (net_view n) m t b (ap (λ (k : PlainTransition). guard_holds (net_view n).functions k.guard b) (transition_is n t tr lt is) ∙ sym fails)

@@ -1,0 +1,36 @@
+// The least time at which a binding element is covered.
+ghost use Rattle.std.specs.Prelude.{◌≡◌, ◌<◌, true, length, IfOk, MatchOption};
+ghost use Rattle.cpn_definitions.specs.Net.{transition_at};
+ghost use Rattle.cpn_definitions.specs.Occurrence.{binds};
+ghost use Rattle.cpn_definitions.specs.Sound.{IsSound, IsMarking};
+ghost use Rattle.cpn_core.specs.Nets.{net_view};
+ghost use Rattle.cpn_search.specs.Found.{element_of, IsNeverCovered, IsLeastTime};
+
+use cpn_core::{Binding, Memory, Net, PlainMarking};
+use cpn_eval::{Refused, guard_holds, needs_of};
+use std::alloc::Global;
+
+/// The least time at which an element of a sound net is covered; `None` where it is covered at no time: its guard is
+/// not true, an input inscription has a fault, or the marking never has the tokens that it needs.
+pub fn earliest_of(
+    alloc: Global,
+    net: &Net,
+    marking: &PlainMarking,
+    t: u32,
+    binding: &Binding,
+) -> Result<Option<u64>, Memory>
+    requires sound { IsSound (net_view net.now) }
+    requires marking { IsMarking (net_view net.now).places marking.now }
+    requires in_range { t < length net.now.transitions.items }
+    requires bound { binds (net_view net.now) (transition_at (net_view net.now) t).vars binding.now ≡ true }
+    ensures least { IfOk result (λ earliest. MatchOption earliest (IsNeverCovered (net_view net.now) marking.now (element_of t binding.now)) (IsLeastTime (net_view net.now) marking.now (element_of t binding.now))) }
+{
+    if !guard_holds(net, &net.transitions[t as usize], binding) {
+        return Ok(None);
+    }
+    match needs_of(alloc, net, t, binding) {
+        Ok(needs) => Ok(marking.earliest(&needs)),
+        Err(Refused::Fault(_)) => Ok(None),
+        Err(Refused::Memory) => Err(Memory),
+    }
+}
