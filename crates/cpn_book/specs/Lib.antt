@@ -2,3 +2,4 @@ pub mod Progress
 pub mod Playable
 pub mod Books
 pub mod Shown
+pub mod Worked

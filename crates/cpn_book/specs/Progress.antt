@@ -2,10 +2,11 @@
 use Rattle.std.specs.Prelude.{◌≡◌, length, map}
 use Rattle.cpn_definitions.specs.Sound.{IsMarking}
 use Rattle.cpn_runs.specs.Draw.{generator}
-use Rattle.cpn_runs.specs.State.{PlainSetup}
+use Rattle.cpn_runs.specs.State.{PlainSetup, PlainEnd}
+use Rattle.cpn_runs.specs.Run.{Outlook, HasOutlook, PlainFinished, IsRun}
 use Rattle.cpn_runs.specs.Rounds.{IsUnderWay}
 use Rattle.cpn_runs.specs.Views.{occurrence_view, event_view}
-use Rattle.cpn_book.specs.declared.progresses.Progress.{Progress}
+use Rattle.cpn_book.specs.declared.run_progress.Progress.{Progress}
 
 -- The journal, the occurrences and the marking are those of a run under way, the marking is one of the net's places, and
 -- the next draw is that of the next claim.
@@ -13,3 +14,20 @@ pub record IsRunning (setup : PlainSetup) (p : Progress) : Type 0 where
   pub way : IsUnderWay setup (map event_view p.journal.items) (map occurrence_view p.occurrences.items) p.marking
   pub marking : IsMarking setup.net.places p.marking
   pub draws : p.draws.generator ≡ generator setup.seed (length p.occurrences.items)
+
+-- what a run shows that ends with the progress by the cause, with these outlooks of its first and its last marking
+abbrev pub ended_with : PlainSetup → Progress → PlainEnd → Outlook → Outlook → PlainFinished
+ended_with setup p cause opening closing = record {
+  opening = opening;
+  journal = map event_view p.journal.items;
+  occurrences = map occurrence_view p.occurrences.items;
+  marking = p.marking;
+  clock = setup.clock;
+  cause = cause;
+  closing = closing;
+}
+
+-- The run has ended by the cause: with the outlooks of its first and its last marking it is a run of the setup.
+abbrev pub HasEnded : PlainSetup → Progress → PlainEnd → Type 0
+HasEnded setup p cause =
+    (opening closing : Outlook) → HasOutlook setup setup.start setup.clock opening → HasOutlook setup p.marking setup.clock closing → IsRun setup (ended_with setup p cause opening closing)

@@ -1,10 +1,10 @@
 -- What a run of one seat shows when it ends.
-use Rattle.std.specs.Prelude.{ℕ, List, length, map}
+use Rattle.std.specs.Prelude.{ℕ, List, length}
 use Rattle.cpn_definitions.specs.Enabled.{PlainEntry, ready, next_time}
 use Rattle.cpn_runs.specs.State.{PlainSetup, PlainEnd}
 use Rattle.cpn_runs.specs.Run.{Outlook, PlainFinished}
-use Rattle.cpn_runs.specs.Views.{occurrence_view, event_view}
-use Rattle.cpn_book.specs.declared.progresses.Progress.{Progress}
+use Rattle.cpn_book.specs.Progress.{ended_with}
+use Rattle.cpn_book.specs.declared.run_progress.Progress.{Progress}
 
 -- the outlook of a list of enabled elements at a clock
 abbrev pub outlook_at : ℕ → List PlainEntry → Outlook
@@ -12,12 +12,4 @@ outlook_at clock entries = record { ready_count = length (ready clock entries); 
 
 -- what the progress shows, with the outlook at the start, what is enabled at the end, and the cause of the end
 abbrev pub shown : PlainSetup → Progress → Outlook → List PlainEntry → PlainEnd → PlainFinished
-shown setup p opening entries cause = record {
-  opening = opening;
-  journal = map event_view p.journal.items;
-  occurrences = map occurrence_view p.occurrences.items;
-  marking = p.marking;
-  clock = setup.clock;
-  cause = cause;
-  closing = outlook_at setup.clock entries;
-}
+shown setup p opening entries cause = ended_with setup p cause opening (outlook_at setup.clock entries)

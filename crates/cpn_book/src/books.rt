@@ -11,8 +11,8 @@ ghost use Rattle.cpn_book.specs.Shown.{shown};
 
 use crate::draws::Draws;
 use crate::outlooks::outlook;
-use crate::progresses::Progress;
 use crate::rounds::play_round;
+use crate::run_progress::Progress;
 use cpn_core::{Entry, Memory};
 use cpn_runs::{End, Finished, Outlook, Setup};
 use cpn_search::enabled;
@@ -28,21 +28,21 @@ pub struct Book {
 }
 
 impl Book {
-    /// A book at the start of its run.
-    pub fn start(alloc: Global, setup: Setup) -> Result<Book, Memory>
+    /// A book at the start of its run. It takes no memory.
+    pub fn start(alloc: Global, setup: Setup) -> Book
         requires playable { IsPlayable (setup_view setup) }
-        ensures setup { IfOk result (λ book. setup_in book ≡ setup_view setup) }
+        ensures setup { setup_in result ≡ setup_view setup }
     {
-        Ok(Book { alloc, setup })
+        Book { alloc, setup }
     }
 
     /// The run from its start to its end, each claim being completed before the next is made: until the limit
-    /// of claims is reached or nothing is enabled.
+    /// of claims is reached, nothing is enabled, or the outputs of an element have a fault.
     pub fn run_alone(self) -> Result<Finished, Memory>
         requires playable { IsPlayable (setup_in self) }
         ensures setup { IfOk result (λ f. setup_view f.setup ≡ setup_in self) }
         // The journal leads to a state that ends by the cause, the occurrences are a legal occurrence sequence,
-        // and the rest is what that state has.
+        // a fault is that of an element that is covered at the end, and the rest is what that state has.
         ensures run { IfOk result (λ f. IsRun (setup_in self) (finished_view f)) }
     {
         let Book { alloc, setup } = self;
@@ -58,7 +58,9 @@ impl Book {
             if entries.is_empty() {
                 return Ok(finished(setup, progress, opening, &entries, End::Dead));
             }
-            play_round(alloc, &setup, &entries, &mut progress)?;
+            if let Some(cause) = play_round(alloc, &setup, &entries, &mut progress)? {
+                return Ok(finished(setup, progress, opening, &entries, cause));
+            }
             entries = enabled(alloc, &setup.net, &progress.marking, setup.clock)?;
         }
         Ok(finished(setup, progress, opening, &entries, End::Steps))

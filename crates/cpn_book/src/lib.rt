@@ -7,7 +7,9 @@
 mod books;
 mod draws;
 mod outlooks;
-mod progresses;
 mod rounds;
+mod run_progress;
+#[cfg(test)]
+mod tests;
 
 pub use books::Book;

@@ -1,7 +1,8 @@
 -- One level of a value.
-use Rattle.std.proofs.Common.{◌≡◌, ℕ, Option, Some, None, Box, Global, rules}
-use Rattle.cpn_definitions.specs.Value.{applied}
+use Rattle.std.proofs.Common.{◌≡◌, ℕ, ℤ, Option, Some, None, Box, Global, rules}
+use Rattle.cpn_definitions.specs.Value.{int, constant, applied}
 use Rattle.cpn_core.specs.declared.values.Value.{Value, the_lemmas}
+use Rattle.cpn_core.specs.declared.values.Value.TheBlock.{Int, Enum}
 use Rattle.cpn_core.specs.declared.values.Value.TheViews.{Con}
 use Rattle.cpn_core.specs.Views.{value_view, constructor_view}
 
@@ -13,3 +14,10 @@ view_con_some k b = search (rules, the_lemmas)
 pub view_con : (k : ℕ) (argument : Option (Box Value Global)) → value_view (Con k argument) ≡ constructor_view k argument
 view_con k None = search (rules, the_lemmas)
 view_con k (Some b) = view_con_some k b
+
+-- an integer, and a constant
+pub view_int : (z : ℤ) → value_view (Int z) ≡ int z
+view_int z = search (rules, the_lemmas)
+
+pub view_enum : (k : ℕ) → value_view (Enum k) ≡ constant k
+view_enum k = search (rules, the_lemmas)

@@ -1,22 +1,21 @@
 -- The place where the needs for one value on one place begin, found by comparing needs in order with one of them.
-use Rattle.std.proofs.Common.{◌≡◌, ℕ, ◌<◌, ◌≤◌, Bool, true, false, List, length, get_or, Some, option_map, refl, sym, ap, ◌∙◌, arith, true≢false, Ordering, Less, Equal, Greater, nat_cmp, is_lt, is_gt}
-use Rattle.std.specs.List.Sorted.{IsPartitionPoint, IsPartitionedBy}
+use Rattle.std.proofs.Common.{◌≡◌, ℕ, ◌<◌, Bool, true, false, List, length, get_or, Some, option_map, refl, sym, ap, ◌∙◌, true≢false, Ordering, Less, Equal, Greater, nat_cmp, is_lt, is_gt}
+use Rattle.std.specs.List.Sorted.{IsPartitionedBy}
 use Rattle.std.specs.Ordering.{ordering_then, ordering_reverse}
 use Rattle.std.specs.Cmp.{IsTotalOrder}
 use Rattle.std.proofs.lemmas.Cmp.{upto, then_total, on_total, nat_cmp_total}
 use Rattle.std.specs.List.{slice_get}
-use Rattle.std.proofs.lemmas.List.{length-map}
 use Rattle.std.proofs.lemmas.Option.{slice_get-map, slice_get_read}
 use Rattle.cpn_definitions.specs.Order.{value_cmp}
 use Rattle.cpn_definitions.specs.Lists.{IsInOrder}
 use Rattle.cpn_definitions.specs.Occurrence as plain
 use Rattle.cpn_definitions.specs.Occurrence.{needed_cmp}
 use Rattle.cpn_definitions.specs.ValueOrder.{value_cmp_total}
+use Rattle.cpn_definitions.proofs.DividedLists.{divided}
 use Rattle.cpn_definitions.proofs.TokenOrder.{needed_cmp_total}
 use Rattle.cpn_core.specs.declared.needed.Needed.{Needed}
-use Rattle.cpn_core.specs.NeedPositions.{need_before, IsStartOfNeed}
+use Rattle.cpn_core.specs.NeedPositions.{need_before}
 use Rattle.cpn_core.specs.NeedsViews.{needed_view, needed_views}
-use Rattle.cpn_core.proofs.InsertPlaces.{ordered_places, seen_at}
 
 -- how two needs compare by place and value
 abbrev key_cmp : plain.Needed → plain.Needed → Ordering
@@ -53,16 +52,7 @@ before_too a b need h g = by_test (need_before a need) refl
 
 -- that a need comes before another divides needs in order
 pub divided_needs : (need : plain.Needed) (needs : List Needed) → IsInOrder needed_cmp (needed_views needs) → IsPartitionedBy (λ other. need_before (needed_view other) need) needs
-divided_needs need needs ordered i j d le lt is =
-    before_too (needed_view (get_or needs i d)) (needed_view (get_or needs j d)) need
-    (key_not_after (needed_view (get_or needs i d)) (needed_view (get_or needs j d)) (ordered_places needed_view needed_cmp needed_cmp_total needs i j d ordered le lt)) is
-
-pub start_views : (need : plain.Needed) (needs : List Needed) (first : ℕ) → first ≤ length needs → IsPartitionPoint (λ other. need_before (needed_view other) need ≡ true) (λ other. need_before (needed_view other) need ≡ false) needs first → IsStartOfNeed need (needed_views needs) first
-start_views need needs first le point =
-    let same : length (needed_views needs) ≡ length needs = length-map needs needed_view in (
-      λ k d from below. seen_at needed_view (λ other. need_before other need ≡ true) needs k d (omega arith) (λ e. point.0 k e from below),
-      λ k d from below. seen_at needed_view (λ other. need_before other need ≡ false) needs k d (omega arith) (λ e. point.1 k e from (omega arith)),
-    )
+divided_needs need needs ordered = divided needed_cmp needed_cmp_total needed_view (λ other. need_before other need) (λ a b le is. before_too a b need (key_not_after a b le) is) needs ordered
 
 -- the need at an index, seen as a plain need
 pub need_there : (needs : List Needed) (index : ℕ) (need : Needed) → index < length needs → need ≡ get_or needs index need → slice_get (needed_views needs) index ≡ Some (needed_view need)

@@ -9,11 +9,11 @@ use Rattle.std.proofs.lemmas.Option.{slice_get-map, slice_get_past, slice_get_re
 use Rattle.cpn_definitions.specs.Value.{PlainValue}
 use Rattle.cpn_definitions.specs.Order.{value_cmp, same_value, before}
 use Rattle.cpn_definitions.specs.Marking.{PlainToken, Tokens, token_cmp, stamps, MayPrecede, AreSorted}
+use Rattle.cpn_definitions.proofs.ViewedLists.{up_to}
 use Rattle.cpn_core.specs.declared.places.Token.{Token}
 use Rattle.cpn_core.specs.Positions.{IsStartOf}
 use Rattle.cpn_core.specs.Tokens.{token_view, tokens_view}
 use Rattle.cpn_core.specs.Views.{value_view}
-use Rattle.cpn_core.proofs.Placing.{up_to}
 use Rattle.cpn_definitions.specs.ValueOrder.{value_cmp_total, value_same, same_value_true, same_value_refl, value_not_above}
 
 -- the stamp of a token, where there is one and it has the value
@@ -102,7 +102,7 @@ held_where_stamped v (k ∷ ks) = split (same_value v k.value) (held_where_stamp
 module _ (v : PlainValue) (ks : List Token) (first r : ℕ) (sorted : AreSorted (tokens_view ks)) (short : first ≤ length ks) (start : IsStartOf v (tokens_view ks) first) where
   by_token : slice_get (stamps v (tokens_view ks)) r ≡ stamp_of_value v (option_map token_view (slice_get (drop first ks) r))
   by_token =
-      stamp_at_rank v (tokens_view ks) first r sorted (up_to ks first short) start
+      stamp_at_rank v (tokens_view ks) first r sorted (up_to token_view ks first short) start
       ∙ ap (stamp_of_value v) (ap (λ ls. slice_get ls r) (drop-map token_view first ks) ∙ slice_get-map token_view (drop first ks) r)
 
   -- there is none behind the last token

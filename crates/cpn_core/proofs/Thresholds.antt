@@ -16,8 +16,8 @@ use Rattle.cpn_definitions.specs.Lists.{with_item, with_items, in_order}
 use Rattle.cpn_definitions.specs.Marking.{Marking, tokens_at, stamps, covers}
 use Rattle.cpn_definitions.specs.Occurrence.{Needed, needed_cmp, threshold, same_need, thresholds, are_covered}
 use Rattle.cpn_definitions.specs.ValueOrder.{same_value_true, same_value_refl, value_itself}
-use Rattle.cpn_definitions.proofs.InOrder.{all_with_item, added_last}
-use Rattle.cpn_definitions.proofs.Rising.{each_implied}
+use Rattle.cpn_definitions.proofs.OrderedLists.{all_with_item, added_last}
+use Rattle.cpn_definitions.proofs.RisingLists.{each_implied}
 
 -- ---- lists in order
 

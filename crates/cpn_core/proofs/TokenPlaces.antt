@@ -1,47 +1,18 @@
--- Where a token stands among sorted tokens, found by comparing it with some of them, and what is added and taken
--- there.
-use Rattle.std.proofs.Common.{◌≡◌, ℕ, zero, suc, ◌+◌, ◌<◌, ◌≤◌, Bool, true, false, cond, ◌&&◌, nat_le, [], ◌∷◌, length, get_or, insert, remove, refl, sym, ap, subst, ◌∙◌, arith, true≢false, Ordering, Less, Equal, Greater, nat_cmp, is_eq, is_lt, is_gt, leb-true}
+-- Where a token stands among sorted tokens, found by comparing it with some of them, and what is taken there.
+use Rattle.std.proofs.Common.{◌≡◌, ℕ, zero, suc, ◌+◌, ◌<◌, ◌≤◌, Bool, true, false, cond, ◌&&◌, nat_le, [], ◌∷◌, length, get_or, remove, refl, sym, ap, subst, ◌∙◌, arith, true≢false, Ordering, Less, Equal, Greater, nat_cmp, is_eq, is_lt, is_gt, leb-true}
 use Rattle.std.specs.Ordering.{ordering_then, ordering_reverse}
 use Rattle.std.specs.List.{list_any, AllWithin}
 use Rattle.std.proofs.lemmas.Bool.{cond-true, cond-false, or_parts, and_from}
 use Rattle.std.proofs.lemmas.Bool.Decides.{nat_tests}
-use Rattle.std.proofs.lemmas.Cmp.{upto, tied_itself}
+use Rattle.std.proofs.lemmas.Cmp.{upto}
 use Rattle.std.proofs.lemmas.List.{get_or_default}
 use Rattle.std.proofs.lemmas.List.Folds.{list_any_none, list_any_at}
 use Rattle.cpn_definitions.specs.Value.{PlainValue}
 use Rattle.cpn_definitions.specs.Order.{value_cmp, same_value, before}
-use Rattle.cpn_definitions.specs.Marking.{PlainToken, Tokens, token_at, token_cmp, add_token, without_token, is_taken_by, AreSorted}
+use Rattle.cpn_definitions.specs.Marking.{PlainToken, Tokens, token_at, token_cmp, without_token, is_taken_by, AreSorted}
+use Rattle.cpn_definitions.proofs.SortedTokens.{sorted_places}
 use Rattle.cpn_core.specs.Positions.{Precedes, DoesNotPrecede, IsPlaceOf}
-use Rattle.cpn_definitions.specs.ValueOrder.{value_cmp_total, token_cmp_total, value_itself, same_value_true}
-
--- ---- sorted tokens, by their places
-
-head_first : (k l : PlainToken) (ls : Tokens) (j : ℕ) (d : PlainToken) → is_gt (token_cmp k l) ≡ false → AreSorted (l ∷ ls) → j < length (l ∷ ls) → is_gt (token_cmp k (get_or (l ∷ ls) j d)) ≡ false
-head_first k l ls zero d h sorted lt = h
-head_first k l [] (suc j) d h sorted lt = let no : ⊥ = omega arith in absurd no
-head_first k l (m ∷ ms) (suc j) d h sorted lt = head_first k m ms j d (upto token_cmp_total k l m h sorted.0) sorted.1 (omega arith)
-
-not_after_itself : (k : PlainToken) → is_gt (token_cmp k k) ≡ false
-not_after_itself k = ap is_gt (tied_itself token_cmp_total k)
-
--- of two sorted tokens the earlier is not above the later
-pub sorted_places : (ks : Tokens) (i j : ℕ) (d : PlainToken) → AreSorted ks → i ≤ j → j < length ks → is_gt (token_cmp (get_or ks i d) (get_or ks j d)) ≡ false
-sorted_places [] i j d sorted le lt = let no : ⊥ = omega arith in absurd no
-sorted_places (k ∷ ks) zero zero d sorted le lt = not_after_itself k
-sorted_places (k ∷ []) zero (suc j) d sorted le lt = let no : ⊥ = omega arith in absurd no
-sorted_places (k ∷ l ∷ ls) zero (suc j) d sorted le lt = head_first k l ls j d sorted.0 sorted.1 (omega arith)
-sorted_places (k ∷ ks) (suc i) zero d sorted le lt = let no : ⊥ = omega arith in absurd no
-sorted_places (k ∷ ks) (suc i) (suc j) d sorted le lt = sorted_places ks i j d sorted.1 (omega arith) (omega arith)
-
--- ---- adding at the place found
-
-pub added_at : (t : PlainToken) (ks : Tokens) (i : ℕ) → i ≤ length ks → IsPlaceOf t ks i → insert ks i t ≡ add_token t ks
-added_at t [] zero le found = refl
-added_at t [] (suc i) le found = let no : ⊥ = omega arith in absurd no
-added_at t (k ∷ ks) zero le found = sym (cond-true (is_lt (token_cmp t k)) (t ∷ k ∷ ks) (k ∷ add_token t ks) (found.1 0 k (omega arith) (omega arith)))
-added_at t (k ∷ ks) (suc i) le found =
-    ap (λ ls. k ∷ ls) (added_at t ks i (omega arith) (λ j d g h. found.0 (suc j) d (omega arith) (omega arith), λ j d g h. found.1 (suc j) d (omega arith) (omega arith)))
-    ∙ sym (cond-false (is_lt (token_cmp t k)) (t ∷ k ∷ ks) (k ∷ add_token t ks) (found.0 0 k (omega arith) (omega arith)))
+use Rattle.cpn_definitions.specs.ValueOrder.{value_cmp_total, value_itself, same_value_true}
 
 -- ---- taking at the place found
 

@@ -1,5 +1,5 @@
 -- The plain fault that a fault of the program stands for.
-use Rattle.cpn_definitions.specs.Meaning as plain
+use Rattle.cpn_definitions.specs.Outcome as plain
 use Rattle.cpn_core.specs.declared.faults.EvalFault.{EvalFault}
 use Rattle.cpn_core.specs.declared.faults.EvalFault.TheVariants as faults
 

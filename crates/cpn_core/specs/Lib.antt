@@ -1,8 +1,10 @@
 pub mod Views
 pub mod Same
 pub mod Colours
+pub mod ShapeValues
 pub mod Pairs
 pub mod BindingCode
+pub mod Inscriptions
 pub mod Nets
 pub mod Elements
 pub mod Tokens

@@ -1,5 +1,5 @@
 -- The plain value that a value of the program stands for.
-use Rattle.std.specs.Prelude.{ℕ, List, map, Option, Some, None, Box}
+use Rattle.std.specs.Prelude.{ℕ, List, map, Option, Some, None, Box, Vec}
 use Rattle.std.specs.declared.alloc.Global.{Global}
 use Rattle.cpn_definitions.specs.Value.{PlainValue, PlainValues, unit, boolean, int, constant, text, tuple, bare, applied, list, from_list}
 use Rattle.cpn_core.specs.declared.values.Value.{Value, fold-Value}
@@ -27,3 +27,7 @@ values_view vs = from_list (map value_view vs)
 abbrev pub constructor_view : ℕ → Option (Box Value Global) → PlainValue
 constructor_view k None = bare k
 constructor_view k (Some argument) = applied k (value_view argument.value)
+
+-- rows of values, each as the items that it stands for
+abbrev pub rows_view : List (Vec Value Global) → List PlainValues
+rows_view rows = map (λ row. values_view row.items) rows

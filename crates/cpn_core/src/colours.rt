@@ -63,7 +63,7 @@ impl Colour {
 #[cycle(admits)]
 #[tactic(auto, using(crate::proofs::Levels::view_con, crate::proofs::Shapes::view_union))]
 fn has_shape(value: &Value, shape: &Shape) -> bool
-    ensures { result ≡ shape_holds (value_view value.now) (shape_view shape.now) }
+    ensures exact { result ≡ shape_holds (value_view value.now) (shape_view shape.now) }
 {
     match value {
         Value::Unit => match shape {
@@ -113,7 +113,7 @@ fn is_constructed(
     argument: &Option<Box<Value>>,
     constructors: &[Option<Shape>],
 ) -> bool
-    ensures { (id : ℕ) → result ≡ shape_holds (constructor_view position argument.now) (union_shape id (constructors_view constructors.now)) }
+    ensures exact { (id : ℕ) → result ≡ shape_holds (constructor_view position argument.now) (union_shape id (constructors_view constructors.now)) }
 {
     let place = position as usize;
     if place >= constructors.len() {
@@ -135,7 +135,7 @@ fn is_constructed(
 #[cycle(admits)]
 #[tactic(auto, using(crate::proofs::Shapes::held_more, crate::proofs::Shapes::held_all))]
 fn have_shapes(values: &Values, shapes: &Vec<Shape>) -> bool
-    ensures { result ≡ shapes_hold (values_view values.now.items) (shapes_view shapes.now.items) }
+    ensures exact { result ≡ shapes_hold (values_view values.now.items) (shapes_view shapes.now.items) }
 {
     let shorter = values.len().min(shapes.len());
     for i in 0..shorter {
@@ -148,7 +148,7 @@ fn have_shapes(values: &Values, shapes: &Vec<Shape>) -> bool
 
 #[cycle(admits)]
 fn all_have_shape(values: &Values, shape: &Shape) -> bool
-    ensures { result ≡ shape_holds_of_all (values_view values.now.items) (shape_view shape.now) }
+    ensures exact { result ≡ shape_holds_of_all (values_view values.now.items) (shape_view shape.now) }
 {
     for value in values {
         if !has_shape(value, shape) {
@@ -159,7 +159,7 @@ fn all_have_shape(values: &Values, shape: &Shape) -> bool
 }
 
 fn are_printable(bytes: &[u8]) -> bool
-    ensures { result ≡ list_all is_printable bytes.now }
+    ensures exact { result ≡ list_all is_printable bytes.now }
 {
     for byte in bytes {
         if *byte < 0x20 || *byte > 0x7E {
@@ -172,7 +172,7 @@ fn are_printable(bytes: &[u8]) -> bool
 #[cycle(copy)]
 #[tactic(auto, using(crate::proofs::Shapes::view_list, crate::proofs::Shapes::view_union))]
 fn copy_shape(shape: &Shape) -> Result<Shape, Memory>
-    ensures { IfOk result (λ copied. shape_view copied ≡ shape_view shape.now) }
+    ensures same { IfOk result (λ copied. shape_view copied ≡ shape_view shape.now) }
 {
     match shape {
         Shape::Unit => Ok(Shape::Unit),
@@ -197,7 +197,7 @@ fn copy_shape(shape: &Shape) -> Result<Shape, Memory>
 
 #[cycle(copy)]
 fn copy_shapes(shapes: &Vec<Shape>) -> Result<Vec<Shape>, Memory>
-    ensures { IfOk result (λ copies. shapes_view copies.items ≡ shapes_view shapes.now.items) }
+    ensures same { IfOk result (λ copies. shapes_view copies.items ≡ shapes_view shapes.now.items) }
 {
     let mut copies = Vec::with_capacity(*shapes.allocator(), shapes.len())?;
     for shape in shapes {
@@ -208,7 +208,7 @@ fn copy_shapes(shapes: &Vec<Shape>) -> Result<Vec<Shape>, Memory>
 
 #[cycle(copy)]
 fn copy_constructors(constructors: &Vec<Option<Shape>>) -> Result<Vec<Option<Shape>>, Memory>
-    ensures { IfOk result (λ copies. constructors_view copies.items ≡ constructors_view constructors.now.items) }
+    ensures same { IfOk result (λ copies. constructors_view copies.items ≡ constructors_view constructors.now.items) }
 {
     let mut copies = Vec::with_capacity(*constructors.allocator(), constructors.len())?;
     for constructor in constructors {
@@ -236,6 +236,17 @@ mod tests {
         let mut text = Text::new(alloc);
         text.push(bytes)?;
         Ok(Value::Text(text))
+    }
+
+    // A thousand shapes and one, and as many values of them.
+    fn many_units(alloc: Global) -> Result<(Vec<Shape>, Values), Memory> {
+        let mut shapes = Vec::new(alloc);
+        let mut values = Vec::new(alloc);
+        for _ in 0..1_001 {
+            shapes.push(Shape::Unit)?;
+            values.push(Value::Unit)?;
+        }
+        Ok((shapes, values))
     }
 
     #[test]
@@ -270,6 +281,8 @@ mod tests {
         let list = Value::List(vec![in alloc; Value::Bool(false), Value::Unit]?);
         assert!(rt; !admitted(Shape::List(Box::new(alloc, Shape::Bool)?), &list)?);
         let applied = Value::Con(1, Some(Box::new(alloc, Value::Bool(true))?));
+        let (many, all) = many_units(alloc)?;
+        assert!(rt; admitted(Shape::Tuple(many), &Value::Tuple(all))?);
         for (value, want) in [
             (Value::Con(0, None), true),
             (Value::Con(1, None), false),

@@ -58,7 +58,7 @@ impl Ord for Value {
 
 // The place of the value's kind among the kinds.
 fn kind(value: &Value) -> u8
-    ensures { result ≡ kind_of (value_view value.now) }
+    ensures kind { result ≡ kind_of (value_view value.now) }
 {
     match value {
         Value::Unit => 0,
@@ -77,7 +77,7 @@ fn kind(value: &Value) -> u8
 
 // Two values by their kinds.
 fn by_kind(left: &Value, right: &Value) -> Ordering
-    ensures { result ≡ nat_cmp (kind_of (value_view left.now)) (kind_of (value_view right.now)) }
+    ensures order { result ≡ nat_cmp (kind_of (value_view left.now)) (kind_of (value_view right.now)) }
 {
     kind(left).cmp(&kind(right))
 }
@@ -86,7 +86,7 @@ fn by_kind(left: &Value, right: &Value) -> Ordering
 #[cycle(compare)]
 #[tactic(auto, using(crate::proofs::Levels::view_con))]
 fn compare(left: &Value, right: &Value) -> Ordering
-    ensures { result ≡ value_cmp (value_view left.now) (value_view right.now) }
+    ensures order { result ≡ value_cmp (value_view left.now) (value_view right.now) }
 {
     match left {
         Value::Unit => by_kind(left, right),
@@ -129,7 +129,7 @@ fn compare_constructors(
     right: u32,
     other: &Option<Box<Value>>,
 ) -> Ordering
-    ensures { result ≡ value_cmp (constructor_view left argument.now) (constructor_view right other.now) }
+    ensures order { result ≡ value_cmp (constructor_view left argument.now) (constructor_view right other.now) }
 {
     let by_position = left.cmp(&right);
     match argument {
@@ -148,7 +148,7 @@ fn compare_constructors(
 #[cycle(compare)]
 #[tactic(auto, using(crate::proofs::Items::compared_more, crate::proofs::Items::compared_all))]
 fn compare_each(left: &Values, right: &Values) -> Ordering
-    ensures { result ≡ values_cmp (values_view left.now.items) (values_view right.now.items) }
+    ensures order { result ≡ values_cmp (values_view left.now.items) (values_view right.now.items) }
 {
     let shorter = left.len().min(right.len());
     for i in 0..shorter {

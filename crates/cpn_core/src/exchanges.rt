@@ -40,7 +40,7 @@ impl PlainMarking {
 
     // Takes the latest token of the value whose stamp is not above `latest`; a place past the last one has none.
     fn take_if_there(&mut self, place: u32, value: &Value, latest: u64)
-        ensures { self.new ≡ on_place place (without_token (value_view value.now) latest) self.old }
+        ensures taken { self.new ≡ on_place place (without_token (value_view value.now) latest) self.old }
     {
         if (place as usize) < self.len() {
             self.take(place, value, latest);
@@ -49,7 +49,7 @@ impl PlainMarking {
 
     // Puts the token on its place, if there is that place.
     fn put(&mut self, made: Made) -> Result<(), Memory>
-        ensures { OnOk result (self.new ≡ on_place made.place (add_token (token_at (value_view made.value) made.stamp)) self.old) }
+        ensures added { OnOk result (self.new ≡ on_place made.place (add_token (token_at (value_view made.value) made.stamp)) self.old) }
     {
         if (made.place as usize) < self.len() {
             self.add(made.place, made.value, made.stamp)?;

@@ -11,12 +11,14 @@ mod comparing;
 mod entries;
 mod exchanges;
 mod faults;
+mod inscriptions;
 mod markings;
 mod needed;
 mod needs;
 mod nets;
 mod outputs;
 mod places;
+mod small;
 mod stamps;
 mod values;
 
@@ -25,13 +27,11 @@ pub use colours::{Colour, Shape};
 pub use cpn_memory::{Memory, Text};
 pub use entries::{Entry, Found, FoundBinding};
 pub use faults::EvalFault;
+pub use inscriptions::{ArcExpr, BindingTerm, Expr, Function, Funs, Guard, MExpr, Pat};
 pub use markings::PlainMarking;
 pub use needed::Needed;
 pub use needs::Needs;
-pub use nets::{
-    ArcExpr, BindingTerm, Expr, Function, Funs, Guard, MExpr, Net, Pat, Place, PlaceArc,
-    Transition, Variable,
-};
+pub use nets::{Net, Place, PlaceArc, Transition, Variable};
 pub use outputs::{Made, Outputs};
 pub use places::Token;
 pub use values::{Value, Values, copy_values};

@@ -4,7 +4,7 @@ ghost use Rattle.cpn_definitions.specs.Marking.{token_at, tokens_at, on_place, a
 ghost use Rattle.cpn_core.specs.Views.{value_view};
 ghost use Rattle.cpn_core.specs.Tokens.{tokens_view};
 
-use crate::places::{Place, Token};
+use crate::places::{PlaceTokens, Token};
 use crate::values::Value;
 use cpn_memory::Memory;
 use std::alloc::Global;
@@ -15,7 +15,7 @@ use std::marker::Model;
 /// the definitions.
 #[derive(Drop)]
 pub struct PlainMarking {
-    places: Vec<Place>,
+    places: Vec<PlaceTokens>,
 }
 
 impl Model for PlainMarking {
@@ -37,7 +37,7 @@ impl PlainMarking {
     {
         let mut held = Vec::with_capacity(alloc, places)?;
         for _place in 0..places {
-            held.push(Place::new(alloc))?;
+            held.push(PlaceTokens::new(alloc))?;
         }
         Ok(PlainMarking { places: held })
     }

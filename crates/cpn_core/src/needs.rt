@@ -70,7 +70,7 @@ impl Needs {
 
 // Whether the token comes before the other: by place, then by value, then by offset.
 fn comes_before(needed: &Needed, other: &Needed) -> bool
-    ensures { result ≡ is_lt (needed_cmp (needed_view needed.now) (needed_view other.now)) }
+    ensures exact { result ≡ is_lt (needed_cmp (needed_view needed.now) (needed_view other.now)) }
 {
     let by_place = needed.place.cmp(&other.place);
     let by_value = needed.value.cmp(&other.value);

@@ -87,7 +87,7 @@ impl Outputs {
 
 // Whether the token comes before the other: by place, then by value, then by stamp.
 fn comes_before(made: &Made, other: &Made) -> bool
-    ensures { result ≡ is_lt (made_cmp (made_view made.now) (made_view other.now)) }
+    ensures exact { result ≡ is_lt (made_cmp (made_view made.now) (made_view other.now)) }
 {
     let by_place = made.place.cmp(&other.place);
     let by_value = made.value.cmp(&other.value);

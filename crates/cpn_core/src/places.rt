@@ -24,13 +24,13 @@ pub struct Token {
     pub stamp: u64,
 }
 
-// The tokens of a place. A clause sees them as plain tokens.
+/// The tokens of a place. A clause sees them as plain tokens.
 #[derive(Drop)]
-pub struct Place {
+pub struct PlaceTokens {
     tokens: Vec<Token>,
 }
 
-impl Model for Place {
+impl Model for PlaceTokens {
     ghost use Rattle.cpn_definitions.specs.Marking.{Tokens, AreSorted};
     ghost use Rattle.cpn_core.specs.Code.{tokens_code};
 
@@ -45,17 +45,17 @@ impl Model for Place {
     ghost invariant = { λ p. AreSorted (tokens_view p.tokens.items) };
 }
 
-impl Place {
-    // A place without tokens. It takes no memory yet.
-    pub fn new(alloc: Global) -> Place
+impl PlaceTokens {
+    /// A place without tokens. It takes no memory yet.
+    pub fn new(alloc: Global) -> PlaceTokens
         ensures empty { result ≡ [] }
     {
-        Place {
+        PlaceTokens {
             tokens: Vec::new(alloc),
         }
     }
 
-    // The tokens, in order.
+    /// The tokens, in order.
     pub fn tokens(&self) -> &[Token]
         ensures items { tokens_view result.now ≡ self.now }
         ensures sorted { AreSorted self.now }
@@ -63,7 +63,7 @@ impl Place {
         self.tokens.as_slice()
     }
 
-    // Adds a token, at its place in the order.
+    /// Adds a token, at its place in the order.
     pub fn add(&mut self, value: Value, stamp: u64) -> Result<(), Memory>
         ensures added { OnOk result (self.new ≡ add_token (token_at (value_view value) stamp) self.old) }
         ensures unchanged { OnErr result (self.new ≡ self.old) }
@@ -73,7 +73,7 @@ impl Place {
         Ok(())
     }
 
-    // Takes the latest token of the value whose stamp is not above `latest`, if there is one.
+    /// Takes the latest token of the value whose stamp is not above `latest`, if there is one.
     pub fn take(&mut self, value: &Value, latest: u64)
         ensures taken { self.new ≡ without_token (value_view value.now) latest self.old }
         ensures sorted { AreSorted self.old }
@@ -83,26 +83,26 @@ impl Place {
         }
     }
 
-    // A place of its own with the same tokens.
-    pub fn copy(&self) -> Result<Place, Memory>
+    /// A place of its own with the same tokens.
+    pub fn copy(&self) -> Result<PlaceTokens, Memory>
         ensures same { IfOk result (λ place. place ≡ self.now) }
     {
         let tokens = copy_tokens(&self.tokens)?;
-        Ok(Place { tokens })
+        Ok(PlaceTokens { tokens })
     }
 }
 
 // Whether a token of the value with the stamp comes before the other.
 fn comes_before(value: &Value, stamp: u64, other: &Token) -> bool
-    ensures { result ≡ is_lt (token_cmp (token_at (value_view value.now) stamp) (token_view other.now)) }
+    ensures exact { result ≡ is_lt (token_cmp (token_at (value_view value.now) stamp) (token_view other.now)) }
 {
     let by_value = value.cmp(&other.value);
     by_value.then(stamp.cmp(&other.stamp)) == Ordering::Less
 }
 
-// Whether the token has the value.
+/// Whether the token has the value.
 pub fn has_value(token: &Token, value: &Value) -> bool
-    ensures { result ≡ same_value (value_view value.now) (value_view token.now.value) }
+    ensures exact { result ≡ same_value (value_view value.now) (value_view token.now.value) }
 {
     *value == token.value
 }
@@ -136,12 +136,12 @@ fn place_to_take(tokens: &[Token], value: &Value, latest: u64) -> Option<usize>
 
 // Whether the token's value comes before the value.
 fn is_below(token: &Token, value: &Value) -> bool
-    ensures { result ≡ before (value_view token.now.value) (value_view value.now) }
+    ensures exact { result ≡ before (value_view token.now.value) (value_view value.now) }
 {
     token.value < *value
 }
 
-// Where the tokens of the value begin among sorted tokens, after those of each value before it.
+/// Where the tokens of the value begin among sorted tokens, after those of each value before it.
 pub fn start_of_value(tokens: &[Token], value: &Value) -> usize
     requires sorted { AreSorted (tokens_view tokens.now) }
     ensures within { result ≤ length tokens.now }
@@ -151,7 +151,7 @@ pub fn start_of_value(tokens: &[Token], value: &Value) -> usize
 }
 
 fn copy_tokens(tokens: &Vec<Token>) -> Result<Vec<Token>, Memory>
-    ensures { IfOk result (λ copies. tokens_view copies.items ≡ tokens_view tokens.now.items) }
+    ensures same { IfOk result (λ copies. tokens_view copies.items ≡ tokens_view tokens.now.items) }
 {
     let mut copies = Vec::with_capacity(*tokens.allocator(), tokens.len())?;
     for token in tokens {

@@ -44,7 +44,7 @@ impl PlainMarking {
 
     // The stamp at a rank, from 0, among those of the value on the place.
     fn stamp(&self, place: u32, value: &Value, rank: usize) -> Option<u64>
-        ensures { result ≡ slice_get (stamps (value_view value.now) (tokens_at self.now place)) rank }
+        ensures stamp { result ≡ slice_get (stamps (value_view value.now) (tokens_at self.now place)) rank }
     {
         if self.len() <= place as usize {
             return None;
@@ -56,7 +56,7 @@ impl PlainMarking {
 // The stamp at a rank, from 0, among those of the value.
 fn stamp_among(tokens: &[Token], value: &Value, rank: usize) -> Option<u64>
     requires sorted { AreSorted (tokens_view tokens.now) }
-    ensures { result ≡ slice_get (stamps (value_view value.now) (tokens_view tokens.now)) rank }
+    ensures stamp { result ≡ slice_get (stamps (value_view value.now) (tokens_view tokens.now)) rank }
 {
     let first = start_of_value(tokens, value);
     if tokens.len() - first <= rank {
@@ -72,7 +72,7 @@ fn stamp_among(tokens: &[Token], value: &Value, rank: usize) -> Option<u64>
 
 // Whether the need comes before the other by place and value.
 fn comes_first(need: &Needed, other: &Needed) -> bool
-    ensures { result ≡ need_before (needed_view need.now) (needed_view other.now) }
+    ensures exact { result ≡ need_before (needed_view need.now) (needed_view other.now) }
 {
     let by_place = need.place.cmp(&other.place);
     let by_value = need.value.cmp(&other.value);
@@ -170,6 +170,35 @@ mod tests {
             let told = told(rt.alloc(), tokens, needed)?;
             assert_eq!(rt; told.as_str(), text);
         }
+        Ok(())
+    }
+
+    // A token of each of a thousand values and one, and the needs for all of them.
+    #[test]
+    fn many_needs_are_covered(rt: HostRuntime) -> Result<(), Fail> {
+        let alloc = rt.alloc();
+        let mut needs = Needs::new(alloc);
+        let mut outputs = Outputs::new(alloc);
+        for number in 0..1_001 {
+            let value = Value::Int(number);
+            needs.add(Needed {
+                place: 0,
+                value: value.copy()?,
+                offset: 0,
+            })?;
+            outputs.add(Made {
+                place: 0,
+                value,
+                stamp: 3,
+            })?;
+        }
+        let mut marking = PlainMarking::new(alloc, 1)?;
+        marking.add_made(outputs)?;
+        let copy = marking.copy()?;
+        assert_eq!(rt; marking.earliest(&needs), Some(3));
+        marking.subtract(&needs, 10);
+        assert_eq!(rt; marking.get(0).map_or(7, |tokens| tokens.len()), 0);
+        assert_eq!(rt; copy.get(0).map_or(7, |tokens| tokens.len()), 1_001);
         Ok(())
     }
 }

@@ -57,7 +57,7 @@ pub fn copy_values(values: &Values) -> Result<Values, Memory>
 #[cycle(copy)]
 #[tactic(auto, using(crate::proofs::Levels::view_con_some))]
 fn copy_value(value: &Value) -> Result<Value, Memory>
-    ensures { IfOk result (λ copied. value_view copied ≡ value_view value.now) }
+    ensures same { IfOk result (λ copied. value_view copied ≡ value_view value.now) }
 {
     match value {
         Value::Unit => Ok(Value::Unit),
@@ -79,7 +79,7 @@ fn copy_value(value: &Value) -> Result<Value, Memory>
 
 #[cycle(copy)]
 fn copy_each(values: &Values) -> Result<Values, Memory>
-    ensures { IfOk result (λ copies. values_view copies.items ≡ values_view values.now.items) }
+    ensures same { IfOk result (λ copies. values_view copies.items ≡ values_view values.now.items) }
 {
     let mut copies = Vec::with_capacity(*values.allocator(), values.len())?;
     for value in values {
@@ -91,7 +91,7 @@ fn copy_each(values: &Values) -> Result<Values, Memory>
 #[cycle(nodes)]
 #[tactic(auto, using(crate::proofs::Levels::view_con_some))]
 fn nodes_in(value: &Value) -> u64
-    ensures { result ≡ min (nodes_of (value_view value.now)) (2 ^ 64 - 1) }
+    ensures count { result ≡ min (nodes_of (value_view value.now)) (2 ^ 64 - 1) }
 {
     match value {
         Value::Unit => 1,
@@ -110,7 +110,7 @@ fn nodes_in(value: &Value) -> u64
 
 #[cycle(nodes)]
 fn nodes_in_all(values: &Values) -> u64
-    ensures { result ≡ min (nodes_of_all (values_view values.now.items)) (2 ^ 64 - 1) }
+    ensures count { result ≡ min (nodes_of_all (values_view values.now.items)) (2 ^ 64 - 1) }
 {
     let mut sum: u64 = 0;
     for value in values {
@@ -122,7 +122,19 @@ fn nodes_in_all(values: &Values) -> u64
 #[cfg(test)]
 mod tests {
     use super::*;
+    use std::alloc::Global;
     use std::test::Fail;
+
+    // A list of a thousand items and one, and a string of five thousand bytes.
+    fn long_values(alloc: Global) -> Result<Values, Memory> {
+        let mut items = Vec::new(alloc);
+        for number in 0..1_001 {
+            items.push(Value::Int(number))?;
+        }
+        let mut text = Text::new(alloc);
+        text.push(&vec![in alloc; b'a'; 5_000]?)?;
+        Ok(vec![in alloc; Value::List(items), Value::Text(text)]?)
+    }
 
     #[test]
     fn nodes_are_counted_and_copied(rt: HostRuntime) -> Result<(), Fail> {
@@ -132,17 +144,18 @@ mod tests {
         let items = vec![in alloc; Value::Int(7), Value::Text(name)]?;
         let argument = Box::new(alloc, Value::Tuple(items))?;
         let list = vec![in alloc; Value::Con(1, Some(argument)), Value::Con(0, None)]?;
-        let value = Value::List(list);
+        let long = long_values(alloc)?;
         let cases = [
             (Value::Unit, 1),
             (Value::Bool(true), 1),
             (Value::Enum(4), 1),
-            (value.copy()?, 9),
+            (Value::List(list), 9),
+            (Value::Tuple(copy_values(&long)?), 6_004),
         ];
         for (case, nodes) in cases {
             assert_eq!(rt; case.nodes(), nodes);
+            assert!(rt; case.copy()? == case);
         }
-        assert!(rt; value.copy()? == value);
         Ok(())
     }
 }

@@ -1,11 +1,9 @@
 -- The timed addition: a marking with tokens that were made has, of each value on each of its places, the stamps that it had and
 -- those of the tokens made for it, in their order.
-use Rattle.std.proofs.Common.{◌≡◌, ℕ, zero, suc, ◌<◌, ◌==◌, Bool, true, false, ◌&&◌, cond, List, [], ◌∷◌, map, length, refl, sym, ap, subst, ◌∙◌, eqb-true, arith, Ordering, Less, Equal, Greater, nat_cmp, is_lt, is_gt}
+use Rattle.std.proofs.Common.{◌≡◌, ℕ, ◌<◌, ◌==◌, Bool, true, false, ◌&&◌, cond, List, [], ◌∷◌, map, length, refl, sym, ap, subst, ◌∙◌, eqb-true, arith, Ordering, Less, Equal, Greater, nat_cmp, is_lt, is_gt}
 use Rattle.std.specs.List.{filter}
 use Rattle.std.specs.Ordering.{ordering_then}
-use Rattle.std.proofs.Math.ListN.{length-set}
 use Rattle.std.proofs.lemmas.Bool.{cond_both, cond-true, cond-false}
-use Rattle.std.proofs.lemmas.Bool.Decides.{nat_tests}
 use Rattle.std.proofs.lemmas.Cmp.{alike_right}
 use Rattle.cpn_definitions.specs.Value.{PlainValue}
 use Rattle.cpn_definitions.specs.Order.{value_cmp, same_value}
@@ -15,7 +13,7 @@ use Rattle.cpn_definitions.specs.Marking.{PlainToken, token_at, Tokens, Marking,
 use Rattle.cpn_definitions.specs.Occurrence.{Made, add_made}
 use Rattle.cpn_definitions.proofs.SortedTokens.{add_token_sorted}
 use Rattle.cpn_definitions.proofs.Stamps.{stamps_add_other}
-use Rattle.cpn_definitions.proofs.UntimedPlaces.{tokens_on_place}
+use Rattle.cpn_definitions.proofs.ChangedPlaces.{places_with, changed_place, other_place, tokens_on_place}
 use Rattle.cpn_definitions.proofs.Subtraction.{AllAreSorted}
 
 -- sorted stamps with one more, and with several
@@ -85,9 +83,6 @@ abbrev pub with_made : Made → Marking → Marking
 with_made made m = on_place made.place (add_token (token_at made.value made.stamp)) m
 
 -- adding keeps the places
-pub places_with : (p : ℕ) (change : Tokens → Tokens) (m : Marking) → length (on_place p change m) ≡ length m
-places_with p change m = length-set m p (change (tokens_at m p))
-
 pub places_added : (outputs : List Made) (m : Marking) → length (add_made outputs m) ≡ length m
 places_added [] m = refl
 places_added (made ∷ outputs) m = places_added outputs (with_made made m) ∙ places_with made.place (add_token (token_at made.value made.stamp)) m
@@ -100,22 +95,6 @@ pub sorted_added : (outputs : List Made) (m : Marking) → AllAreSorted m → Al
 sorted_added [] m sorted = sorted
 sorted_added (made ∷ outputs) m sorted = sorted_added outputs (with_made made m) (sorted_with made m sorted)
 
--- the tokens of the place that is changed, and of another
-changed_at : (p : ℕ) (change : Tokens → Tokens) (m : Marking) → p < length m → tokens_at (on_place p change m) p ≡ change (tokens_at m p)
-changed_at p change [] within = absurd (omega arith)
-changed_at zero change (ks ∷ m) within = refl
-changed_at (suc p) change (ks ∷ m) within = changed_at p change m (omega arith)
-
-unchanged_at : (p q : ℕ) (change : Tokens → Tokens) (m : Marking) → (p == q) ≡ false → tokens_at (on_place q change m) p ≡ tokens_at m p
-unchanged_at p q change [] other = refl
-unchanged_at zero zero change (ks ∷ m) other = cc
-unchanged_at zero (suc q) change (ks ∷ m) other = refl
-unchanged_at (suc p) zero change (ks ∷ m) other = refl
-unchanged_at (suc p) (suc q) change (ks ∷ m) other = unchanged_at p q change m (number_other p q other)
-  where
-    number_other : (p q : ℕ) → (suc p == suc q) ≡ false → (p == q) ≡ false
-    number_other p q other = grind (arith, nat_tests)
-
 one_added : (p : ℕ) (v : PlainValue) (made : Made) (m : Marking) → AllAreSorted m → p < length m → stamps v (tokens_at (with_made made m) p) ≡ cond (is_made_for p v made) (with_stamp made.stamp (stamps v (tokens_at m p))) (stamps v (tokens_at m p))
 one_added p v made m sorted within = split (p == made.place) refl
   where
@@ -123,9 +102,9 @@ one_added p v made m sorted within = split (p == made.place) refl
     split true same =
         let at : p ≡ made.place = eqb-true p made.place same in
         ap (λ (q : ℕ). stamps v (tokens_at (on_place q (add_token (token_at made.value made.stamp)) m) p)) (sym at)
-        ∙ ap (stamps v) (changed_at p (add_token (token_at made.value made.stamp)) m within)
+        ∙ ap (stamps v) (changed_place p (add_token (token_at made.value made.stamp)) m (λ past. absurd (omega arith)))
         ∙ stamps_with v made.value made.stamp (tokens_at m p) (sorted p)
-    split false other = ap (stamps v) (unchanged_at p made.place (add_token (token_at made.value made.stamp)) m other)
+    split false other = ap (stamps v) (other_place made.place p (add_token (token_at made.value made.stamp)) m other)
 
 -- a marking with tokens that were made has the stamps that it had, and of each value on each place those made for it
 pub add_made_is_more : (outputs : List Made) (m : Marking) (p : ℕ) (v : PlainValue) → AllAreSorted m → p < length m → stamps v (tokens_at (add_made outputs m) p) ≡ with_stamps (stamps_for p v outputs) (stamps v (tokens_at m p))

@@ -5,7 +5,7 @@ use Rattle.std.specs.List.{AllByRecursion}
 use Rattle.std.proofs.lemmas.Bool.{and_parts}
 use Rattle.cpn_definitions.specs.Marking.{Marking}
 use Rattle.cpn_definitions.specs.Net.{PlainNet, transition_at}
-use Rattle.cpn_definitions.specs.Meaning.{Outcome, gives, faults, no_meaning}
+use Rattle.cpn_definitions.specs.Outcome.{Outcome, gives, faults, no_meaning}
 use Rattle.cpn_definitions.specs.Occurrence.{PlainElement, Needed, Made, threshold_in, binds, guard_holds, may_occur, needs_of, covered, outputs_of, subtract, add_made, exchanged, after}
 use Rattle.cpn_definitions.specs.Legal.{TimedElement, Legal}
 use Rattle.cpn_definitions.specs.Sound.{IsSound, IsMarking}

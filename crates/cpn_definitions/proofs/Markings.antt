@@ -6,15 +6,19 @@ use Rattle.cpn_definitions.specs.Value.{PlainValue}
 use Rattle.cpn_definitions.specs.Colour.{PlainColour, admits}
 use Rattle.cpn_definitions.specs.Lists.{with_item, with_items, in_order}
 use Rattle.cpn_definitions.specs.Marking.{PlainToken, Tokens, Marking, token_at, token_cmp, tokens_at, on_place, AreSorted, add_token, without_token, is_taken_by}
-use Rattle.cpn_definitions.specs.Net.{PlainArc, PlainTransition, PlainNet, Coloured, nothing, no_transition, place_at, transition_at, is_timed, ArcInscription, one}
-use Rattle.cpn_definitions.specs.Meaning.{PlainBinding, PlainTerm, gives, faults, not_in_colour, meaning, in_colour, terms_of, gather}
-use Rattle.cpn_definitions.specs.Occurrence.{PlainElement, Needed, Made, made_cmp, made_by, stamp_on, transition_delay, outputs_of, subtract, add_made}
+use Rattle.cpn_definitions.specs.Inscription.{ArcInscription}
+use Rattle.cpn_definitions.specs.Net.{PlainArc, PlainTransition, PlainNet, Coloured, nothing, no_transition, place_at, transition_at, is_timed}
+use Rattle.cpn_definitions.specs.Outcome.{gives}
+use Rattle.cpn_definitions.specs.Meaning.{PlainBinding, setting_of}
+use Rattle.cpn_definitions.specs.Terms.{PlainTerm, terms_of}
+use Rattle.cpn_definitions.specs.Occurrence.{gather, PlainElement, Needed, Made, made_cmp, made_by, stamp_on, transition_delay, outputs_of, subtract, add_made}
 use Rattle.cpn_definitions.specs.Sound.{IsSoundArc, IsSoundTransition, IsSound, may_hold, IsMarking}
 use Rattle.cpn_definitions.proofs.Outcomes.{bound_parts, same_given}
-use Rattle.cpn_definitions.proofs.Rising.{each_appended, each_flat}
-use Rattle.cpn_definitions.proofs.InOrder.{all_with_item}
+use Rattle.cpn_definitions.proofs.RisingLists.{each_appended, each_flat}
+use Rattle.cpn_definitions.proofs.OrderedLists.{all_with_item}
 use Rattle.cpn_definitions.proofs.SortedTokens.{add_token_sorted, without_token_sorted}
-use Rattle.cpn_definitions.proofs.UntimedPlaces.{tokens_on_place}
+use Rattle.cpn_definitions.proofs.ChangedPlaces.{places_with, tokens_on_place}
+use Rattle.cpn_definitions.proofs.Terms.{AreTermsOf, terms_are}
 
 -- ---- a marking of places, place by place
 
@@ -42,15 +46,10 @@ marking_from [] (ks ∷ m) same all = absurd (omega arith)
 marking_from (place ∷ places) [] same all = absurd (omega arith)
 marking_from (place ∷ places) (ks ∷ m) same all = ((all 0).0, (all 0).1, marking_from places m (omega arith) (λ p. all (suc p)))
 
-length_on_place : (p : ℕ) (change : Tokens → Tokens) (m : Marking) → length (on_place p change m) ≡ length m
-length_on_place p change [] = refl
-length_on_place zero change (ks ∷ m) = refl
-length_on_place (suc p) change (ks ∷ m) = ap (λ (k : ℕ). suc k) (length_on_place p change m)
-
 -- a marking of places stays one where what is changed on one place may still be held there
 pub changed_marking : (places : List Coloured) (p : ℕ) (change : Tokens → Tokens) (m : Marking) → (IsHeldAt places p (tokens_at m p) → IsHeldAt places p (change (tokens_at m p))) → IsMarking places m → IsMarking places (on_place p change m)
 changed_marking places p change m keeps is =
-    marking_from places (on_place p change m) (length_on_place p change m ∙ marking_length places m is) (tokens_on_place (IsHeldAt places) p change m (held_at places m is) keeps)
+    marking_from places (on_place p change m) (places_with p change m ∙ marking_length places m is) (tokens_on_place (IsHeldAt places) p change m (held_at places m is) keeps)
 
 -- ---- taking
 
@@ -91,19 +90,13 @@ replicated : (places : List Coloured) (k : ℕ) (made : Made) → MayBeHeld plac
 replicated places zero made is = tt
 replicated places (suc k) made is = (is, replicated places k made is)
 
-admitted_in : (colour : PlainColour) (v w : PlainValue) → in_colour colour v ≡ gives w → admits colour w ≡ true
-admitted_in colour v w is = split (admits colour v) refl is
-  where
-    split : (b : Bool) → admits colour v ≡ b → cond b (gives v) (faults not_in_colour) ≡ gives w → admits colour w ≡ true
-    split true fits h = subst (λ u. admits colour u ≡ true) (same_given v w h) fits
-    split false misfit h = cc
-
 -- the terms of an inscription have values of its colour set
 terms_admitted : (n : PlainNet) (e : ArcInscription) (colour : PlainColour) (b : PlainBinding) (time : ℕ) (terms : List PlainTerm) → terms_of n.functions e colour b time ≡ gives terms → AllByRecursion (λ (term : PlainTerm). admits colour term.value ≡ true) terms
-terms_admitted n (one e) colour b time terms is =
-    let first = bound_parts (meaning n.functions e b time) _ terms is in
-    let second = bound_parts (in_colour colour first.0) _ terms first.2 in
-    subst (AllByRecursion (λ (term : PlainTerm). admits colour term.value ≡ true)) (same_given (record { value = second.0; count = 1; delay = 0 } ∷ []) terms second.2) (admitted_in colour first.0 second.0 second.1, tt)
+terms_admitted n e colour b time terms is = only_admitted terms (terms_are e colour (setting_of n.functions b time) [] 0 terms is)
+  where
+    only_admitted : (xs : List PlainTerm) → AreTermsOf colour xs → AllByRecursion (λ (term : PlainTerm). admits colour term.value ≡ true) xs
+    only_admitted [] are = tt
+    only_admitted (x ∷ xs) are = (are.0.0, only_admitted xs are.1)
 
 -- a token of an admitted value, stamped as the place is timed, may be held
 token_held : (n : PlainNet) (p : ℕ) (v : PlainValue) (stamp : ℕ) → admits (place_at n p).colour v ≡ true → MayBeHeld n.places (record { place = p; value = v; stamp = stamp_on n p stamp })

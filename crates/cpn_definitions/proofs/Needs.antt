@@ -12,12 +12,12 @@ use Rattle.cpn_definitions.specs.ValueOrder.{value_itself, same_value_true}
 use Rattle.cpn_definitions.specs.Lists.{IsInOrder, in_order}
 use Rattle.cpn_definitions.specs.Marking.{Marking, tokens_at, stamps, less}
 use Rattle.cpn_definitions.specs.Net.{PlainArc, PlainNet, transition_at}
-use Rattle.cpn_definitions.specs.Meaning.{Outcome, gives, gather, ◌>>=◌}
-use Rattle.cpn_definitions.specs.Occurrence.{PlainElement, Needed, Made, needed_cmp, made_cmp, needed_by, needs_of, made_by, transition_delay, outputs_of, threshold, thresholds, subtract}
+use Rattle.cpn_definitions.specs.Outcome.{Outcome, gives, ◌>>=◌}
+use Rattle.cpn_definitions.specs.Occurrence.{gather, PlainElement, Needed, Made, needed_cmp, made_cmp, needed_by, needs_of, made_by, transition_delay, outputs_of, threshold, thresholds, subtract}
 use Rattle.cpn_definitions.proofs.Outcomes.{bound_parts, same_given}
-use Rattle.cpn_definitions.proofs.InOrder.{in_order_is, in_order_same, exchanged_in_order}
+use Rattle.cpn_definitions.proofs.OrderedLists.{in_order_is, in_order_same, exchanged_in_order}
 use Rattle.cpn_definitions.proofs.TokenOrder.{needed_cmp_total, needed_same, made_cmp_total}
-use Rattle.cpn_definitions.proofs.Rising.{each_filtered}
+use Rattle.cpn_definitions.proofs.RisingLists.{each_filtered}
 use Rattle.cpn_definitions.proofs.Subtraction.{AllAreSorted, is_for, thresholds_for, subtract_is_less}
 
 -- ---- in order

@@ -1,6 +1,6 @@
 -- What follows from an outcome that gives a value.
 use Rattle.std.proofs.Common.{◌≡◌, Bool, true, refl, ap, ◌∙◌}
-use Rattle.cpn_definitions.specs.Meaning.{Outcome, gives, faults, no_meaning, ◌>>=◌, gives_and}
+use Rattle.cpn_definitions.specs.Outcome.{Outcome, gives, faults, no_meaning, ◌>>=◌, gives_and}
 use Rattle.cpn_definitions.specs.Sound.{Gives}
 
 -- two values that are given are the same

@@ -1,17 +1,16 @@
 -- The timed subtraction: a marking less needs has, of each value on each place, the stamps that it had less the thresholds
 -- of the needs for that value there.
-use Rattle.std.proofs.Common.{◌≡◌, ℕ, zero, suc, ◌==◌, Bool, true, false, ◌&&◌, cond, List, [], ◌∷◌, map, refl, sym, ap, subst, ◌∙◌, eqb-true, arith}
+use Rattle.std.proofs.Common.{◌≡◌, ℕ, ◌==◌, Bool, true, false, ◌&&◌, cond, List, [], ◌∷◌, map, refl, sym, ap, subst, ◌∙◌, eqb-true}
 use Rattle.std.specs.List.{filter}
 use Rattle.std.proofs.lemmas.Bool.{and_parts}
-use Rattle.std.proofs.lemmas.Bool.Decides.{nat_tests}
 use Rattle.cpn_definitions.specs.Value.{PlainValue}
 use Rattle.cpn_definitions.specs.Order.{same_value}
 use Rattle.cpn_definitions.specs.ValueOrder.{same_value_true}
-use Rattle.cpn_definitions.specs.Marking.{Tokens, Marking, tokens_at, on_place, AreSorted, stamps, without_latest, less, without_token}
+use Rattle.cpn_definitions.specs.Marking.{Marking, tokens_at, on_place, AreSorted, stamps, without_latest, less, without_token}
 use Rattle.cpn_definitions.specs.Occurrence.{Needed, subtract}
 use Rattle.cpn_definitions.proofs.SortedTokens.{without_token_sorted}
 use Rattle.cpn_definitions.proofs.Stamps.{stamps_without, stamps_without_other}
-use Rattle.cpn_definitions.proofs.UntimedPlaces.{tokens_on_place}
+use Rattle.cpn_definitions.proofs.ChangedPlaces.{changed_place, other_place, tokens_on_place}
 
 -- the tokens of each place are sorted
 abbrev pub AllAreSorted : Marking → Type 0
@@ -25,23 +24,6 @@ is_for p v need = (p == need.place) && same_value v need.value
 abbrev pub thresholds_for : (Needed → ℕ) → ℕ → PlainValue → List Needed → List ℕ
 thresholds_for latest p v needs = map latest (filter (is_for p v) needs)
 
--- the tokens of another place than the one that is changed
-other_place : (p q : ℕ) (change : Tokens → Tokens) (m : Marking) → (q == p) ≡ false → tokens_at (on_place p change m) q ≡ tokens_at m q
-other_place p q change [] other = refl
-other_place zero zero change (ks ∷ m) other = cc
-other_place zero (suc q) change (ks ∷ m) other = refl
-other_place (suc p) zero change (ks ∷ m) other = refl
-other_place (suc p) (suc q) change (ks ∷ m) other = other_place p q change m (number_other p q other)
-  where
-    number_other : (p q : ℕ) → (suc q == suc p) ≡ false → (q == p) ≡ false
-    number_other p q other = grind (arith, nat_tests)
-
--- the tokens of the place that is changed; one past the last stays without tokens
-same_place : (p : ℕ) (change : Tokens → Tokens) (m : Marking) → change [] ≡ [] → tokens_at (on_place p change m) p ≡ change (tokens_at m p)
-same_place p change [] none = sym none
-same_place zero change (ks ∷ m) none = refl
-same_place (suc p) change (ks ∷ m) none = same_place p change m none
-
 -- sorted markings stay sorted when a token is taken
 pub sorted_without : (p : ℕ) (v : PlainValue) (t : ℕ) (m : Marking) → AllAreSorted m → AllAreSorted (on_place p (without_token v t) m)
 sorted_without p v t m sorted = tokens_on_place (λ q ks. AreSorted ks) p (without_token v t) m sorted (λ at. without_token_sorted v t (tokens_at m p) at)
@@ -54,7 +36,7 @@ taken p v latest need m sorted true is =
     let value : v ≡ need.value = same_value_true v need.value parts.1 in
     subst (λ (q : ℕ). stamps v (tokens_at (on_place need.place (without_token need.value (latest need)) m) q) ≡ without_latest (latest need) (stamps v (tokens_at m q))) (sym at)
     (subst (λ (w : PlainValue). stamps w (tokens_at (on_place need.place (without_token need.value (latest need)) m) need.place) ≡ without_latest (latest need) (stamps w (tokens_at m need.place))) (sym value)
-    (ap (stamps need.value) (same_place need.place (without_token need.value (latest need)) m refl) ∙ stamps_without need.value (latest need) (tokens_at m need.place) (sorted need.place)))
+    (ap (stamps need.value) (changed_place need.place (without_token need.value (latest need)) m (λ _. refl)) ∙ stamps_without need.value (latest need) (tokens_at m need.place) (sorted need.place)))
 taken p v latest need m sorted false is = split (p == need.place) refl
   where
     split : (b : Bool) → (p == need.place) ≡ b → stamps v (tokens_at (on_place need.place (without_token need.value (latest need)) m) p) ≡ stamps v (tokens_at m p)
@@ -63,7 +45,7 @@ taken p v latest need m sorted false is = split (p == need.place) refl
         let at : p ≡ need.place = eqb-true p need.place same in
         let other : same_value v need.value ≡ false = ap (λ b. b && same_value v need.value) (sym same) ∙ is in
         subst (λ (q : ℕ). stamps v (tokens_at (on_place need.place (without_token need.value (latest need)) m) q) ≡ stamps v (tokens_at m q)) (sym at)
-        (ap (stamps v) (same_place need.place (without_token need.value (latest need)) m refl) ∙ stamps_without_other v need.value (latest need) (tokens_at m need.place) other)
+        (ap (stamps v) (changed_place need.place (without_token need.value (latest need)) m (λ _. refl)) ∙ stamps_without_other v need.value (latest need) (tokens_at m need.place) other)
 
 -- a marking less needs has the stamps that it had, of each value on each place less the thresholds for it
 pub subtract_is_less : (latest : Needed → ℕ) (needs : List Needed) (m : Marking) (p : ℕ) (v : PlainValue) → AllAreSorted m → stamps v (tokens_at (subtract latest needs m) p) ≡ less (stamps v (tokens_at m p)) (thresholds_for latest p v needs)

@@ -6,7 +6,7 @@ use Rattle.std.proofs.Math.Path.{fun_ext}
 use Rattle.std.proofs.lemmas.Bool.{cases_lt}
 use Rattle.cpn_definitions.specs.Marking.{Marking}
 use Rattle.cpn_definitions.specs.Net.{PlainNet}
-use Rattle.cpn_definitions.specs.Meaning.{gives_and}
+use Rattle.cpn_definitions.specs.Outcome.{gives_and}
 use Rattle.cpn_definitions.specs.Occurrence.{PlainElement, Needed, threshold_in, are_covered, may_occur, needs_of, covered}
 use Rattle.cpn_definitions.specs.Enabled.{PlainEntry, IsEarliest, Enabled, ready}
 use Rattle.cpn_definitions.specs.Legal.{LeastTime, TimedElement, Legal}

@@ -8,12 +8,15 @@ use Rattle.cpn_definitions.specs.Order.{same_value}
 use Rattle.cpn_definitions.specs.Lists.{with_item, with_items, in_order}
 use Rattle.cpn_definitions.specs.Marking.{PlainToken, Tokens, Marking, tokens_at, on_place, stamps, covers, is_taken_by, without_token, add_token, token_at, token_cmp}
 use Rattle.cpn_definitions.specs.Net.{PlainArc, PlainNet, Coloured, nothing, transition_at, is_timed}
-use Rattle.cpn_definitions.specs.Occurrence.{PlainElement, Needed, Made, made_cmp, made_by, stamp_on, transition_delay, outputs_of, threshold, threshold_in, same_need, thresholds, are_covered, subtract, add_made}
+use Rattle.cpn_definitions.specs.Occurrence.{PlainElement, Needed, Made, made_cmp, made_by, stamp_on, transition_delay, outputs_of, threshold, threshold_in, same_need, thresholds, are_covered, subtract, add_made, gather}
 use Rattle.cpn_definitions.specs.Colour.{PlainColour}
-use Rattle.cpn_definitions.specs.Meaning.{PlainBinding, PlainTerm, gives, terms_of, gather}
+use Rattle.cpn_definitions.specs.Outcome.{gives}
+use Rattle.cpn_definitions.specs.Meaning.{PlainBinding}
+use Rattle.cpn_definitions.specs.Terms.{PlainTerm, terms_of}
 use Rattle.cpn_definitions.specs.Sound.{IsStamped, may_hold, IsMarking}
-use Rattle.cpn_definitions.proofs.Rising.{each_appended, each_flat, each_in}
-use Rattle.cpn_definitions.proofs.InOrder.{all_with_item}
+use Rattle.cpn_definitions.proofs.RisingLists.{each_appended, each_flat, each_in}
+use Rattle.cpn_definitions.proofs.OrderedLists.{all_with_item}
+use Rattle.cpn_definitions.proofs.ChangedPlaces.{tokens_on_place}
 use Rattle.cpn_definitions.proofs.Outcomes.{bound_parts, same_given}
 use Rattle.std.specs.Ordering.{nat_cmp, is_lt}
 
@@ -140,14 +143,6 @@ zero_added t (k ∷ ks) none all =
     cond_both (is_lt (token_cmp t k)) (t ∷ k ∷ ks) (k ∷ add_token t ks) AreZero (λ _. and_from _ _ none all) (λ _. and_from _ _ parts.0 (zero_added t ks none parts.1))
 
 -- ---- one place changed
-
--- the tokens of a place after those of another, or of the same, were changed
-pub tokens_on_place : (P : ℕ → Tokens → Type 0) (p : ℕ) (change : Tokens → Tokens) (m : Marking) → ((q : ℕ) → P q (tokens_at m q)) → (P p (tokens_at m p) → P p (change (tokens_at m p))) → (q : ℕ) → P q (tokens_at (on_place p change m) q)
-tokens_on_place P p change [] all at q = all q
-tokens_on_place P zero change (ks ∷ m) all at zero = at (all 0)
-tokens_on_place P zero change (ks ∷ m) all at (suc q) = all (suc q)
-tokens_on_place P (suc p) change (ks ∷ m) all at zero = all 0
-tokens_on_place P (suc p) change (ks ∷ m) all at (suc q) = tokens_on_place (λ r. P (suc r)) p change m (λ r. all (suc r)) at q
 
 -- a marking stays stamped as the net is timed when a token is taken
 pub stamped_without : (n : PlainNet) (p : ℕ) (v : PlainValue) (t : ℕ) (m : Marking) → IsStamped n m → IsStamped n (on_place p (without_token v t) m)

@@ -1,18 +1,21 @@
 -- Worked nets: when elements are covered, the least time, what an occurrence does, a legal sequence and sequences that are
--- none.
-use Rattle.std.proofs.Common.{◌≡◌, ℕ, zero, suc, ◌+◌, ◌<◌, ◌==◌, pos, Bool, true, false, ◌&&◌, cond, nat_lt, nat_le, [], ◌∷◌, Some, None, refl, sym, ap, ◌∙◌, arith, inl}
+-- none, and transitions, arcs and markings that are not sound.
+use Rattle.std.proofs.Common.{◌≡◌, ℕ, zero, suc, ◌+◌, ◌<◌, ◌≤◌, ◌==◌, pos, negsuc, Bool, true, false, ◌&&◌, cond, nat_lt, nat_le, List, [], ◌∷◌, Some, None, refl, sym, ap, ◌∙◌, arith, inl, replicate, Less, Equal, Greater}
 use Rattle.std.proofs.lemmas.Bool.Decides.{nat_tests}
-use Rattle.cpn_definitions.specs.Value.{PlainValue, int}
+use Rattle.cpn_definitions.specs.Value.{PlainValue, boolean, int}
 use Rattle.cpn_definitions.specs.Order.{same_value}
 use Rattle.cpn_definitions.specs.ValueOrder.{same_value_refl}
 use Rattle.cpn_definitions.specs.Colour.{PlainColour, int_shape, admits}
 use Rattle.cpn_definitions.specs.Lists.{in_order}
 use Rattle.cpn_definitions.specs.Marking.{PlainToken, token_at, Marking, stamps, covers}
-use Rattle.cpn_definitions.specs.Net.{PlainExpr, literal, variable, one, PlainArc, PlainTransition, PlainNet}
-use Rattle.cpn_definitions.specs.Meaning.{PlainBinding, gives}
-use Rattle.cpn_definitions.specs.Occurrence.{PlainElement, Needed, needed_cmp, threshold, are_covered, covered, needs_of, outputs_of, after}
+use Rattle.cpn_definitions.specs.Inscription.{PlainExpr, literal, variable, one}
+use Rattle.cpn_definitions.specs.Net.{PlainArc, PlainTransition, PlainNet}
+use Rattle.cpn_definitions.specs.Outcome.{gives, faults, no_meaning, not_in_colour, bad_delay}
+use Rattle.cpn_definitions.specs.Meaning.{PlainBinding}
+use Rattle.cpn_definitions.specs.Terms.{delay_of}
+use Rattle.cpn_definitions.specs.Occurrence.{PlainElement, Needed, Made, needed_cmp, made_cmp, threshold, are_covered, covered, needs_of, outputs_of, after}
 use Rattle.cpn_definitions.specs.Legal.{LeastTime, Legal}
-use Rattle.cpn_definitions.specs.Sound.{IsUntimed}
+use Rattle.cpn_definitions.specs.Sound.{IsSoundArc, IsSoundInput, IsSoundTransition, IsMarking, IsUntimed}
 use Rattle.cpn_definitions.proofs.UntimedNets.{legal_is_at_clock}
 
 -- ---- a timed place A, and a transition that takes x twice from it and gives x + 0 to an untimed place B
@@ -99,6 +102,123 @@ takes_before_it_adds = refl
 outputs_by_place : outputs_of timed_net (with_x 7) 4 ≡ gives (record { place = 0; value = int (pos 2); stamp = 7 } ∷ record { place = 1; value = int (pos 7); stamp = 0 } ∷ [])
 unfolding outputs_of
 outputs_by_place = refl
+
+-- ---- no occurrence of what is not covered
+
+nothing_before_four : after timed_net two_sevens 3 (with_x 7) ≡ None
+unfolding after covered needs_of outputs_of
+nothing_before_four = refl
+
+-- ---- guards, delays and outputs of a transition that takes x and gives a literal
+
+abbrev giving : List PlainExpr → PlainExpr → PlainExpr → PlainNet
+giving guard delay output = record {
+  places = record { name = []; colour = times } ∷ [];
+  transitions = record { name = []; guard = guard; delay = Some delay; inputs = arc_of 0 times (variable 0) ∷ []; outputs = arc_of 0 times output ∷ []; vars = 0 ∷ [] } ∷ [];
+  variables = record { name = []; colour = digits } ∷ [];
+  constants = [];
+  constructors = [];
+  functions = [];
+}
+
+abbrev truth : Bool → PlainExpr
+truth b = literal (boolean b)
+
+abbrev number : ℕ → PlainExpr
+number k = literal (int (pos k))
+
+a_true_guard : covered (giving (truth true ∷ truth true ∷ []) (number 0) (number 2)) ((seven 1 ∷ []) ∷ []) 1 (with_x 7) ≡ true
+unfolding covered needs_of
+a_true_guard = refl
+
+first_conjunct_false : covered (giving (truth false ∷ truth true ∷ []) (number 0) (number 2)) ((seven 1 ∷ []) ∷ []) 1 (with_x 7) ≡ false
+unfolding covered needs_of
+first_conjunct_false = refl
+
+second_conjunct_false : covered (giving (truth true ∷ truth false ∷ []) (number 0) (number 2)) ((seven 1 ∷ []) ∷ []) 1 (with_x 7) ≡ false
+unfolding covered needs_of
+second_conjunct_false = refl
+
+-- an output outside the colour set of its place is a fault, and nothing occurs, though the element is covered
+an_output_too_large : outputs_of (giving [] (number 0) (number 10)) (with_x 7) 1 ≡ faults not_in_colour
+unfolding outputs_of
+an_output_too_large = refl
+
+covered_and_faulted : covered (giving [] (number 0) (number 10)) ((seven 1 ∷ []) ∷ []) 1 (with_x 7) ≡ true
+unfolding covered needs_of
+covered_and_faulted = refl
+
+no_marking_after_a_fault : after (giving [] (number 0) (number 10)) ((seven 1 ∷ []) ∷ []) 1 (with_x 7) ≡ None
+unfolding after covered needs_of outputs_of
+no_marking_after_a_fault = refl
+
+-- the delay's fault comes before an output's
+delay_faults_first : outputs_of (giving [] (literal (int (negsuc 0))) (number 10)) (with_x 7) 1 ≡ faults bad_delay
+unfolding outputs_of
+delay_faults_first = refl
+
+-- an input outside the colour set of its place is needed nowhere
+abbrev asking_for_ten : PlainNet
+asking_for_ten = record {
+  places = record { name = []; colour = digits } ∷ [];
+  transitions = record { name = []; guard = []; delay = None; inputs = arc_of 0 digits (number 10) ∷ []; outputs = []; vars = [] } ∷ [];
+  variables = [];
+  constants = [];
+  constructors = [];
+  functions = [];
+}
+
+an_input_too_large : covered asking_for_ten ((token_at (int (pos 10)) 0 ∷ []) ∷ []) 0 (record { transition = 0; binding = [] }) ≡ false
+unfolding covered needs_of
+an_input_too_large = refl
+
+no_delay_below_zero : delay_of (int (negsuc 0)) ≡ faults bad_delay
+no_delay_below_zero = refl
+
+no_delay_of_a_truth_value : delay_of (boolean true) ≡ no_meaning
+no_delay_of_a_truth_value = refl
+
+the_greatest_delay : delay_of (int (pos 4611686018427387904)) ≡ gives 4611686018427387904
+the_greatest_delay = refl
+
+one_too_great : delay_of (int (pos 4611686018427387905)) ≡ faults bad_delay
+one_too_great = refl
+
+-- ---- needs and outputs in order: by place, then by value, then by offset or stamp
+
+abbrev needing : ℕ → ℕ → ℕ → Needed
+needing place value offset = record { place = place; value = int (pos value); offset = offset }
+
+needs_by_place : needed_cmp (needing 0 9 9) (needing 1 2 2) ≡ Less
+needs_by_place = refl
+
+needs_by_value : needed_cmp (needing 0 2 9) (needing 0 9 2) ≡ Less
+needs_by_value = refl
+
+needs_by_offset : needed_cmp (needing 0 2 9) (needing 0 2 2) ≡ Greater
+needs_by_offset = refl
+
+abbrev making : ℕ → ℕ → ℕ → Made
+making place value stamp = record { place = place; value = int (pos value); stamp = stamp }
+
+made_by_place : made_cmp (making 0 9 9) (making 1 2 2) ≡ Less
+made_by_place = refl
+
+made_by_value : made_cmp (making 0 2 9) (making 0 9 2) ≡ Less
+made_by_value = refl
+
+made_by_stamp : made_cmp (making 0 2 9) (making 0 2 2) ≡ Greater
+made_by_stamp = refl
+
+-- one token of each of two values, and on each of two places, covers a need for each
+two_values : are_covered (threshold 0) ((token_at (int (pos 6)) 0 ∷ seven 0 ∷ []) ∷ []) (needing 0 6 0 ∷ needing 0 7 0 ∷ []) ≡ true
+two_values = refl
+
+two_places : are_covered (threshold 0) ((seven 0 ∷ []) ∷ (seven 0 ∷ []) ∷ []) (needing 0 7 0 ∷ needing 1 7 0 ∷ []) ≡ true
+two_places = refl
+
+the_second_is_missing : are_covered (threshold 0) ((seven 0 ∷ []) ∷ [] ∷ []) (needing 0 7 0 ∷ needing 1 7 0 ∷ []) ≡ false
+the_second_is_missing = refl
 
 -- ---- two thresholds in either order
 
@@ -226,3 +346,63 @@ not_unchanged end legal =
 
 not_to_another_clock : (last : Marking) → Legal plain_net one_seven 0 [] last 4 → ⊥
 not_to_another_clock last legal = let at = legal_is_at_clock plain_net one_seven 0 [] last 4 plain_is_untimed legal in late at.last
+
+-- ---- transitions that are not sound in this net, which has one place and one variable
+
+-- a transition that takes x, with these variables
+abbrev with_variables : List ℕ → PlainTransition
+with_variables xs = record { name = []; guard = []; delay = None; inputs = arc_of 0 digits (variable 0) ∷ []; outputs = []; vars = xs }
+
+not_both : {b : Bool} → b ≡ true → b ≡ false → ⊥
+not_both is not = cc
+
+variable_twice : IsSoundTransition plain_net (with_variables (0 ∷ 0 ∷ [])) → ⊥
+variable_twice sound = let e : Equal ≡ Less = sound.listed.0.0 in cc
+
+variables_turned : IsSoundTransition plain_net (with_variables (1 ∷ 0 ∷ [])) → ⊥
+variables_turned sound = let e : Greater ≡ Less = sound.listed.0.0 in cc
+
+not_declared : IsSoundTransition plain_net (with_variables (1 ∷ [])) → ⊥
+not_declared sound = not_both sound.declared refl
+
+-- 64 arcs and one more
+too_many_arcs : IsSoundTransition plain_net (record (with_variables []) { outputs = replicate 64 (arc_of 0 digits (number 7)) }) → ⊥
+too_many_arcs sound = let few : 65 ≤ 64 = sound.few_arcs in absurd (omega (arith, few))
+
+guard_without_meaning : IsSoundTransition plain_net (record (with_variables []) { guard = truth true ∷ variable 0 ∷ [] }) → ⊥
+guard_without_meaning sound = (sound.guard_means [] refl).1.0 refl
+
+delay_without_meaning : IsSoundTransition plain_net (record (with_variables []) { delay = Some (truth true) }) → ⊥
+delay_without_meaning sound = sound.delay_means [] 0 refl (omega arith) refl
+
+no_such_place : IsSoundArc plain_net (with_variables (0 ∷ [])) (arc_of 1 digits (variable 0)) → ⊥
+no_such_place sound = let known : 1 < 1 = sound.place_known in absurd (omega (arith, known))
+
+colour_of_another_place : IsSoundArc plain_net (with_variables (0 ∷ [])) (arc_of 0 times (variable 0)) → ⊥
+colour_of_another_place sound = let e : true ≡ false = ap (λ (colour : PlainColour). colour.timed) sound.colour_is in cc
+
+arc_without_meaning : IsSoundArc plain_net (with_variables []) (arc_of 0 digits (variable 0)) → ⊥
+arc_without_meaning sound = sound.means [] 0 refl (omega arith) refl
+
+input_without_its_term : IsSoundInput plain_net (with_variables (0 ∷ [])) (arc_of 0 digits (variable 0)) → ⊥
+input_without_its_term sound = no_terms sound.terms_are
+  where
+    no_terms : {A : Type 0} {x : A} → [] ≡ x ∷ [] → ⊥
+    no_terms e = cc
+
+-- ---- markings that are none of its place
+
+stamped_where_untimed : IsMarking plain_net.places ((seven 1 ∷ []) ∷ []) → ⊥
+stamped_where_untimed marking = not_both marking.1 refl
+
+outside_the_colour_set : IsMarking plain_net.places ((token_at (int (pos 10)) 0 ∷ []) ∷ []) → ⊥
+outside_the_colour_set marking = not_both marking.1 refl
+
+not_sorted : IsMarking plain_net.places ((seven 0 ∷ token_at (int (pos 6)) 0 ∷ []) ∷ []) → ⊥
+not_sorted marking = let e : true ≡ false = marking.0.0 in cc
+
+a_place_too_few : IsMarking plain_net.places [] → ⊥
+a_place_too_few marking = marking
+
+a_place_too_many : IsMarking plain_net.places ([] ∷ [] ∷ []) → ⊥
+a_place_too_many marking = marking.2

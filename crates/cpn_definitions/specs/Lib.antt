@@ -4,8 +4,15 @@ pub mod Lists
 pub mod Colour
 pub mod Marking
 pub mod ValueOrder
+pub mod Outcome
+pub mod Inscription
+pub mod Matching
+pub mod Operations
 pub mod Net
 pub mod Meaning
+pub mod Terms
+pub mod Bindable
+pub mod Lone
 pub mod Occurrence
 pub mod Legal
 pub mod Enabled

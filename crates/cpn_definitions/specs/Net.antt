@@ -1,32 +1,9 @@
 -- Nets, as plain data: places with their colour sets, transitions with their guard, delay and arcs, and what the
 -- inscriptions name. Source: Jensen and Kristensen, chapter 4; several arcs between one place and one transition are our
 -- own.
-use Rattle.std.specs.Prelude.{ℕ, ◌==◌, Bool, false, List, [], Option, None, slice_index_or}
-use Rattle.cpn_definitions.specs.Value.{PlainValue}
+use Rattle.std.specs.Prelude.{ℕ, Bool, false, List, [], Option, None, slice_index_or}
 use Rattle.cpn_definitions.specs.Colour.{PlainColour, unit_shape}
-
--- An inscription: a literal, or a variable by its number.
-pub data PlainExpr : Type 0 where
-  literal : PlainValue → PlainExpr
-  variable : ℕ → PlainExpr
-
--- A function: how many parameters it has, and its body.
-pub record PlainFunction : Type 0 where
-  pub parameters : ℕ
-  pub body : PlainExpr
-
--- The functions of a net, each by its number.
-abbrev pub Functions : Type 0
-Functions = List PlainFunction
-
--- An inscription of an arc, whose value is a multiset: one token of the value of an inscription.
-pub data ArcInscription : Type 0 where
-  one : PlainExpr → ArcInscription
-
--- The pattern of a binding term: a literal, or a variable that the term binds.
-pub data PlainPattern : Type 0 where
-  literal_pattern : PlainValue → PlainPattern
-  variable_pattern : ℕ → PlainPattern
+use Rattle.cpn_definitions.specs.Inscription.{PlainPattern, PlainExpr, ArcInscription, Functions}
 
 -- A binding term of an input arc: so many tokens that the pattern fits.
 pub record BindingTerm : Type 0 where
@@ -89,8 +66,3 @@ transition_at n t = slice_index_or n.transitions t no_transition
 -- whether a place keeps time stamps
 abbrev pub is_timed : PlainNet → ℕ → Bool
 is_timed n p = (place_at n p).colour.timed
-
--- whether an inscription of an arc is one token of the value of a variable
-abbrev pub is_variable : ℕ → ArcInscription → Bool
-is_variable x (one (literal v)) = false
-is_variable x (one (variable y)) = x == y

@@ -1,7 +1,7 @@
 -- When a binding element is enabled, and what its occurrence does.
 -- Source: the enabling and occurrence rules of Jensen and Kristensen, chapters 4 and 11. That a fault of a
 -- guard or an input inscription means not enabled, and which stamp is taken, are our own choice.
-use Rattle.std.specs.Prelude.{ℕ, ◌+◌, ◌==◌, Bool, true, false, ◌&&◌, if◌then◌else◌, nat_lt, List, [], ◌∷◌, length, map, replicate, Option, Some, None}
+use Rattle.std.specs.Prelude.{ℕ, ◌+◌, ◌==◌, Bool, true, false, ◌&&◌, if◌then◌else◌, nat_lt, List, [], ◌∷◌, ◌++◌, length, map, replicate, Option, Some, None}
 use Rattle.std.specs.List.{filter, list_all, flat_map}
 use Rattle.std.specs.declared.cmp.Ordering.{Ordering}
 use Rattle.std.specs.Ordering.{ordering_then, nat_cmp}
@@ -10,8 +10,11 @@ use Rattle.cpn_definitions.specs.Order.{value_cmp, same_value}
 use Rattle.cpn_definitions.specs.Colour.{admits}
 use Rattle.cpn_definitions.specs.Lists.{in_order}
 use Rattle.cpn_definitions.specs.Marking.{Marking, tokens_at, on_place, token_at, add_token, without_token, stamps, covers}
-use Rattle.cpn_definitions.specs.Net.{PlainExpr, PlainArc, Functions, PlainNet, is_timed, variable_at, transition_at}
-use Rattle.cpn_definitions.specs.Meaning.{PlainBinding, Outcome, gives, ◌>>=◌, gives_and, meaning, terms_of, gather, is_true, delay_of}
+use Rattle.cpn_definitions.specs.Outcome.{Outcome, gives, ◌>>=◌, gives_and}
+use Rattle.cpn_definitions.specs.Inscription.{PlainExpr, Functions}
+use Rattle.cpn_definitions.specs.Net.{PlainArc, PlainNet, is_timed, variable_at, transition_at}
+use Rattle.cpn_definitions.specs.Meaning.{PlainBinding, meaning, is_true}
+use Rattle.cpn_definitions.specs.Terms.{terms_of, delay_of}
 
 -- A binding element: a transition by its number, and a binding.
 pub record PlainElement : Type 0 where
@@ -37,6 +40,14 @@ needed_cmp need other = ordering_then (nat_cmp need.place other.place) (ordering
 -- how two made tokens compare: by place, then by value, then by stamp
 abbrev pub made_cmp : Made → Made → Ordering
 made_cmp made other = ordering_then (nat_cmp made.place other.place) (ordering_then (value_cmp made.value other.value) (nat_cmp made.stamp other.stamp))
+
+-- what the arcs give, one after another, or the first fault
+abbrev pub gather : {A : Type 0} → (PlainArc → Outcome (List A)) → List PlainArc → Outcome (List A)
+gather f [] = gives []
+gather f (arc ∷ arcs) = do
+  xs ← f arc
+  ys ← gather f arcs
+  gives (xs ++ ys)
 
 -- ---- needs
 

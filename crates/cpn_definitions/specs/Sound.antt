@@ -1,23 +1,17 @@
 -- Sound nets: those that the calls of the program take. Source: own choice.
-use Rattle.std.specs.Prelude.{◌≡◌, ◌||◌, ◌&&◌, ℕ, ◌+◌, ◌<◌, ◌≤◌, ◌==◌, ◌^◌, Bool, true, false, nat_lt, List, [], ◌∷◌, length}
-use Rattle.std.specs.List.{list_all, list_any, AllByRecursion}
+use Rattle.std.specs.Prelude.{◌≡◌, ◌||◌, ◌&&◌, ℕ, ◌+◌, ◌<◌, ◌≤◌, ◌==◌, ◌^◌, Bool, true, false, nat_lt, List, [], ◌∷◌, length, Contains}
+use Rattle.std.specs.List.{list_all, AllByRecursion}
 use Rattle.std.specs.Ordering.{nat_cmp}
 use Rattle.cpn_definitions.specs.Colour.{PlainColour, admits}
 use Rattle.cpn_definitions.specs.Lists.{Rises}
 use Rattle.cpn_definitions.specs.Marking.{PlainToken, Marking, tokens_at, AreSorted}
-use Rattle.cpn_definitions.specs.Net.{PlainExpr, literal, variable, ArcInscription, one, PlainPattern, literal_pattern, variable_pattern, BindingTerm, PlainArc, PlainTransition, Coloured, PlainNet, place_at, is_timed, is_variable}
-use Rattle.cpn_definitions.specs.Meaning.{PlainBinding, Outcome, gives, HasMeaning, meaning, terms_of}
+use Rattle.cpn_definitions.specs.Outcome.{Outcome, gives, HasMeaning}
+use Rattle.cpn_definitions.specs.Net.{PlainArc, PlainTransition, Coloured, PlainNet, place_at, is_timed}
+use Rattle.cpn_definitions.specs.Meaning.{PlainBinding, meaning}
+use Rattle.cpn_definitions.specs.Terms.{terms_of}
+use Rattle.cpn_definitions.specs.Bindable.{binding_terms, IsBindable}
 use Rattle.cpn_definitions.specs.Occurrence.{PlainElement, binds, covered, transition_delay, outputs_of}
 use Rattle.cpn_definitions.specs.Times.{last_time}
-
--- the inscription read as a pattern
-abbrev pub pattern_of : PlainExpr → PlainPattern
-pattern_of (literal v) = literal_pattern v
-pattern_of (variable x) = variable_pattern x
-
--- the binding terms of an inscription
-abbrev pub binding_terms : ArcInscription → List BindingTerm
-binding_terms (one e) = record { count = 1; pattern = pattern_of e } ∷ []
 
 -- Sound arc: its place is one of the net, whose colour set it carries; and its inscription has a meaning under each
 -- binding of the transition's variables, at each time from 0 to the last time.
@@ -31,16 +25,12 @@ pub record IsSoundInput (n : PlainNet) (t : PlainTransition) (arc : PlainArc) : 
   pub sound : IsSoundArc n t arc
   pub terms_are : arc.terms ≡ binding_terms arc.expr
 
--- whether a variable is bindable: it is the inscription of an input arc
-abbrev pub is_bindable : PlainTransition → ℕ → Bool
-is_bindable t x = list_any (λ arc. is_variable x arc.expr) t.inputs
-
 -- Sound transition: its variables are listed once, in declaration order, and are variables of the net, each bindable; its
 -- guard and its delay have a meaning under each binding of them; it has at most 64 arcs, which are sound.
 pub record IsSoundTransition (n : PlainNet) (t : PlainTransition) : Type 0 where
   pub listed : Rises nat_cmp t.vars
   pub declared : list_all (λ x. nat_lt x (length n.variables)) t.vars ≡ true
-  pub bindable : list_all (is_bindable t) t.vars ≡ true
+  pub bindable : (x : ℕ) → Contains t.vars x → IsBindable n t x
   pub guard_means : (b : PlainBinding) → binds n t.vars b ≡ true → AllByRecursion (λ e. HasMeaning (meaning n.functions e b 0)) t.guard
   pub delay_means : (b : PlainBinding) (time : ℕ) → binds n t.vars b ≡ true → time ≤ last_time → HasMeaning (transition_delay n.functions t.delay b time)
   pub few_arcs : length t.inputs + length t.outputs ≤ 64

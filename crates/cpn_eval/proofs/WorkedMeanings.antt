@@ -4,10 +4,14 @@ use Rattle.std.specs.List.{AllByRecursion, flat_map}
 use Rattle.std.proofs.lemmas.Bool.{cond_both}
 use Rattle.cpn_definitions.specs.Value.{PlainValue, int, boolean}
 use Rattle.cpn_definitions.specs.Colour.{PlainColour, admits}
-use Rattle.cpn_definitions.specs.Net.{PlainExpr, literal, variable, one, PlainArc, PlainTransition, PlainNet, Functions, transition_at}
-use Rattle.cpn_definitions.specs.Meaning.{PlainBinding, Outcome, gives, faults, no_meaning, Fault, HasMeaning, ◌>>=◌, in_colour, not_in_colour, bad_delay, given, bound_value, meaning, PlainTerm, terms_of, gather, delay_of}
-use Rattle.cpn_definitions.specs.Occurrence.{needed_by, needs_of, transition_delay, stamp_on, made_by, outputs_of}
+use Rattle.cpn_definitions.specs.Inscription.{PlainExpr, literal, variable, one, Functions}
+use Rattle.cpn_definitions.specs.Net.{PlainArc, PlainTransition, PlainNet, transition_at}
+use Rattle.cpn_definitions.specs.Outcome.{Outcome, gives, faults, no_meaning, Fault, HasMeaning, ◌>>=◌, not_in_colour, bad_delay, given}
+use Rattle.cpn_definitions.specs.Meaning.{PlainBinding, bound_value, meaning}
+use Rattle.cpn_definitions.specs.Terms.{in_colour, PlainTerm, terms_of, delay_of}
+use Rattle.cpn_definitions.specs.Occurrence.{gather, needed_by, needs_of, transition_delay, stamp_on, made_by, outputs_of}
 use Rattle.cpn_definitions.specs.Times.{last_time}
+use Rattle.cpn_definitions.proofs.Terms.{one_token}
 use Rattle.cpn_eval.specs.Guards.{GuardHasMeaning}
 use Rattle.cpn_eval.specs.Worked.{IsWorked, IsFive, digits, plain_arc, worked_inputs, worked_outputs}
 
@@ -30,7 +34,7 @@ in_colour_means : (colour : PlainColour) (v : PlainValue) → HasMeaning (in_col
 in_colour_means colour v = cond_both (admits colour v) (gives v) (faults not_in_colour) HasMeaning (λ _. value_means v) (λ _. fault_means PlainValue not_in_colour)
 
 terms_mean : (funs : Functions) (e : PlainExpr) (colour : PlainColour) (b : PlainBinding) (time : ℕ) → HasMeaning (meaning funs e b time) → HasMeaning (terms_of funs (one e) colour b time)
-terms_mean funs e colour b time means = then_means (meaning funs e b time) _ means (λ v. then_means (in_colour colour v) _ (in_colour_means colour v) (λ token. value_means _))
+terms_mean funs e colour b time means = subst HasMeaning (sym (one_token funs e colour b time)) (then_means (meaning funs e b time) _ means (λ v. then_means (in_colour colour v) _ (in_colour_means colour v) (λ token. value_means _)))
 
 delay_means : (d : ℤ) → HasMeaning (delay_of (int d))
 delay_means (pos n) = cond_both (nat_le n last_time) (gives n) (faults bad_delay) HasMeaning (λ _. value_means n) (λ _. fault_means ℕ bad_delay)

@@ -1,6 +1,6 @@
 -- What an answer tells of a meaning: its value, or its fault; want of memory tells nothing.
 use Rattle.std.specs.Prelude.{◌≡◌, Result, Ok, Err}
-use Rattle.cpn_definitions.specs.Meaning.{Outcome, gives, faults}
+use Rattle.cpn_definitions.specs.Outcome.{Outcome, gives, faults}
 use Rattle.cpn_core.specs.Faults.{fault_view}
 use Rattle.cpn_eval.specs.declared.refused.Refused.{Refused}
 use Rattle.cpn_eval.specs.declared.refused.Refused.TheVariants as refused

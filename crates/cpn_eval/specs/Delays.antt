@@ -1,6 +1,6 @@
 -- What the delay of a value tells: the delay, or the fault.
 use Rattle.std.specs.Prelude.{◌≡◌, ℕ, Result, Ok, Err}
-use Rattle.cpn_definitions.specs.Meaning.{Outcome, gives, faults}
+use Rattle.cpn_definitions.specs.Outcome.{Outcome, gives, faults}
 use Rattle.cpn_core.specs.declared.faults.EvalFault.{EvalFault}
 use Rattle.cpn_core.specs.Faults.{fault_view}
 

@@ -1,6 +1,6 @@
 -- The token that a term makes.
 use Rattle.std.specs.Prelude.{ℕ}
-use Rattle.cpn_definitions.specs.Meaning.{PlainTerm}
+use Rattle.cpn_definitions.specs.Terms.{PlainTerm}
 use Rattle.cpn_definitions.specs.Occurrence.{Made}
 
 -- a token of the term's value on the place, with a stamp

@@ -3,7 +3,8 @@ use Rattle.std.specs.Prelude.{List, replicate}
 use Rattle.std.specs.List.{flat_map}
 use Rattle.std.specs.declared.cmp.Ordering.{Ordering}
 use Rattle.cpn_definitions.specs.Lists.{with_items}
-use Rattle.cpn_definitions.specs.Meaning.{Outcome, gives, ◌>>=◌, PlainTerm}
+use Rattle.cpn_definitions.specs.Outcome.{Outcome, gives, ◌>>=◌}
+use Rattle.cpn_definitions.specs.Terms.{PlainTerm}
 
 -- a list in order with all the items of an outcome more, or its fault
 abbrev pub and_these : {X : Type 0} → (X → X → Ordering) → List X → Outcome (List X) → Outcome (List X)

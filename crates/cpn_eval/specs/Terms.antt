@@ -1,7 +1,7 @@
 -- The plain terms that those of the program stand for.
 use Rattle.std.specs.Prelude.{List, map, Vec}
 use Rattle.std.specs.declared.alloc.Global.{Global}
-use Rattle.cpn_definitions.specs.Meaning.{PlainTerm}
+use Rattle.cpn_definitions.specs.Terms.{PlainTerm}
 use Rattle.cpn_core.specs.Views.{value_view}
 use Rattle.cpn_eval.specs.declared.term.Term.{Term}
 

@@ -3,7 +3,8 @@ use Rattle.std.specs.Prelude.{◌≡◌, ℕ, ℤ, pos, Bool, true, false, List,
 use Rattle.cpn_definitions.specs.Value.{boolean, int}
 use Rattle.cpn_definitions.specs.Colour.{PlainColour, int_shape}
 use Rattle.cpn_definitions.specs.Meaning.{PlainBinding}
-use Rattle.cpn_definitions.specs.Net.{PlainExpr, literal, variable, one, PlainArc, PlainTransition}
+use Rattle.cpn_definitions.specs.Inscription.{PlainExpr, literal, variable, one}
+use Rattle.cpn_definitions.specs.Net.{PlainArc, PlainTransition}
 
 -- the integers from 0 to 9
 abbrev pub digits : Bool → PlainColour

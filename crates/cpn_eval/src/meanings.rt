@@ -2,10 +2,12 @@
 
 ghost use Rattle.std.specs.Prelude.{◌≡◌, Some, map};
 ghost use Rattle.std.specs.List.{AllByRecursion};
-ghost use Rattle.cpn_definitions.specs.Meaning.{HasMeaning, bound_value, given, meaning, gives_and, is_true};
+ghost use Rattle.cpn_definitions.specs.Outcome.{HasMeaning, given, gives_and};
+ghost use Rattle.cpn_definitions.specs.Meaning.{bound_value, meaning, is_true};
 ghost use Rattle.cpn_definitions.specs.Occurrence.{guard_holds};
 ghost use Rattle.cpn_core.specs.Views.{value_view};
-ghost use Rattle.cpn_core.specs.Nets.{expr_view, funs_view, net_view, transition_view};
+ghost use Rattle.cpn_core.specs.Inscriptions.{expr_view, funs_view};
+ghost use Rattle.cpn_core.specs.Nets.{net_view, transition_view};
 ghost use Rattle.cpn_core.specs.Pairs.{pairs_view};
 ghost use Rattle.cpn_eval.specs.Answers.{Answers};
 ghost use Rattle.cpn_eval.specs.Guards.{GuardHasMeaning};
@@ -51,7 +53,7 @@ pub fn guard_holds(net: &Net, transition: &Transition, binding: &Binding) -> boo
 /// Whether the inscription means true; it reads no time.
 fn is_true(funs: &Funs, expr: &Expr, binding: &Binding) -> bool
     requires meaning { HasMeaning (meaning (funs_view funs.now) (expr_view expr.now) binding.now 0) }
-    ensures { result ≡ gives_and (meaning (funs_view funs.now) (expr_view expr.now) binding.now 0) is_true }
+    ensures exact { result ≡ gives_and (meaning (funs_view funs.now) (expr_view expr.now) binding.now 0) is_true }
 {
     let value = match expr {
         Expr::Lit(value) => value,
@@ -63,14 +65,14 @@ fn is_true(funs: &Funs, expr: &Expr, binding: &Binding) -> bool
 /// The value that the binding gives to the variable.
 fn bound_value(variable: u32, binding: &Binding) -> &Value
     requires meaning { HasMeaning (given (bound_value variable binding.now)) }
-    ensures { bound_value variable binding.now ≡ Some (value_view result.now) }
+    ensures value { bound_value variable binding.now ≡ Some (value_view result.now) }
 {
     bound_among(variable, binding.pairs())
 }
 
 fn bound_among(variable: u32, pairs: &[Pair]) -> &Value
     requires meaning { HasMeaning (given (bound_value variable (pairs_view pairs.now))) }
-    ensures { bound_value variable (pairs_view pairs.now) ≡ Some (value_view result.now) }
+    ensures value { bound_value variable (pairs_view pairs.now) ≡ Some (value_view result.now) }
 {
     for pair in pairs {
         if pair.variable == variable {

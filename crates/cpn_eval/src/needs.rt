@@ -2,9 +2,10 @@
 
 ghost use Rattle.std.specs.Prelude.{◌≡◌, [], replicate, OnOk};
 ghost use Rattle.cpn_definitions.specs.Lists.{with_items};
-ghost use Rattle.cpn_definitions.specs.Meaning.{HasMeaning, gather};
-ghost use Rattle.cpn_definitions.specs.Occurrence.{needed_cmp, needed_by, needs_of};
-ghost use Rattle.cpn_core.specs.Nets.{arc_view, arcs_view, funs_view, net_view};
+ghost use Rattle.cpn_definitions.specs.Outcome.{HasMeaning};
+ghost use Rattle.cpn_definitions.specs.Occurrence.{gather, needed_cmp, needed_by, needs_of};
+ghost use Rattle.cpn_core.specs.Inscriptions.{funs_view};
+ghost use Rattle.cpn_core.specs.Nets.{arc_view, arcs_view, net_view};
 ghost use Rattle.cpn_eval.specs.Answers.{Answers};
 ghost use Rattle.cpn_eval.specs.Terms.{term_view, terms_view};
 ghost use Rattle.cpn_eval.specs.Summed.{and_these, tokens_of};
@@ -73,7 +74,7 @@ fn add_needs(
 
 // Adds as many tokens as the term's count says.
 fn add_needed(needs: &mut Needs, place: u32, term: Term) -> Result<(), Memory>
-    ensures { OnOk result (needs.new ≡ with_items needed_cmp (replicate term.count (needed_of place (term_view term))) needs.old) }
+    ensures added { OnOk result (needs.new ≡ with_items needed_cmp (replicate term.count (needed_of place (term_view term))) needs.old) }
 {
     let Term {
         value,

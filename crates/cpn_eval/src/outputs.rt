@@ -2,11 +2,13 @@
 
 ghost use Rattle.std.specs.Prelude.{◌≡◌, ◌+◌, ◌≤◌, ◌^◌, [], replicate, OnOk, IfOk, option_map};
 ghost use Rattle.cpn_definitions.specs.Lists.{with_items};
-ghost use Rattle.cpn_definitions.specs.Meaning.{HasMeaning, gather, delay_of};
-ghost use Rattle.cpn_definitions.specs.Occurrence.{made_cmp, made_by, outputs_of, stamp_on, transition_delay};
+ghost use Rattle.cpn_definitions.specs.Outcome.{HasMeaning};
+ghost use Rattle.cpn_definitions.specs.Terms.{delay_of};
+ghost use Rattle.cpn_definitions.specs.Occurrence.{gather, made_cmp, made_by, outputs_of, stamp_on, transition_delay};
 ghost use Rattle.cpn_definitions.specs.Times.{last_time};
 ghost use Rattle.cpn_core.specs.Elements.{element_view};
-ghost use Rattle.cpn_core.specs.Nets.{arc_view, arcs_view, expr_view, funs_view, net_view};
+ghost use Rattle.cpn_core.specs.Inscriptions.{expr_view, funs_view};
+ghost use Rattle.cpn_core.specs.Nets.{arc_view, arcs_view, net_view};
 ghost use Rattle.cpn_core.specs.Views.{value_view};
 ghost use Rattle.cpn_core.specs.Faults.{fault_view};
 ghost use Rattle.cpn_eval.specs.Answers.{Answers};
@@ -134,7 +136,7 @@ fn add_outputs(
 fn stamp_from(net: &Net, place: u32, time: u64, delay: u64) -> u64
     requires time { time ≤ 2 ^ 63 }
     requires delay { delay ≤ last_time }
-    ensures { result ≡ stamp_on (net_view net.now) place (time + delay) }
+    ensures stamp { result ≡ stamp_on (net_view net.now) place (time + delay) }
 {
     if is_timed(net, place) {
         time + delay
@@ -145,7 +147,7 @@ fn stamp_from(net: &Net, place: u32, time: u64, delay: u64) -> u64
 
 // Adds as many tokens with the stamp as the term's count says.
 fn add_made(outputs: &mut Outputs, place: u32, term: Term, stamp: u64) -> Result<(), Memory>
-    ensures { OnOk result (outputs.new ≡ with_items made_cmp (replicate term.count (made_of place stamp (term_view term))) outputs.old) }
+    ensures added { OnOk result (outputs.new ≡ with_items made_cmp (replicate term.count (made_of place stamp (term_view term))) outputs.old) }
 {
     let Term {
         value,

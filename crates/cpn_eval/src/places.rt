@@ -8,7 +8,7 @@ use cpn_core::Net;
 
 /// Whether the place keeps time stamps; a place past the last one keeps none.
 pub fn is_timed(net: &Net, place: u32) -> bool
-    ensures { result ≡ is_timed (net_view net.now) place }
+    ensures exact { result ≡ is_timed (net_view net.now) place }
 {
     match net.places.get(place as usize) {
         None => false,

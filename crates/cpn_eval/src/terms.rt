@@ -1,9 +1,10 @@
 //! The terms of the inscription of an arc.
 
 ghost use Rattle.std.specs.Prelude.{◌≡◌, ◌≤◌, ◌^◌};
-ghost use Rattle.cpn_definitions.specs.Meaning.{HasMeaning, terms_of};
+ghost use Rattle.cpn_definitions.specs.Outcome.{HasMeaning};
+ghost use Rattle.cpn_definitions.specs.Terms.{terms_of};
 ghost use Rattle.cpn_core.specs.Colours.{colour_view};
-ghost use Rattle.cpn_core.specs.Nets.{funs_view, multiset_view};
+ghost use Rattle.cpn_core.specs.Inscriptions.{funs_view, multiset_view};
 ghost use Rattle.cpn_eval.specs.Answers.{Answers};
 ghost use Rattle.cpn_eval.specs.Terms.{items_view};
 

@@ -3,7 +3,8 @@
 ghost use Rattle.std.specs.Prelude.{◌≡◌, IfOk};
 ghost use Rattle.cpn_definitions.specs.Net.{transition_at};
 ghost use Rattle.cpn_core.specs.Colours.{colour_view};
-ghost use Rattle.cpn_core.specs.Nets.{arc_view, expr_view, net_view, transition_view};
+ghost use Rattle.cpn_core.specs.Inscriptions.{expr_view};
+ghost use Rattle.cpn_core.specs.Nets.{arc_view, net_view, transition_view};
 ghost use Rattle.cpn_eval.specs.Worked.{IsFive, IsWorked, digits, plain_arc};
 
 use super::*;
@@ -17,7 +18,7 @@ use std::test::Fail;
 
 // The integers from 0 to 9.
 fn digits(timed: bool) -> Colour
-    ensures { colour_view result ≡ digits timed }
+    ensures colour { colour_view result ≡ digits timed }
 {
     Colour {
         shape: Shape::Int { low: 0, high: 9 },
@@ -27,7 +28,7 @@ fn digits(timed: bool) -> Colour
 
 // An arc of one token.
 fn arc(alloc: Global, place: u32, timed: bool, expr: Expr) -> PlaceArc
-    ensures { arc_view result ≡ plain_arc place timed (expr_view expr) }
+    ensures arc { arc_view result ≡ plain_arc place timed (expr_view expr) }
 {
     let inscription = ArcExpr {
         colour: digits(timed),
@@ -38,7 +39,7 @@ fn arc(alloc: Global, place: u32, timed: bool, expr: Expr) -> PlaceArc
 }
 
 fn transition(alloc: Global) -> Result<Transition, Memory>
-    ensures { IfOk result (λ transition. IsWorked (transition_view transition)) }
+    ensures worked { IfOk result (λ transition. IsWorked (transition_view transition)) }
 {
     let inputs = [
         arc(alloc, 1, true, Expr::Var(0)),
@@ -73,7 +74,7 @@ fn place(alloc: Global, timed: bool) -> Place {
 
 // An untimed place and a timed one, and the transition between them.
 fn net(alloc: Global) -> Result<Net, Memory>
-    ensures { IfOk result (λ net. IsWorked (transition_at (net_view net) 0)) }
+    ensures worked { IfOk result (λ net. IsWorked (transition_at (net_view net) 0)) }
 {
     let transitions = Vec::from_array(alloc, [transition(alloc)?])?;
     let places = Vec::from_array(alloc, [place(alloc, false), place(alloc, true)])?;
@@ -91,7 +92,7 @@ fn net(alloc: Global) -> Result<Net, Memory>
 
 // The binding of the five variables to four integers and a truth value.
 fn binding(alloc: Global, values: [i64; 4], truth: bool) -> Result<Binding, Memory>
-    ensures { IfOk result (λ binding. IsFive binding) }
+    ensures five { IfOk result (λ binding. IsFive binding) }
 {
     let [a, b, c, d] = values;
     let mut binding = Binding::new(alloc);
@@ -152,7 +153,7 @@ fn push_outputs(text: &mut String, answer: Result<Outputs, Refused>) -> Result<(
 // Whether the guard is true, what is needed, and what is made at the time 10.
 #[tactic(auto, using(crate::proofs::WorkedMeanings::guard_means, crate::proofs::WorkedMeanings::needs_mean, crate::proofs::WorkedMeanings::outputs_mean))]
 fn told(alloc: Global, net: &Net, values: [i64; 4], truth: bool) -> Result<String, Fail>
-    requires { IsWorked (transition_at (net_view net.now) 0) }
+    requires worked { IsWorked (transition_at (net_view net.now) 0) }
 {
     let binding = binding(alloc, values, truth)?;
     let mut text = String::new(alloc);

@@ -2,7 +2,8 @@
 use Rattle.std.proofs.Common.{◌≡◌, ℕ, suc, ◌+◌, ◌-◌, ◌<◌, Bool, true, false, List, [], ◌∷◌, ◌++◌, refl, ap, arith, append_assoc, if◌then◌else◌}
 use Rattle.std.specs.List.{filter, list_all, range_with_len}
 use Rattle.std.proofs.lemmas.List.Folds.{list_any-append}
-use Rattle.cpn_definitions.specs.Net.{PlainArc, is_variable}
+use Rattle.cpn_definitions.specs.Net.{PlainArc}
+use Rattle.cpn_definitions.specs.Lone.{is_variable}
 use Rattle.cpn_file.specs.Reading.{read, refused, not_served}
 use Rattle.cpn_file.specs.Loading.{stands_on, bound_among}
 use Rattle.cpn_file.proofs.ReadLists.{with_front}

@@ -5,11 +5,15 @@ use Rattle.std.specs.List.{list_all, AllByRecursion}
 use Rattle.std.proofs.lemmas.Bool.{and_parts, ltb-true}
 use Rattle.cpn_definitions.specs.Value.{PlainValue}
 use Rattle.cpn_definitions.specs.Colour.{PlainColour, admits}
-use Rattle.cpn_definitions.specs.Net.{PlainExpr, literal, variable, ArcInscription, one, PlainArc, PlainTransition, PlainNet, Coloured, nothing, no_transition, place_at, variable_at, transition_at, Functions}
-use Rattle.cpn_definitions.specs.Meaning.{PlainBinding, Outcome, ◌>>=◌, HasMeaning, bound_value, terms_of, gather}
-use Rattle.cpn_definitions.specs.Occurrence.{binds, covered, made_by, outputs_of, transition_delay}
+use Rattle.cpn_definitions.specs.Inscription.{PlainExpr, literal, variable, ArcInscription, one, Functions}
+use Rattle.cpn_definitions.specs.Net.{PlainArc, PlainTransition, PlainNet, Coloured, nothing, no_transition, place_at, variable_at, transition_at}
+use Rattle.cpn_definitions.specs.Outcome.{Outcome, ◌>>=◌, HasMeaning}
+use Rattle.cpn_definitions.specs.Meaning.{PlainBinding, bound_value}
+use Rattle.cpn_definitions.specs.Terms.{terms_of}
+use Rattle.cpn_definitions.specs.Occurrence.{gather, binds, covered, made_by, outputs_of, transition_delay}
 use Rattle.cpn_definitions.specs.Sound.{Gives, IsSound, IsSoundArc, IsSoundTransition, IsUntimed, IsFaultless}
 use Rattle.cpn_definitions.specs.Times.{last_time}
+use Rattle.cpn_definitions.proofs.Terms.{one_token}
 use Rattle.cpn_file.specs.Served.{int_colour, is_int_or_variable, IsServed, IsServedTransition}
 use Rattle.cpn_file.proofs.ListFacts.{all_at, all_below}
 
@@ -72,14 +76,15 @@ module _ (n : PlainNet) (served : IsServed n) where
   module _ (xs : List ℕ) (b : PlainBinding) (time : ℕ) (binds_them : binds n xs b ≡ true) (declared : list_all (λ y. nat_lt y (length n.variables)) xs ≡ true) where
     -- a served inscription with a meaning has its one term
     expr_gives : (colour : PlainColour) (e : ArcInscription) → colour ≡ int_colour → is_int_or_variable e ≡ true → HasMeaning (terms_of n.functions e colour b time) → Gives (terms_of n.functions e colour b time)
-    expr_gives colour (one (literal v)) is int means = (record { value = v; count = 1; delay = 0 } ∷ [], rw (int_admits colour v is int) refl)
+    expr_gives colour (one (literal v)) is int means = (record { value = v; count = 1; delay = 0 } ∷ [], one_token n.functions (literal v) colour b time ∙ rw (int_admits colour v is int) refl)
     expr_gives colour (one (variable x)) is int means = by (bound_value x b) refl
       where
         by : (o : Option PlainValue) → bound_value x b ≡ o → Gives (terms_of n.functions (one (variable x)) colour b time)
-        by None p = absurd (means (rw p refl))
+        by None p = absurd (means (one_token n.functions (variable x) colour b time ∙ rw p refl))
         by (Some v) p =
             let admitted = given_admitted n xs b x v binds_them declared p in
-            (record { value = v; count = 1; delay = 0 } ∷ [], rw p (rw (int_admits colour v is (admits_int (variable_at n x).colour v (variable_int x admitted.0) admitted.1)) refl))
+            (record { value = v; count = 1; delay = 0 } ∷ [], one_token n.functions (variable x) colour b time ∙ rw p (rw (int_admits colour v is (admits_int (variable_at n x).colour v (variable_int x admitted.0) admitted.1)) refl))
+    expr_gives colour m is int means = cc
 
     module _ (t : PlainTransition) (vars_are : t.vars ≡ xs) (soon : time ≤ last_time) where
       arc_gives : (arc : PlainArc) → IsSoundArc n t arc → is_int_or_variable arc.expr ≡ true → Gives (terms_of n.functions arc.expr arc.colour b time)

@@ -7,10 +7,17 @@ use Rattle.std.proofs.lemmas.Cmp.{nat_eq_equiv}
 use Rattle.std.proofs.lemmas.List.Folds.{list_any-append}
 use Rattle.cpn_definitions.specs.Value.{PlainValue}
 use Rattle.cpn_definitions.specs.Colour.{PlainColour, admits}
-use Rattle.cpn_definitions.specs.Net.{literal, variable, ArcInscription, one, PlainArc, PlainTransition, PlainNet, place_at, variable_at, is_variable, Functions}
-use Rattle.cpn_definitions.specs.Meaning.{PlainBinding, HasMeaning, bound_value, terms_of}
+use Rattle.cpn_definitions.specs.Inscription.{literal, variable, ArcInscription, one, Functions}
+use Rattle.cpn_definitions.specs.Net.{PlainArc, PlainTransition, PlainNet, place_at, variable_at}
+use Rattle.cpn_definitions.specs.Lone.{is_variable, HasLoneVariables}
+use Rattle.cpn_definitions.proofs.Lone.{are_bindable_alone}
+use Rattle.cpn_definitions.proofs.Terms.{one_term, one_token}
+use Rattle.cpn_definitions.specs.Outcome.{Outcome, gives, given, HasMeaning}
+use Rattle.cpn_definitions.specs.Meaning.{PlainBinding, bound_value}
+use Rattle.cpn_definitions.specs.Terms.{terms_of}
 use Rattle.cpn_definitions.specs.Occurrence.{binds}
-use Rattle.cpn_definitions.specs.Sound.{binding_terms, IsSoundArc, IsSoundInput, IsSoundTransition}
+use Rattle.cpn_definitions.specs.Bindable.{binding_terms}
+use Rattle.cpn_definitions.specs.Sound.{IsSoundArc, IsSoundInput, IsSoundTransition}
 use Rattle.cpn_file.specs.Served.{int_colour, is_int_or_variable, IsServedTransition}
 use Rattle.std.specs.Prelude.{if◌then◌else◌}
 use Rattle.cpn_file.specs.Reading.{read, refused, check, not_served}
@@ -66,18 +73,22 @@ bound_among_them n (y ∷ ys) (pair ∷ pairs) x binds_them among_them =
 abbrev pub is_of : List ℕ → ArcInscription → Bool
 is_of vars (one (literal v)) = true
 is_of vars (one (variable x)) = list_any (λ y. x == y) vars
+is_of vars m = false
 
 -- the value of a token of a place, or the fault that it is none of the place, is a meaning
-colour_means : (colour : PlainColour) (v : PlainValue) → HasMeaning (terms_of [] (one (literal v)) colour [] 0)
+colour_means : (colour : PlainColour) (v : PlainValue) → HasMeaning (one_term colour (gives v))
 colour_means colour v = by (admits colour v) refl
   where
-    by : (b : Bool) → admits colour v ≡ b → HasMeaning (terms_of [] (one (literal v)) colour [] 0)
+    by : (b : Bool) → admits colour v ≡ b → HasMeaning (one_term colour (gives v))
     by true p = rw p (λ h. cc)
     by false p = rw p (λ h. cc)
 
 inscription_means : (n : PlainNet) (funs : Functions) (vars : List ℕ) (e : ArcInscription) (colour : PlainColour) (b : PlainBinding) (time : ℕ) → is_of vars e ≡ true → binds n vars b ≡ true → HasMeaning (terms_of funs e colour b time)
-inscription_means n funs vars (one (literal v)) colour b time is binds_them = colour_means colour v
-inscription_means n funs vars (one (variable x)) colour b time is binds_them = let bound = bound_among_them n vars b x binds_them is in rw bound.1 (colour_means colour bound.0)
+inscription_means n funs vars (one (literal v)) colour b time is binds_them = subst HasMeaning (sym (one_token funs (literal v) colour b time)) (colour_means colour v)
+inscription_means n funs vars (one (variable x)) colour b time is binds_them =
+    let given_value = bound_among_them n vars b x binds_them is in
+    subst HasMeaning (sym (one_token funs (variable x) colour b time)) (subst (λ (o : Outcome PlainValue). HasMeaning (one_term colour o)) (sym (ap given given_value.1)) (colour_means colour given_value.0))
+inscription_means n funs vars m colour b time is binds_them = cc
 
 -- ---- the variables of arcs stand on them
 
@@ -85,6 +96,7 @@ inscription_means n funs vars (one (variable x)) colour b time is binds_them = l
 abbrev pub is_found : List PlainArc → ArcInscription → Bool
 is_found arcs (one (literal v)) = true
 is_found arcs (one (variable x)) = stands_on arcs x
+is_found arcs m = true
 
 found_here : (front back : List PlainArc) (arc : PlainArc) → is_found (front ++ arc ∷ back) arc.expr ≡ true
 found_here front back arc = by arc.expr refl
@@ -92,6 +104,7 @@ found_here front back arc = by arc.expr refl
     by : (e : ArcInscription) → arc.expr ≡ e → is_found (front ++ arc ∷ back) e ≡ true
     by (one (literal v)) p = refl
     by (one (variable x)) p = rw (list_any-append (λ b. is_variable x b.expr) front (arc ∷ back), p, nat_eq_equiv.refl x) (or_true (stands_on front x))
+    by m p = refl
 
 pub all_found : (front back : List PlainArc) → AllByRecursion (λ arc. is_found (front ++ back) arc.expr ≡ true) back
 all_found front [] = tt
@@ -109,6 +122,7 @@ all_parts P (x ∷ xs) ys all = let rest = all_parts P xs ys all.1 in ((all.0, r
 abbrev pub IsExprOf : ℕ → ArcInscription → Type 0
 IsExprOf variables (one (literal v)) = admits int_colour v ≡ true
 IsExprOf variables (one (variable x)) = x < variables
+IsExprOf variables m = ⊥
 
 -- an arc of the net at one of so many places, of the integers, with an integer or one of so many variables
 pub record IsPlacedArc (places variables : ℕ) (arc : PlainArc) : Type 0 where
@@ -163,17 +177,20 @@ made_transition name inputs outputs vars = record { name = name; guard = []; del
 int_or_variable : (variables : ℕ) (e : ArcInscription) → IsExprOf variables e → is_int_or_variable e ≡ true
 int_or_variable variables (one (literal v)) h = h
 int_or_variable variables (one (variable x)) h = refl
+int_or_variable variables m h = absurd h
 
--- a transition is sound, and one of those that are served
+-- a transition is sound, one of those that are served, and each of its variables stands alone on an input arc
 pub record IsSoundServed (n : PlainNet) (t : PlainTransition) : Type 0 where
   pub sound : IsSoundTransition n t
   pub served : IsServedTransition t
+  pub alone : HasLoneVariables t
 
 module _ (n : PlainNet) (ints : PlacesAreInt n) where
   module _ (whole : List PlainArc) where
     found_is_of : (e : ArcInscription) → IsExprOf (length n.variables) e → is_found whole e ≡ true → is_of (filter (stands_on whole) (range_with_len 0 (length n.variables))) e ≡ true
     found_is_of (one (literal v)) h k = refl
     found_is_of (one (variable x)) h k = among (stands_on whole) x k (length n.variables) 0 (omega arith) (omega (arith, h))
+    found_is_of m h k = absurd h
 
     arc_sound : (t : PlainTransition) → t.vars ≡ filter (stands_on whole) (range_with_len 0 (length n.variables)) → (arc : PlainArc) → IsPlacedArc (length n.places) (length n.variables) arc → is_found whole arc.expr ≡ true → IsSoundArc n t arc
     arc_sound t e arc h k = record {
@@ -193,7 +210,7 @@ module _ (n : PlainNet) (ints : PlacesAreInt n) where
           sound = record {
             listed = rising (stands_on (inputs ++ outputs)) (length n.variables) 0;
             declared = below (length n.variables) 0 (length n.variables) (stands_on (inputs ++ outputs)) (omega arith);
-            bindable = bound;
+            bindable = are_bindable_alone n t bound;
             guard_means = λ b binds_them. tt;
             delay_means = λ b time binds_them soon no. cc;
             few_arcs = few;
@@ -205,6 +222,7 @@ module _ (n : PlainNet) (ints : PlacesAreInt n) where
             no_delay = refl;
             outputs_are = all_weaker (IsPlacedArc (length n.places) (length n.variables)) (λ arc. is_int_or_variable arc.expr ≡ true) (λ arc h. int_or_variable (length n.variables) arc.expr h.expr) outputs outs;
           };
+          alone = bound;
         }
 
   pub transition_sound : (name : List ℕ) (arcs : List Arc) (t : PlainTransition) → AllByRecursion (IsArcOf (length n.places) (length n.variables)) arcs → transition_with (length n.variables) name arcs ≡ read t → IsSoundServed n t

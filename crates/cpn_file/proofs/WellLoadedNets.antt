@@ -13,6 +13,7 @@ use Rattle.cpn_definitions.specs.Colour.{admits}
 use Rattle.cpn_definitions.specs.Marking.{PlainToken, AreSorted, MayPrecede, token_at}
 use Rattle.cpn_definitions.specs.Net.{PlainNet, Coloured, nothing}
 use Rattle.cpn_definitions.specs.Named.{is_named}
+use Rattle.cpn_definitions.specs.Lone.{HasLoneVariables}
 use Rattle.cpn_definitions.specs.Sound.{may_hold, IsMarking, IsSound, IsSoundTransition}
 use Rattle.cpn_definitions.specs.ValueOrder.{token_cmp_total}
 use Rattle.cpn_file.specs.Served.{int_colour, IsServed, IsServedTransition}
@@ -207,6 +208,7 @@ formed_loaded document loaded formed h =
       places = length-map initials.0 initial_tokens ∙ each_many initial_of m.places initials.0 initials.1 ∙ sym many_places;
       few = marking_few initials.0 (each_all initial_of IsSmallInitial (λ place initial p. initial_small place.initial initial p) m.places initials.0 initials.1);
       untimed = served_untimed n served;
+      alone = all_weaker (IsSoundServed n) HasLoneVariables (λ t s. s.alone) transitions.0 made;
       faultless = served_faultless n sound served;
       named = record { places_named = ints_named n n.places ints; variables_named = ints_named n n.variables (variables_int variables.0) };
     })

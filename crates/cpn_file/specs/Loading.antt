@@ -9,7 +9,9 @@ use Rattle.std.specs.Str.{bytes_eq}
 use Rattle.serde_json.specs.Data.{Data}
 use Rattle.cpn_definitions.specs.Value.{int}
 use Rattle.cpn_definitions.specs.Marking.{Tokens, Marking, token_at}
-use Rattle.cpn_definitions.specs.Net.{PlainExpr, literal, variable, one, PlainPattern, literal_pattern, variable_pattern, PlainArc, PlainTransition, Coloured, PlainNet, is_variable}
+use Rattle.cpn_definitions.specs.Inscription.{PlainExpr, literal, variable, one, PlainPattern, literal_pattern, variable_pattern}
+use Rattle.cpn_definitions.specs.Net.{PlainArc, PlainTransition, Coloured, PlainNet}
+use Rattle.cpn_definitions.specs.Lone.{is_variable}
 use Rattle.cpn_file.specs.Served.{int_colour}
 use Rattle.cpn_file.specs.Reading.{Reading, read, refused, ◌>>=◌, or_refusal, check, each, not_served}
 use Rattle.cpn_file.specs.Parts.{is_one_of}

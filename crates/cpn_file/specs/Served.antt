@@ -2,7 +2,8 @@
 use Rattle.std.specs.Prelude.{◌≡◌, ◌^◌, ℤ, pos, neg_ℤ, ◌-◌, Bool, true, false, [], None}
 use Rattle.std.specs.List.{AllByRecursion}
 use Rattle.cpn_definitions.specs.Colour.{PlainColour, int_shape, admits}
-use Rattle.cpn_definitions.specs.Net.{literal, variable, ArcInscription, one, PlainTransition, PlainNet}
+use Rattle.cpn_definitions.specs.Inscription.{literal, variable, ArcInscription, one}
+use Rattle.cpn_definitions.specs.Net.{PlainTransition, PlainNet}
 
 -- the least and the greatest integer of 64 bits
 abbrev pub least_int : ℤ
@@ -19,6 +20,7 @@ int_colour = record { shape = int_shape least_int greatest_int; timed = false }
 abbrev pub is_int_or_variable : ArcInscription → Bool
 is_int_or_variable (one (literal v)) = admits int_colour v
 is_int_or_variable (one (variable x)) = true
+is_int_or_variable m = false
 
 -- A transition that is served today: no guard, no delay, and on each output arc an integer or a variable.
 pub record IsServedTransition (t : PlainTransition) : Type 0 where

@@ -37,7 +37,7 @@ pub struct Arc {
 
 #[tactic(auto, unfolding(crate::specs::Loading::inscription_in))]
 fn inscription_of(variables: &Names, text: &str) -> Result<Inscription, Refused>
-    ensures { Finds (λ inscription. inscription) result (inscription_in variables.now text.now) }
+    ensures reads { Finds (λ inscription. inscription) result (inscription_in variables.now text.now) }
 {
     match number_of(text) {
         Some(number) => Ok(Inscription::Number(number as i64)),
@@ -50,7 +50,7 @@ fn inscription_of(variables: &Names, text: &str) -> Result<Inscription, Refused>
 
 #[tactic(auto, unfolding(crate::specs::Loading::arc_of))]
 fn arc_of(variables: &Names, arc: &Joined) -> Result<Arc, Refused>
-    ensures { Finds (λ arc. arc) result (arc_in variables.now (joined_view arc.now)) }
+    ensures reads { Finds (λ arc. arc) result (arc_in variables.now (joined_view arc.now)) }
 {
     let inscription = inscription_of(variables, arc.expr)?;
     Ok(Arc {
@@ -67,7 +67,7 @@ pub(crate) fn arcs_of(
     variables: &Names,
     joined: &[Joined],
 ) -> Result<Vec<Arc>, DocError>
-    ensures { Gives (λ arcs. arcs.items) result (each (arc_in variables.now) (map joined_view joined.now)) }
+    ensures reads { Gives (λ arcs. arcs.items) result (each (arc_in variables.now) (map joined_view joined.now)) }
 {
     let mut arcs = Vec::with_capacity(alloc, joined.len())?;
     for arc in joined {

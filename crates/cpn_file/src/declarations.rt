@@ -14,7 +14,7 @@ use std::alloc::Global;
 const MOST_VARIABLES: usize = 32;
 
 fn declared<'v>(alloc: Global, texts: &[&'v str]) -> Result<Names<'v>, DocError>
-    ensures { Gives (λ names. names) result (variables_behind [] (bytes_of texts.now)) }
+    ensures reads { Gives (λ names. names) result (variables_behind [] (bytes_of texts.now)) }
 {
     let mut names = Names::new(alloc);
     for text in texts {
@@ -36,7 +36,7 @@ fn declared<'v>(alloc: Global, texts: &[&'v str]) -> Result<Names<'v>, DocError>
 /// The names of the declared variables, in order.
 #[tactic(auto, unfolding(crate::specs::Loading::variables_in))]
 pub(crate) fn variables_of<'v>(alloc: Global, texts: &[&'v str]) -> Result<Names<'v>, DocError>
-    ensures { Gives (λ names. names) result (variables_in (bytes_of texts.now)) }
+    ensures reads { Gives (λ names. names) result (variables_in (bytes_of texts.now)) }
 {
     if texts.is_empty() || texts[0] != "colset INT = int;" {
         return Err(DocError::from(NOT_SERVED));

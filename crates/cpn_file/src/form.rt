@@ -25,7 +25,7 @@ const VERSION: u64 = 1;
 /// The name at a key.
 #[tactic(auto, unfolding(crate::specs::Texts::name_in))]
 fn name_at_key<'v>(value: &'v Value, key: &str) -> Result<&'v str, Refused>
-    ensures { Finds (λ name. name.now) result (name_at key.now (view value.now)) }
+    ensures reads { Finds (λ name. name.now) result (name_at key.now (view value.now)) }
 {
     let text = text_at_key(value, key)?;
     if is_name(text) {
@@ -37,7 +37,7 @@ fn name_at_key<'v>(value: &'v Value, key: &str) -> Result<&'v str, Refused>
 
 #[tactic(auto, unfolding(crate::specs::Document::place_in))]
 fn place_of(value: &Value) -> Result<PlaceTexts<'_>, Refused>
-    ensures { Finds place_view result (place_in (view value.now)) }
+    ensures reads { Finds place_view result (place_in (view value.now)) }
 {
     check_keys(value, &["name", "colour", "initial"])?;
     let name = name_at_key(value, "name")?;
@@ -52,7 +52,7 @@ fn place_of(value: &Value) -> Result<PlaceTexts<'_>, Refused>
 
 /// The places of a list, in order.
 fn places_of(alloc: Global, list: &[Value]) -> Result<Vec<PlaceTexts<'_>>, DocError>
-    ensures { Gives (λ places. places_view places.items) result (each place_in (map view list.now)) }
+    ensures reads { Gives (λ places. places_view places.items) result (each place_in (map view list.now)) }
 {
     let mut places = Vec::new(alloc);
     for value in list {
@@ -63,7 +63,7 @@ fn places_of(alloc: Global, list: &[Value]) -> Result<Vec<PlaceTexts<'_>>, DocEr
 
 #[tactic(auto, unfolding(crate::specs::Document::transition_in))]
 fn transition_of(value: &Value) -> Result<TransitionTexts<'_>, Refused>
-    ensures { Finds written_view result (transition_in (view value.now)) }
+    ensures reads { Finds written_view result (transition_in (view value.now)) }
 {
     check_keys(value, &["name"])?;
     let name = name_at_key(value, "name")?;
@@ -71,8 +71,8 @@ fn transition_of(value: &Value) -> Result<TransitionTexts<'_>, Refused>
 }
 
 /// The transitions of a list, in order.
-fn transitions_of(alloc: Global, list: &[Value]) -> Result<Vec<TransitionTexts<'_>>, DocError>
-    ensures { Gives (λ transitions. written_views transitions.items) result (each transition_in (map view list.now)) }
+fn transition_texts_of(alloc: Global, list: &[Value]) -> Result<Vec<TransitionTexts<'_>>, DocError>
+    ensures reads { Gives (λ transitions. written_views transitions.items) result (each transition_in (map view list.now)) }
 {
     let mut transitions = Vec::new(alloc);
     for value in list {
@@ -83,7 +83,7 @@ fn transitions_of(alloc: Global, list: &[Value]) -> Result<Vec<TransitionTexts<'
 
 #[tactic(auto, unfolding(crate::specs::Document::way_in))]
 fn way_of(text: &str) -> Result<Way, Refused>
-    ensures { Finds (λ way. way) result (way_in text.now) }
+    ensures reads { Finds (λ way. way) result (way_in text.now) }
 {
     if text == "transition" {
         Ok(Way::ToTransition)
@@ -98,7 +98,7 @@ fn way_of(text: &str) -> Result<Way, Refused>
 
 #[tactic(auto, unfolding(crate::specs::Document::arc_in))]
 fn arc_of(value: &Value) -> Result<ArcTexts<'_>, Refused>
-    ensures { Finds arc_texts_view result (arc_in (view value.now)) }
+    ensures reads { Finds arc_texts_view result (arc_in (view value.now)) }
 {
     check_keys(value, &["place", "transition", "to", "expr"])?;
     let place = name_at_key(value, "place")?;
@@ -114,8 +114,8 @@ fn arc_of(value: &Value) -> Result<ArcTexts<'_>, Refused>
 }
 
 /// The arcs of a list, in order.
-fn arcs_of(alloc: Global, list: &[Value]) -> Result<Vec<ArcTexts<'_>>, DocError>
-    ensures { Gives (λ arcs. map arc_texts_view arcs.items) result (each arc_in (map view list.now)) }
+fn arc_texts_of(alloc: Global, list: &[Value]) -> Result<Vec<ArcTexts<'_>>, DocError>
+    ensures reads { Gives (λ arcs. map arc_texts_view arcs.items) result (each arc_in (map view list.now)) }
 {
     let mut arcs = Vec::new(alloc);
     for value in list {
@@ -129,7 +129,7 @@ pub(crate) fn place_names<'v>(
     alloc: Global,
     places: &[PlaceTexts<'v>],
 ) -> Result<Vec<&'v str>, AllocError>
-    ensures { IfOk result (λ names. bytes_of names.items ≡ names_of_places (places_view places.now)) }
+    ensures names { IfOk result (λ names. bytes_of names.items ≡ names_of_places (places_view places.now)) }
 {
     let mut names = Vec::with_capacity(alloc, places.len())?;
     for place in places {
@@ -143,7 +143,7 @@ pub(crate) fn transition_names<'v>(
     alloc: Global,
     transitions: &[TransitionTexts<'v>],
 ) -> Result<Vec<&'v str>, AllocError>
-    ensures { IfOk result (λ names. bytes_of names.items ≡ names_of_transitions (written_views transitions.now)) }
+    ensures names { IfOk result (λ names. bytes_of names.items ≡ names_of_transitions (written_views transitions.now)) }
 {
     let mut names = Vec::with_capacity(alloc, transitions.len())?;
     for transition in transitions {
@@ -154,7 +154,7 @@ pub(crate) fn transition_names<'v>(
 
 #[tactic(auto, unfolding(crate::specs::Document::module_in))]
 fn module_of(alloc: Global, value: &Value) -> Result<Module<'_>, DocError>
-    ensures { Gives module_view result (module_in (view value.now)) }
+    ensures reads { Gives module_view result (module_in (view value.now)) }
 {
     check_keys(value, &["name", "places", "transitions", "arcs"])?;
     let name = name_at_key(value, "name")?;
@@ -163,12 +163,12 @@ fn module_of(alloc: Global, value: &Value) -> Result<Module<'_>, DocError>
     if !are_apart(alloc, names.as_slice())? {
         return Err(DocError::from(NOT_SERVED));
     }
-    let transitions = transitions_of(alloc, list_at_key(value, "transitions")?)?;
+    let transitions = transition_texts_of(alloc, list_at_key(value, "transitions")?)?;
     let names = transition_names(alloc, transitions.as_slice())?;
     if !are_apart(alloc, names.as_slice())? {
         return Err(DocError::from(NOT_SERVED));
     }
-    let arcs = arcs_of(alloc, list_at_key(value, "arcs")?)?;
+    let arcs = arc_texts_of(alloc, list_at_key(value, "arcs")?)?;
     Ok(Module {
         name,
         places,
@@ -178,7 +178,7 @@ fn module_of(alloc: Global, value: &Value) -> Result<Module<'_>, DocError>
 }
 
 fn texts_of(alloc: Global, list: &[Value]) -> Result<Vec<&str>, DocError>
-    ensures { Gives (λ texts. bytes_of texts.items) result (each text_in (map view list.now)) }
+    ensures reads { Gives (λ texts. bytes_of texts.items) result (each text_in (map view list.now)) }
 {
     let mut texts = Vec::new(alloc);
     for value in list {
@@ -190,7 +190,7 @@ fn texts_of(alloc: Global, list: &[Value]) -> Result<Vec<&str>, DocError>
 /// The document that a JSON value is, as it is written.
 #[tactic(auto, unfolding(crate::specs::Document::document_in))]
 pub(crate) fn document_of(alloc: Global, value: &Value) -> Result<Document<'_>, DocError>
-    ensures { Gives document_view result (document_in (view value.now)) }
+    ensures reads { Gives document_view result (document_in (view value.now)) }
 {
     check_keys(value, &["version", "declarations", "top", "modules"])?;
     if number_at_key(value, "version")? != VERSION {

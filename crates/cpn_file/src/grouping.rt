@@ -7,7 +7,7 @@ use crate::arcs::Arc;
 use std::alloc::{AllocError, Global};
 
 fn empty_groups(alloc: Global, count: usize) -> Result<Vec<Vec<Arc>>, AllocError>
-    ensures { IfOk result (λ groups. HoldsArcs groups.items count []) }
+    ensures groups { IfOk result (λ groups. HoldsArcs groups.items count []) }
 {
     let mut groups = Vec::with_capacity(alloc, count)?;
     for _group in 0..count {
@@ -22,7 +22,7 @@ pub(crate) fn grouped(
     arcs: &[Arc],
     count: usize,
 ) -> Result<Vec<Vec<Arc>>, AllocError>
-    ensures { IfOk result (λ groups. HoldsArcs groups.items count arcs.now) }
+    ensures groups { IfOk result (λ groups. HoldsArcs groups.items count arcs.now) }
 {
     let mut groups = empty_groups(alloc, count)?;
     for arc in arcs {

@@ -22,7 +22,7 @@ pub struct Initial {
 
 /// The initial marking of a place, or none where none is written.
 fn initial_of(place: &PlaceTexts) -> Result<Option<Initial>, Refused>
-    ensures { Finds (λ initial. initial) result (initial_in (place_view place.now)) }
+    ensures reads { Finds (λ initial. initial) result (initial_in (place_view place.now)) }
 {
     match place.initial {
         Some(text) => match written_of(text) {
@@ -38,7 +38,7 @@ pub(crate) fn initials_of(
     alloc: Global,
     places: &[PlaceTexts],
 ) -> Result<Vec<Option<Initial>>, DocError>
-    ensures { Gives (λ initials. initials.items) result (each initial_in (places_view places.now)) }
+    ensures reads { Gives (λ initials. initials.items) result (each initial_in (places_view places.now)) }
 {
     let mut initials = Vec::with_capacity(alloc, places.len())?;
     for place in places {

@@ -32,7 +32,7 @@ fn joined_of<'v>(
     transitions: &Names,
     arc: &ArcTexts<'v>,
 ) -> Result<Joined<'v>, Refused>
-    ensures { Finds joined_view result (joined_in places.now transitions.now (arc_texts_view arc.now)) }
+    ensures reads { Finds joined_view result (joined_in places.now transitions.now (arc_texts_view arc.now)) }
 {
     match (
         places.number_of(arc.place),
@@ -54,7 +54,7 @@ fn joined_of_each<'v>(
     transitions: &Names,
     arcs: &[ArcTexts<'v>],
 ) -> Result<Vec<Joined<'v>>, DocError>
-    ensures { Gives (λ joined. map joined_view joined.items) result (each (joined_in places.now transitions.now) (map arc_texts_view arcs.now)) }
+    ensures reads { Gives (λ joined. map joined_view joined.items) result (each (joined_in places.now transitions.now) (map arc_texts_view arcs.now)) }
 {
     let mut joined = Vec::new(alloc);
     for arc in arcs {
@@ -66,7 +66,7 @@ fn joined_of_each<'v>(
 /// The arcs of a module, each among its places and its transitions.
 pub(crate) fn joined_arcs<'v>(alloc: Global, top: &Module<'v>) -> Result<Vec<Joined<'v>>, DocError>
     requires formed { IsFormed (module_view top.now) }
-    ensures { Gives (λ joined. map joined_view joined.items) result (arcs_joined (module_view top.now)) }
+    ensures reads { Gives (λ joined. map joined_view joined.items) result (arcs_joined (module_view top.now)) }
 {
     let names = place_names(alloc, top.places.as_slice())?;
     let places = Names::of(alloc, names.as_slice())?;

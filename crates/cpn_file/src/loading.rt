@@ -36,7 +36,7 @@ pub struct Loaded {
 
 /// That the colour set of each place is INT.
 fn check_colours(places: &[PlaceTexts]) -> Result<(), Refused>
-    ensures { Finds (λ _. true) result (check (list_all has_int (places_view places.now)) not_served) }
+    ensures reads { Finds (λ _. true) result (check (list_all has_int (places_view places.now)) not_served) }
 {
     for place in places {
         if place.colour != "INT" {
@@ -47,7 +47,7 @@ fn check_colours(places: &[PlaceTexts]) -> Result<(), Refused>
 }
 
 fn net_places(alloc: Global, top: &str, places: &[PlaceTexts]) -> Result<Vec<Place>, AllocError>
-    ensures { IfOk result (λ made. map net_place made.items ≡ map (place_of top.now) (places_view places.now)) }
+    ensures made { IfOk result (λ made. map net_place made.items ≡ map (place_of top.now) (places_view places.now)) }
 {
     let mut made = Vec::with_capacity(alloc, places.len())?;
     for place in places {
@@ -61,7 +61,7 @@ fn net_places(alloc: Global, top: &str, places: &[PlaceTexts]) -> Result<Vec<Pla
 }
 
 fn net_variables(alloc: Global, names: &Names) -> Result<Vec<Variable>, AllocError>
-    ensures { IfOk result (λ made. map variable_view made.items ≡ map variable_of names.now) }
+    ensures made { IfOk result (λ made. map variable_view made.items ≡ map variable_of names.now) }
 {
     let mut made = Vec::with_capacity(alloc, names.len())?;
     for number in 0..names.len() {
@@ -81,7 +81,7 @@ fn net_of(
     transitions: Vec<Transition>,
     names: &Names,
 ) -> Result<Net, AllocError>
-    ensures { IfOk result (λ net. net_view net ≡ net_with (module_view top.now) (map transition_view transitions.items) names.now) }
+    ensures made { IfOk result (λ net. net_view net ≡ net_with (module_view top.now) (map transition_view transitions.items) names.now) }
 {
     let places = net_places(alloc, top.name, top.places.as_slice())?;
     let variables = net_variables(alloc, names)?;
@@ -103,7 +103,7 @@ fn net_of(
 #[tactic(auto, unfolding(crate::specs::Loading::loaded_from))]
 pub(crate) fn loaded_of(alloc: Global, document: &Document) -> Result<Loaded, DocError>
     requires formed { IsFormed (document_view document.now).the_module }
-    ensures { Gives loaded_view result (loaded_from (document_view document.now)) }
+    ensures reads { Gives loaded_view result (loaded_from (document_view document.now)) }
 {
     let top = &document.module;
     let names = variables_of(alloc, document.declarations.as_slice())?;

@@ -11,7 +11,7 @@ use std::alloc::Global;
 
 /// The value of each token of an initial marking.
 fn value_of(written: Initial) -> Value
-    ensures { value_view result ≡ int written.value }
+    ensures made { value_view result ≡ int written.value }
 {
     Value::Int(written.value)
 }
@@ -20,7 +20,7 @@ fn value_of(written: Initial) -> Value
 fn add_tokens(marking: &mut PlainMarking, place: u32, written: Initial) -> Result<(), Memory>
     requires in_range { place < length marking.old }
     requires empty { slice_index_or marking.old place [] ≡ [] }
-    ensures { OnOk result (marking.new ≡ slice_set marking.old place (initial_tokens (Some written))) }
+    ensures put { OnOk result (marking.new ≡ slice_set marking.old place (initial_tokens (Some written))) }
 {
     for _token in 0..written.count {
         marking.add(place, value_of(written), 0)?;
@@ -31,7 +31,7 @@ fn add_tokens(marking: &mut PlainMarking, place: u32, written: Initial) -> Resul
 /// The marking of places that have these initial markings.
 pub(crate) fn marked(alloc: Global, initials: &[Option<Initial>]) -> Result<PlainMarking, Memory>
     requires few { length initials.now < 2 ^ 32 }
-    ensures { IfOk result (λ marking. marking ≡ map initial_tokens initials.now) }
+    ensures made { IfOk result (λ marking. marking ≡ map initial_tokens initials.now) }
 {
     let mut marking = PlainMarking::new(alloc, initials.len())?;
     for (number, initial) in initials.iter().enumerate() {

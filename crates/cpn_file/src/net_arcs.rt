@@ -3,7 +3,8 @@
 ghost use Rattle.std.specs.Prelude.{◌≡◌, IfOk};
 ghost use Rattle.cpn_file.specs.Served.{int_colour as integers};
 ghost use Rattle.cpn_core.specs.Colours.{colour_view};
-ghost use Rattle.cpn_core.specs.Nets.{expr_view, pattern_view, arc_view, arcs_view};
+ghost use Rattle.cpn_core.specs.Inscriptions.{expr_view, pattern_view};
+ghost use Rattle.cpn_core.specs.Nets.{arc_view, arcs_view};
 ghost use Rattle.cpn_file.specs.Loading.{is_input as leads_to_transition, is_output as leads_to_place, inscription_expr, inscription_pattern, input_of as input_in, output_of as output_in, inputs_among as inputs_in, outputs_among as outputs_in};
 
 use crate::arcs::{Arc, Inscription};
@@ -13,7 +14,7 @@ use std::alloc::{AllocError, Global};
 
 /// The colour set of all integers, untimed.
 pub(crate) fn int_colour() -> Colour
-    ensures { colour_view result ≡ integers }
+    ensures made { colour_view result ≡ integers }
 {
     Colour {
         shape: Shape::Int {
@@ -25,7 +26,7 @@ pub(crate) fn int_colour() -> Colour
 }
 
 fn expr_of(inscription: Inscription) -> Expr
-    ensures { expr_view result ≡ inscription_expr inscription }
+    ensures made { expr_view result ≡ inscription_expr inscription }
 {
     match inscription {
         Inscription::Number(number) => Expr::Lit(Value::Int(number)),
@@ -34,7 +35,7 @@ fn expr_of(inscription: Inscription) -> Expr
 }
 
 fn pattern_of(inscription: Inscription) -> Pat
-    ensures { pattern_view result ≡ inscription_pattern inscription }
+    ensures made { pattern_view result ≡ inscription_pattern inscription }
 {
     match inscription {
         Inscription::Number(number) => Pat::Lit(Value::Int(number)),
@@ -43,7 +44,7 @@ fn pattern_of(inscription: Inscription) -> Pat
 }
 
 fn input_of(alloc: Global, arc: Arc) -> Result<PlaceArc, AllocError>
-    ensures { IfOk result (λ input. arc_view input ≡ input_in arc) }
+    ensures made { IfOk result (λ input. arc_view input ≡ input_in arc) }
 {
     let mut terms = Vec::with_capacity(alloc, 1)?;
     terms.push(BindingTerm {
@@ -62,7 +63,7 @@ fn input_of(alloc: Global, arc: Arc) -> Result<PlaceArc, AllocError>
 }
 
 fn output_of(alloc: Global, arc: Arc) -> PlaceArc
-    ensures { arc_view result ≡ output_in arc }
+    ensures made { arc_view result ≡ output_in arc }
 {
     let inscription = ArcExpr {
         colour: int_colour(),
@@ -77,7 +78,7 @@ fn output_of(alloc: Global, arc: Arc) -> PlaceArc
 
 /// The input arcs among arcs, in order.
 pub(crate) fn inputs_among(alloc: Global, arcs: &[Arc]) -> Result<Vec<PlaceArc>, AllocError>
-    ensures { IfOk result (λ inputs. arcs_view inputs.items ≡ inputs_in arcs.now) }
+    ensures made { IfOk result (λ inputs. arcs_view inputs.items ≡ inputs_in arcs.now) }
 {
     let mut inputs = Vec::new(alloc);
     for arc in arcs {
@@ -90,7 +91,7 @@ pub(crate) fn inputs_among(alloc: Global, arcs: &[Arc]) -> Result<Vec<PlaceArc>,
 
 /// The output arcs among arcs, in order.
 pub(crate) fn outputs_among(alloc: Global, arcs: &[Arc]) -> Result<Vec<PlaceArc>, AllocError>
-    ensures { IfOk result (λ outputs. arcs_view outputs.items ≡ outputs_in arcs.now) }
+    ensures made { IfOk result (λ outputs. arcs_view outputs.items ≡ outputs_in arcs.now) }
 {
     let mut outputs = Vec::new(alloc);
     for arc in arcs {
@@ -102,7 +103,7 @@ pub(crate) fn outputs_among(alloc: Global, arcs: &[Arc]) -> Result<Vec<PlaceArc>
 }
 
 fn is_input(way: Way) -> bool
-    ensures { result ≡ leads_to_transition way }
+    ensures exact { result ≡ leads_to_transition way }
 {
     match way {
         Way::ToTransition => true,
@@ -112,7 +113,7 @@ fn is_input(way: Way) -> bool
 }
 
 fn is_output(way: Way) -> bool
-    ensures { result ≡ leads_to_place way }
+    ensures exact { result ≡ leads_to_place way }
 {
     match way {
         Way::ToTransition => false,

@@ -11,14 +11,14 @@ use serde_json::{Map, Value};
 
 /// Whether a text is one of the texts.
 pub(crate) fn is_one_of(text: &str, texts: &[&str]) -> bool
-    ensures { result ≡ is_among text.now (bytes_of texts.now) }
+    ensures exact { result ≡ is_among text.now (bytes_of texts.now) }
 {
     texts.contains(&text)
 }
 
 #[tactic(auto, using(crate::proofs::SeenValues::keys_seen))]
 fn are_among(object: &Map<String, Value>, keys: &[&str]) -> bool
-    ensures { result ≡ are_keys_among (bytes_of keys.now) (members_view object.now.entries) }
+    ensures exact { result ≡ are_keys_among (bytes_of keys.now) (members_view object.now.entries) }
 {
     for key in object.keys() {
         if !is_one_of(key.as_str(), keys) {
@@ -30,7 +30,7 @@ fn are_among(object: &Map<String, Value>, keys: &[&str]) -> bool
 
 /// That the value is an object with no other key than these.
 pub(crate) fn check_keys(value: &Value, keys: &[&str]) -> Result<(), Refused>
-    ensures { Finds (λ _. true) result (only_keys (bytes_of keys.now) (view value.now)) }
+    ensures reads { Finds (λ _. true) result (only_keys (bytes_of keys.now) (view value.now)) }
 {
     match value.as_object() {
         Some(object) => {
@@ -46,7 +46,7 @@ pub(crate) fn check_keys(value: &Value, keys: &[&str]) -> Result<(), Refused>
 
 /// The text that the value is.
 pub(crate) fn text_of(value: &Value) -> Result<&str, Refused>
-    ensures { Finds (λ text. text.now) result (text_in (view value.now)) }
+    ensures reads { Finds (λ text. text.now) result (text_in (view value.now)) }
 {
     match value.as_str() {
         Some(text) => Ok(text),
@@ -56,7 +56,7 @@ pub(crate) fn text_of(value: &Value) -> Result<&str, Refused>
 
 /// The text at a key.
 pub(crate) fn text_at_key<'v>(value: &'v Value, key: &str) -> Result<&'v str, Refused>
-    ensures { Finds (λ text. text.now) result (text_at key.now (view value.now)) }
+    ensures reads { Finds (λ text. text.now) result (text_at key.now (view value.now)) }
 {
     match value.get(key).and_then(Value::as_str) {
         Some(text) => Ok(text),
@@ -69,7 +69,7 @@ pub(crate) fn text_at_key_or_none<'v>(
     value: &'v Value,
     key: &str,
 ) -> Result<Option<&'v str>, Refused>
-    ensures { Finds (λ text. option_map (λ t. t.now) text) result (optional_text_at key.now (view value.now)) }
+    ensures reads { Finds (λ text. option_map (λ t. t.now) text) result (optional_text_at key.now (view value.now)) }
 {
     match value.get(key) {
         Some(found) => {
@@ -83,7 +83,7 @@ pub(crate) fn text_at_key_or_none<'v>(
 /// The items of the list at a key.
 #[tactic(auto, using(crate::proofs::SeenValues::items_of_view))]
 pub(crate) fn list_at_key<'v>(value: &'v Value, key: &str) -> Result<&'v [Value], Refused>
-    ensures { Finds (λ list. map view list.now) result (list_at key.now (view value.now)) }
+    ensures reads { Finds (λ list. map view list.now) result (list_at key.now (view value.now)) }
 {
     match value.get(key).and_then(Value::as_array) {
         Some(list) => Ok(list.as_slice()),
@@ -93,7 +93,7 @@ pub(crate) fn list_at_key<'v>(value: &'v Value, key: &str) -> Result<&'v [Value]
 
 /// The whole number, from 0 to 2^64 - 1, at a key.
 pub(crate) fn number_at_key(value: &Value, key: &str) -> Result<u64, Refused>
-    ensures { Finds (λ n. n) result (number_at key.now (view value.now)) }
+    ensures reads { Finds (λ n. n) result (number_at key.now (view value.now)) }
 {
     match value.get(key).and_then(Value::as_u64) {
         Some(number) => Ok(number),
@@ -103,7 +103,7 @@ pub(crate) fn number_at_key(value: &Value, key: &str) -> Result<u64, Refused>
 
 /// The one item of a list.
 pub(crate) fn only(list: &[Value]) -> Result<&Value, Refused>
-    ensures { Finds (λ item. view item.now) result (only_item (map view list.now)) }
+    ensures reads { Finds (λ item. view item.now) result (only_item (map view list.now)) }
 {
     if list.len() == 1 {
         Ok(&list[0])

@@ -18,7 +18,7 @@ use std::alloc::Global;
 /// The form of the document first, whole, and then its texts.
 #[tactic(auto, unfolding(crate::specs::Loading::loaded_in))]
 fn loaded_from_value(alloc: Global, value: &Value) -> Result<Loaded, DocError>
-    ensures { Gives loaded_view result (loaded_in (view value.now)) }
+    ensures reads { Gives loaded_view result (loaded_in (view value.now)) }
 {
     let document = document_of(alloc, value)?;
     loaded_of(alloc, &document)

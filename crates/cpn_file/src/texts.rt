@@ -8,31 +8,31 @@ ghost use Rattle.cpn_file.specs.Texts.{is_digit as digit, is_letter as letter, i
 use crate::initials::Initial;
 
 fn is_digit(byte: u8) -> bool
-    ensures { result ≡ digit byte }
+    ensures exact { result ≡ digit byte }
 {
     byte >= b'0' && byte <= b'9'
 }
 
 fn is_letter(byte: u8) -> bool
-    ensures { result ≡ letter byte }
+    ensures exact { result ≡ letter byte }
 {
     (byte >= b'A' && byte <= b'Z') || (byte >= b'a' && byte <= b'z')
 }
 
 fn is_word_byte(byte: u8) -> bool
-    ensures { result ≡ word_byte byte }
+    ensures exact { result ≡ word_byte byte }
 {
     is_letter(byte) || is_digit(byte) || byte == b'_'
 }
 
 fn is_name_byte(byte: u8) -> bool
-    ensures { result ≡ name_byte byte }
+    ensures exact { result ≡ name_byte byte }
 {
     is_letter(byte) || is_digit(byte) || byte == b'_' || byte == b'-' || byte == b' '
 }
 
 fn are_digits(bytes: &[u8]) -> bool
-    ensures { result ≡ list_all digit bytes.now }
+    ensures exact { result ≡ list_all digit bytes.now }
 {
     for byte in bytes {
         if !is_digit(*byte) {
@@ -43,7 +43,7 @@ fn are_digits(bytes: &[u8]) -> bool
 }
 
 fn are_word_bytes(bytes: &[u8]) -> bool
-    ensures { result ≡ list_all word_byte bytes.now }
+    ensures exact { result ≡ list_all word_byte bytes.now }
 {
     for byte in bytes {
         if !is_word_byte(*byte) {
@@ -54,7 +54,7 @@ fn are_word_bytes(bytes: &[u8]) -> bool
 }
 
 fn are_name_bytes(bytes: &[u8]) -> bool
-    ensures { result ≡ list_all name_byte bytes.now }
+    ensures exact { result ≡ list_all name_byte bytes.now }
 {
     for byte in bytes {
         if !is_name_byte(*byte) {
@@ -67,7 +67,7 @@ fn are_name_bytes(bytes: &[u8]) -> bool
 /// Whether a text is a name of a module, a place or a transition.
 #[tactic(auto, unfolding(crate::specs::Texts::is_name))]
 pub(crate) fn is_name(text: &str) -> bool
-    ensures { result ≡ names text.now }
+    ensures exact { result ≡ names text.now }
 {
     let bytes = text.as_bytes();
     if bytes.is_empty() {
@@ -114,14 +114,14 @@ const RESERVED: [&str; 40] = [
 /// Whether a text is a reserved word or a function declared in advance.
 #[tactic(auto, unfolding(crate::specs::Texts::is_reserved))]
 fn is_reserved(text: &str) -> bool
-    ensures { result ≡ reserves text.now }
+    ensures exact { result ≡ reserves text.now }
 {
     RESERVED.contains(&text)
 }
 
 #[tactic(auto, unfolding(crate::specs::Texts::is_variable_name))]
 fn is_variable_name(text: &str) -> bool
-    ensures { result ≡ names_variable text.now }
+    ensures exact { result ≡ names_variable text.now }
 {
     let bytes = text.as_bytes();
     if bytes.is_empty() {
@@ -131,13 +131,13 @@ fn is_variable_name(text: &str) -> bool
 }
 
 fn after<'t>(front: &str, text: &'t str) -> Option<&'t str>
-    ensures { option_map (λ rest. rest.now) result ≡ after_front front.now text.now }
+    ensures exact { option_map (λ rest. rest.now) result ≡ after_front front.now text.now }
 {
     text.strip_prefix(front)
 }
 
 fn before<'t>(end: &str, text: &'t str) -> Option<&'t str>
-    ensures { option_map (λ rest. rest.now) result ≡ before_end end.now text.now }
+    ensures exact { option_map (λ rest. rest.now) result ≡ before_end end.now text.now }
 {
     text.strip_suffix(end)
 }
@@ -145,7 +145,7 @@ fn before<'t>(end: &str, text: &'t str) -> Option<&'t str>
 /// The name of the variable that a declaration declares.
 #[tactic(auto, unfolding(crate::specs::Texts::variable_in))]
 pub(crate) fn variable_of(text: &str) -> Option<&str>
-    ensures { option_map (λ name. name.now) result ≡ variable_in text.now }
+    ensures exact { option_map (λ name. name.now) result ≡ variable_in text.now }
 {
     let rest = after("var ", text)?;
     let name = before(" : INT;", rest)?;
@@ -158,7 +158,7 @@ pub(crate) fn variable_of(text: &str) -> Option<&str>
 
 #[tactic(auto, unfolding(crate::specs::Texts::count_in))]
 fn count_of(text: &str) -> Option<u64>
-    ensures { result ≡ count_in text.now }
+    ensures exact { result ≡ count_in text.now }
 {
     let count = number_of(text)?;
     if text.as_bytes()[0] == b'0' || count > MOST_TOKENS {
@@ -170,7 +170,7 @@ fn count_of(text: &str) -> Option<u64>
 
 /// What stands before the first backtick of a text, and what stands after it.
 fn parts_of(text: &str) -> Option<(&str, &str)>
-    ensures { MatchOption result (after_first is_backtick text.now ≡ []) (λ parts. (parts.0.now ≡ before_first is_backtick text.now) × (parts.1.now ≡ after_first is_backtick text.now)) }
+    ensures exact { MatchOption result (after_first is_backtick text.now ≡ []) (λ parts. (parts.0.now ≡ before_first is_backtick text.now) × (parts.1.now ≡ after_first is_backtick text.now)) }
 {
     text.split_once('`')
 }
@@ -178,7 +178,7 @@ fn parts_of(text: &str) -> Option<(&str, &str)>
 /// The initial marking that a text is.
 #[tactic(auto, unfolding(crate::specs::Texts::initial_in))]
 pub(crate) fn written_of(text: &str) -> Option<Initial>
-    ensures { result ≡ initial_in text.now }
+    ensures exact { result ≡ initial_in text.now }
 {
     match parts_of(text) {
         Some((front, back)) => {

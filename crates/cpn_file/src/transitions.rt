@@ -1,8 +1,9 @@
 //! The transitions of the net, with their variables.
 
 ghost use Rattle.std.specs.Prelude.{◌≡◌, List, length, map, string_bytes, IfOk};
-ghost use Rattle.cpn_core.specs.Nets.{multiset_view, arcs_view, transition_view};
-ghost use Rattle.cpn_definitions.specs.Net.{is_variable};
+ghost use Rattle.cpn_core.specs.Inscriptions.{multiset_view};
+ghost use Rattle.cpn_core.specs.Nets.{arcs_view, transition_view};
+ghost use Rattle.cpn_definitions.specs.Lone.{is_variable};
 ghost use Rattle.cpn_file.specs.Loading.{flattened as flattened_name, stands_on as is_on, variables_on as variables_in, transition_with as transition_in, transitions_from};
 ghost use Rattle.cpn_file.specs.Document.{transition_names};
 ghost use Rattle.cpn_file.specs.Views.{written_views};
@@ -23,7 +24,7 @@ const MOST_ARCS: usize = 64;
 
 /// The name of a place or a transition in the net: the module's name, `/`, its name.
 pub(crate) fn flattened(alloc: Global, top: &str, name: &str) -> Result<String, AllocError>
-    ensures { IfOk result (λ text. string_bytes text ≡ flattened_name top.now name.now) }
+    ensures text { IfOk result (λ text. string_bytes text ≡ flattened_name top.now name.now) }
 {
     let mut text = String::from_str(alloc, top)?;
     text.push_str("/")?;
@@ -32,7 +33,7 @@ pub(crate) fn flattened(alloc: Global, top: &str, name: &str) -> Result<String, 
 }
 
 fn binds(variable: u32, inscription: &MExpr) -> bool
-    ensures { result ≡ is_variable variable (multiset_view inscription.now) }
+    ensures exact { result ≡ is_variable variable (multiset_view inscription.now) }
 {
     match inscription {
         MExpr::One(expr) => match expr {
@@ -44,7 +45,7 @@ fn binds(variable: u32, inscription: &MExpr) -> bool
 
 /// Whether a variable stands on one of the arcs.
 fn stands_on(arcs: &[PlaceArc], variable: u32) -> bool
-    ensures { result ≡ is_on (arcs_view arcs.now) variable }
+    ensures exact { result ≡ is_on (arcs_view arcs.now) variable }
 {
     for arc in arcs {
         if binds(variable, &arc.inscription.expr) {
@@ -62,7 +63,7 @@ fn variables_on(
     inputs: &[PlaceArc],
     outputs: &[PlaceArc],
 ) -> Result<Vec<u32>, DocError>
-    ensures { Gives (λ vars. vars.items) result (variables_in count (arcs_view inputs.now) (arcs_view outputs.now)) }
+    ensures reads { Gives (λ vars. vars.items) result (variables_in count (arcs_view inputs.now) (arcs_view outputs.now)) }
 {
     let mut vars = Vec::new(alloc);
     for variable in 0..count {
@@ -82,7 +83,7 @@ fn transition_with(
     name: String,
     arcs: &[Arc],
 ) -> Result<Transition, DocError>
-    ensures { Gives transition_view result (transition_in count (string_bytes name) arcs.now) }
+    ensures reads { Gives transition_view result (transition_in count (string_bytes name) arcs.now) }
 {
     let inputs = inputs_among(alloc, arcs)?;
     let outputs = outputs_among(alloc, arcs)?;
@@ -110,8 +111,8 @@ fn transitions_with(
     written: &[TransitionTexts],
     groups: &[Vec<Arc>],
 ) -> Result<Vec<Transition>, DocError>
-    requires { length groups.now ≡ length written.now }
-    ensures { (arcs : List TheArc) → HoldsArcs groups.now (length written.now) arcs → Gives (λ transitions. map transition_view transitions.items) result (transitions_from count top.now arcs 0 (transition_names (written_views written.now))) }
+    requires as_many { length groups.now ≡ length written.now }
+    ensures reads { (arcs : List TheArc) → HoldsArcs groups.now (length written.now) arcs → Gives (λ transitions. map transition_view transitions.items) result (transitions_from count top.now arcs 0 (transition_names (written_views written.now))) }
 {
     let mut transitions = Vec::new(alloc);
     for (number, transition) in written.iter().enumerate() {
@@ -129,7 +130,7 @@ pub(crate) fn transitions_of(
     written: &[TransitionTexts],
     arcs: &[Arc],
 ) -> Result<Vec<Transition>, DocError>
-    ensures { Gives (λ transitions. map transition_view transitions.items) result (transitions_from count top.now arcs.now 0 (transition_names (written_views written.now))) }
+    ensures reads { Gives (λ transitions. map transition_view transitions.items) result (transitions_from count top.now arcs.now 0 (transition_names (written_views written.now))) }
 {
     let groups = grouped(alloc, arcs, written.len())?;
     transitions_with(alloc, count, top, written, groups.as_slice())

@@ -3,3 +3,4 @@ pub mod JoinedTexts
 pub mod PrintableNets
 pub mod ScheduleLines
 pub mod ShapedText
+pub mod Rows

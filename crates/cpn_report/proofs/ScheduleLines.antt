@@ -7,9 +7,9 @@ use Rattle.std.specs.Char.{digit_value}
 use Rattle.std.specs.Fmt.{decimal}
 use Rattle.std.specs.Str.Parse.{AllDigits}
 use Rattle.std.proofs.lemmas.Fmt.{decimal_is_IsNumeral, decimal_injective}
-use Rattle.cpn_runs.specs.State.{PlainEvent, claim_made, claim_completed}
+use Rattle.cpn_runs.specs.State.{PlainEvent, claim_made, claim_completed, cut_made}
 use Rattle.cpn_report.specs.Report.{event_text, schedule_line}
-use Rattle.cpn_report.specs.Schedule.{claim, completion, without_seats, AreNumbered, SchedulesDiffer}
+use Rattle.cpn_report.specs.Schedule.{claim, completion, cut, without_seats, AreNumbered, SchedulesDiffer}
 
 -- no digit begins the text
 abbrev EndsDigits : List ℕ → Type 0
@@ -40,6 +40,7 @@ unfolding line_end
 line_ends [] = omega arith
 line_ends (claim_made seat number ∷ journal) = omega arith
 line_ends (claim_completed seat number ∷ journal) = omega arith
+line_ends (cut_made number ∷ journal) = omega arith
 
 claim_is : (seat number : ℕ) (journal : List PlainEvent) → line_end (claim_made seat number ∷ journal) ≡ codes " c" ++ decimal number ++ line_end journal
 unfolding line_end
@@ -48,6 +49,10 @@ claim_is seat number journal = simp append_assoc
 completion_is : (seat number : ℕ) (journal : List PlainEvent) → line_end (claim_completed seat number ∷ journal) ≡ codes " d" ++ decimal number ++ line_end journal
 unfolding line_end
 completion_is seat number journal = simp append_assoc
+
+cut_is : (number : ℕ) (journal : List PlainEvent) → line_end (cut_made number ∷ journal) ≡ codes " x" ++ decimal number ++ line_end journal
+unfolding line_end
+cut_is number journal = simp append_assoc
 
 -- texts that are the same have the same byte at each place
 byte_at : (i : ℕ) (text other : List ℕ) → text ≡ other → get_or text i 0 ≡ get_or other i 0
@@ -58,16 +63,25 @@ unfolding line_end
 told [] [] numbered other_numbered e = refl
 told [] (claim_made t k ∷ other) numbered other_numbered e = absurd (omega (arith, byte_at 0 _ _ e))
 told [] (claim_completed t k ∷ other) numbered other_numbered e = absurd (omega (arith, byte_at 0 _ _ e))
+told [] (cut_made k ∷ other) numbered other_numbered e = absurd (omega (arith, byte_at 0 _ _ e))
 told (claim_made s j ∷ journal) [] numbered other_numbered e = absurd (omega (arith, byte_at 0 _ _ e))
 told (claim_completed s j ∷ journal) [] numbered other_numbered e = absurd (omega (arith, byte_at 0 _ _ e))
+told (cut_made j ∷ journal) [] numbered other_numbered e = absurd (omega (arith, byte_at 0 _ _ e))
 told (claim_made s j ∷ journal) (claim_completed t k ∷ other) numbered other_numbered e = absurd (omega (arith, byte_at 1 _ _ e))
 told (claim_completed s j ∷ journal) (claim_made t k ∷ other) numbered other_numbered e = absurd (omega (arith, byte_at 1 _ _ e))
+told (claim_made s j ∷ journal) (cut_made k ∷ other) numbered other_numbered e = absurd (omega (arith, byte_at 1 _ _ e))
+told (cut_made j ∷ journal) (claim_made t k ∷ other) numbered other_numbered e = absurd (omega (arith, byte_at 1 _ _ e))
+told (claim_completed s j ∷ journal) (cut_made k ∷ other) numbered other_numbered e = absurd (omega (arith, byte_at 1 _ _ e))
+told (cut_made j ∷ journal) (claim_completed t k ∷ other) numbered other_numbered e = absurd (omega (arith, byte_at 1 _ _ e))
 told (claim_made s j ∷ journal) (claim_made t k ∷ other) numbered other_numbered e =
     let apart = numbers_apart j k (line_end journal) (line_end other) numbered.0 other_numbered.0 (line_ends journal) (line_ends other) (ap (drop 2) (sym (claim_is s j journal) ∙ e ∙ claim_is t k other)) in
     ap₂ (λ n rest. (claim, n) ∷ rest) apart.0 (told journal other numbered.1 other_numbered.1 apart.1)
 told (claim_completed s j ∷ journal) (claim_completed t k ∷ other) numbered other_numbered e =
     let apart = numbers_apart j k (line_end journal) (line_end other) numbered.0 other_numbered.0 (line_ends journal) (line_ends other) (ap (drop 2) (sym (completion_is s j journal) ∙ e ∙ completion_is t k other)) in
     ap₂ (λ n rest. (completion, n) ∷ rest) apart.0 (told journal other numbered.1 other_numbered.1 apart.1)
+told (cut_made j ∷ journal) (cut_made k ∷ other) numbered other_numbered e =
+    let apart = numbers_apart j k (line_end journal) (line_end other) numbered.0 other_numbered.0 (line_ends journal) (line_ends other) (ap (drop 2) (sym (cut_is j journal) ∙ e ∙ cut_is k other)) in
+    ap₂ (λ n rest. (cut, n) ∷ rest) apart.0 (told journal other numbered.1 other_numbered.1 apart.1)
 
 pub schedules_differ : SchedulesDiffer
 unfolding schedule_line line_end

@@ -7,9 +7,10 @@ use Rattle.cpn_definitions.specs.Colour.{PlainColour}
 use Rattle.cpn_definitions.specs.Order.{same_value}
 use Rattle.cpn_definitions.specs.Marking.{PlainToken, Tokens, Marking}
 use Rattle.cpn_definitions.specs.Net.{Coloured, PlainNet, variable_at, transition_at}
-use Rattle.cpn_definitions.specs.Meaning.{PlainBinding, Fault, overflow, divide_by_zero, empty_list, no_case, not_in_colour, bad_coefficient, bad_delay, too_large}
+use Rattle.cpn_definitions.specs.Outcome.{Fault, overflow, divide_by_zero, empty_list, no_case, not_in_colour, bad_coefficient, bad_delay, too_large}
+use Rattle.cpn_definitions.specs.Meaning.{PlainBinding}
 use Rattle.cpn_definitions.specs.Occurrence.{PlainElement}
-use Rattle.cpn_runs.specs.State.{PlainSetup, PlainEvent, claim_made, claim_completed, PlainEnd, dead, steps_made, fault_end, PlainOccurrence}
+use Rattle.cpn_runs.specs.State.{PlainSetup, PlainEvent, claim_made, claim_completed, cut_made, PlainEnd, dead, steps_made, fault_end, PlainOccurrence}
 use Rattle.cpn_runs.specs.Run.{PlainFinished, Outlook}
 use Rattle.cpn_report.specs.ValueText.{joined, value_text}
 use Rattle.cpn_report.specs.declared.traces.Trace.{Trace}
@@ -45,10 +46,11 @@ run_line number clock outlook =
 unfoldable pub occurrence_line : PlainNet → PlainOccurrence → List ℕ
 occurrence_line n o = codes "occ " ++ decimal o.number ++ codes " @" ++ decimal o.time ++ codes " " ++ element_text n o.element ++ codes "\n"
 
--- an event: c for a claim, d for a completion, with the claim's number
+-- an event: c for a claim, d for a completion, with the claim's number; x for a cut, with the number that it is at
 abbrev pub event_text : PlainEvent → List ℕ
 event_text (claim_made seat number) = codes " c" ++ decimal number
 event_text (claim_completed seat number) = codes " d" ++ decimal number
+event_text (cut_made number) = codes " x" ++ decimal number
 
 -- the line of the run's journal
 unfoldable pub schedule_line : List PlainEvent → List ℕ

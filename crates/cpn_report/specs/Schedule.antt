@@ -1,18 +1,20 @@
 -- What the schedule line of a report tells of a journal. Source: own choice.
 use Rattle.std.specs.Prelude.{◌≡◌, ℕ, ◌<◌, ◌^◌, List, map}
 use Rattle.std.specs.List.{AllByRecursion}
-use Rattle.cpn_runs.specs.State.{PlainEvent, claim_made, claim_completed}
+use Rattle.cpn_runs.specs.State.{PlainEvent, claim_made, claim_completed, cut_made}
 use Rattle.cpn_report.specs.Report.{schedule_line}
 
 -- what an event is, without its seat and number
 pub data Kind : Type 0 where
   claim : Kind
   completion : Kind
+  cut : Kind
 
 -- an event and a journal without the seats: for each event its kind and its number
 abbrev pub without_seat : PlainEvent → Kind × ℕ
 without_seat (claim_made seat number) = (claim, number)
 without_seat (claim_completed seat number) = (completion, number)
+without_seat (cut_made number) = (cut, number)
 
 abbrev pub without_seats : List PlainEvent → List (Kind × ℕ)
 without_seats journal = map without_seat journal

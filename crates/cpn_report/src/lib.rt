@@ -5,6 +5,7 @@
 #![tactic(auto)]
 
 mod elements;
+mod ends;
 mod groups;
 mod integers;
 mod lines;

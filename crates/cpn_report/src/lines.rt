@@ -2,14 +2,12 @@
 ghost use Rattle.std.specs.Prelude.{◌≡◌, ◌++◌, map, OnOk};
 ghost use Rattle.std.specs.List.{flat_map};
 ghost use Rattle.std.specs.String.{string_bytes};
-ghost use Rattle.cpn_report.specs.Report.{report_line, run_line, time_text, event_text, schedule_line, cause_text, end_line, occurrences_line, clock_line, ready_line, next_line, total_line};
-ghost use Rattle.cpn_definitions.specs.Net.{PlainNet};
-ghost use Rattle.cpn_core.specs.Nets.{net_view};
-ghost use Rattle.cpn_runs.specs.Views.{event_view, end_view};
+ghost use Rattle.cpn_report.specs.Report.{report_line, run_line, time_text, event_text, schedule_line, occurrences_line, clock_line, ready_line, next_line, total_line};
+ghost use Rattle.cpn_runs.specs.Views.{event_view};
 ghost use Rattle.cpn_runs.specs.FinishedViews.{outlook_view};
 
 use cpn_core::Memory;
-use cpn_runs::{End, Event, Finished, Outlook};
+use cpn_runs::{Event, Outlook};
 use std::fmt::Write;
 
 /// Appends the first line of each report.
@@ -78,28 +76,9 @@ fn push_event(out: &mut String, event: Event) -> Result<(), Memory>
     match event {
         Event::Claim { seat: _, number } => write!(out, " c{number}")?,
         Event::Done { seat: _, number } => write!(out, " d{number}")?,
+        Event::Cut { number } => write!(out, " x{number}")?,
     }
     Ok(())
-}
-
-/// Appends the line of the cause of the run's end.
-#[tactic(auto, unfolding(crate::specs::Report::end_line))]
-pub(crate) fn push_end_line(out: &mut String, finished: &Finished) -> Result<(), Memory>
-    ensures written { OnOk result (string_bytes out.new ≡ string_bytes out.old ++ end_line (net_view finished.now.setup.net.value) (end_view finished.now.cause)) }
-{
-    let name = cause_name(finished.cause);
-    write!(out, "end {name}\n")?;
-    Ok(())
-}
-
-/// The name of the cause of a run's end, which is the same for each net.
-fn cause_name(cause: End) -> &'static str
-    ensures name { (n : PlainNet) → result.now ≡ cause_text n (end_view cause) }
-{
-    match cause {
-        End::Steps => "steps",
-        End::Dead => "dead",
-    }
 }
 
 /// Appends the line of the number of occurrences.

@@ -8,9 +8,10 @@ ghost use Rattle.cpn_report.specs.Report.{trace_text, run_text, report_text};
 ghost use Rattle.cpn_report.specs.Schedule.{SchedulesDiffer};
 
 use crate::elements::push_occurrences;
+use crate::ends::push_end_line;
 use crate::lines::{
-    push_clock_line, push_end_line, push_next_line, push_occurrences_line, push_ready_line,
-    push_report_line, push_run_line, push_schedule_line, push_total_line,
+    push_clock_line, push_next_line, push_occurrences_line, push_ready_line, push_report_line,
+    push_run_line, push_schedule_line, push_total_line,
 };
 use crate::places::push_place_lines;
 use crate::traces::Trace;
@@ -47,7 +48,7 @@ fn push_run(out: &mut String, trace: Trace, number: u64, finished: &Finished) ->
     let net = &*finished.setup.net;
     push_run_line(out, number, finished.setup.clock, &finished.opening)?;
     push_trace(out, trace, finished)?;
-    push_end_line(out, finished)?;
+    push_end_line(out, net, &finished.cause)?;
     push_occurrences_line(out, finished.occurrences.len() as u64)?;
     push_clock_line(out, finished.clock)?;
     push_place_lines(out, net, &net.places, &finished.marking)?;

@@ -1,6 +1,6 @@
 // What no clause says: that the calls succeed where memory is left, and that the definitions mean what the texts here
 // say, which were written by hand.
-ghost use Rattle.std.specs.Prelude.{◌≡◌, IfOk};
+ghost use Rattle.std.specs.Prelude.{◌≡◌, true, [], IfOk};
 ghost use Rattle.std.specs.List.{list_all};
 ghost use Rattle.cpn_definitions.specs.Sound.{may_hold};
 ghost use Rattle.cpn_definitions.specs.Named.{is_named};
@@ -9,16 +9,19 @@ ghost use Rattle.cpn_core.specs.Nets.{net_view};
 ghost use Rattle.cpn_core.specs.Pairs.{pairs_view};
 ghost use Rattle.cpn_core.specs.Tokens.{tokens_view};
 ghost use Rattle.cpn_runs.specs.FinishedViews.{finished_view};
-ghost use Rattle.cpn_report.specs.Printable.{IsPrintable, is_bound};
+ghost use Rattle.cpn_definitions.specs.Net.{PlainNet};
+ghost use Rattle.cpn_runs.specs.Views.{end_view};
+ghost use Rattle.cpn_report.specs.Printable.{IsPrintableNet, IsPrintable, IsCause, is_bound, is_binding_element};
 
 use crate::elements::push_binding;
+use crate::ends::fault_name;
 use crate::integers::push_int;
 use crate::lines::{push_next_line, push_schedule_line};
 use crate::places::push_place_line;
 use crate::{Trace, has_names, report, value_text};
 use cpn_core::{
-    Binding, Colour, Funs, Memory, Net, Pair, Place, PlainMarking, Shape, Text, Token, Value,
-    Values, Variable,
+    Binding, Colour, Element, EvalFault, Funs, Guard, Memory, Net, Pair, Place, PlainMarking,
+    Shape, Text, Token, Transition, Value, Values, Variable,
 };
 use cpn_runs::{End, Event, Finished, Limits, Outlook, Setup};
 use std::alloc::Global;
@@ -103,13 +106,42 @@ fn events_and_a_missing_time_are_told(rt: HostRuntime) -> Result<(), Fail> {
         &[
             Event::Claim { seat: 3, number: 0 },
             Event::Done { seat: 3, number: 0 },
+            Event::Cut { number: 0 },
         ],
     )?;
     push_next_line(&mut out, None)?;
     push_next_line(&mut out, Some(12))?;
     assert_eq!(rt;
         out.as_str(),
-        "schedule\nschedule c0 d0\nnext none\nnext 12\n"
+        "schedule\nschedule c0 d0 x0\nnext none\nnext 12\n"
+    );
+    Ok(())
+}
+
+#[test]
+fn a_fault_is_told_by_number_name_and_element(rt: HostRuntime) -> Result<(), Fail> {
+    let table = [
+        (EvalFault::Overflow, "1 overflow"),
+        (EvalFault::DivideByZero, "2 divide_by_zero"),
+        (EvalFault::EmptyList, "3 empty_list"),
+        (EvalFault::NoCase, "4 no_case"),
+        (EvalFault::NotInColour, "5 not_in_colour"),
+        (EvalFault::BadCoefficient, "6 bad_coefficient"),
+        (EvalFault::BadDelay, "7 bad_delay"),
+        (EvalFault::TooLarge, "8 too_large"),
+    ];
+    for (fault, text) in table {
+        assert_eq!(rt; fault_name(fault), text);
+    }
+    let mut journal = Vec::new(rt.alloc());
+    journal.push(Event::Claim { seat: 0, number: 0 })?;
+    journal.push(Event::Done { seat: 0, number: 0 })?;
+    journal.push(Event::Cut { number: 0 })?;
+    let run = run_with(rt.alloc(), journal, Some(EvalFault::NotInColour))?;
+    let text = report(rt.alloc(), Trace::On, &run)?;
+    assert_eq!(rt;
+        text.as_str(),
+        "report 1\nrun 0 initial 0 ready 0 next none\nschedule c0 d0 x0\nend fault 5 not_in_colour Top/t {}\noccurrences 0\nclock 0\nready 0\nnext none\ntotal 0\n"
     );
     Ok(())
 }
@@ -121,7 +153,7 @@ fn a_report_past_100_000_bytes(rt: HostRuntime) -> Result<(), Fail> {
         journal.push(Event::Claim { seat: 0, number })?;
         journal.push(Event::Done { seat: 0, number })?;
     }
-    let run = empty_run(rt.alloc(), journal)?;
+    let run = run_with(rt.alloc(), journal, None)?;
     let text = report(rt.alloc(), Trace::On, &run)?;
     // 20,000 events with a space, a letter and one to four digits, and 109 bytes around them.
     assert_eq!(rt; text.len(), 117_889);
@@ -290,21 +322,59 @@ fn are_bound(net: &Net, pairs: &[Pair]) -> bool
     true
 }
 
-// A run of a net with no place and no transition, with this journal.
-fn empty_run(alloc: Global, journal: Vec<Event>) -> Result<Finished, Memory>
-    ensures printable { IfOk result (λ run. IsPrintable (net_view run.setup.net.value) (finished_view run)) }
+// A net with no place, and one transition without arcs.
+fn bare_net(alloc: Global) -> Result<Net, Memory>
+    ensures printable { IfOk result (λ net. IsPrintableNet (net_view net)) }
+    ensures places { IfOk result (λ net. (net_view net).places ≡ []) }
+    ensures element { IfOk result (λ net. is_binding_element (net_view net) (record { transition = 0; binding = [] }) ≡ true) }
 {
     let functions = Vec::new(alloc);
-    let net = Net {
+    let transition = Transition {
+        name: String::from_str(alloc, "Top/t")?,
+        guard: Guard {
+            conjuncts: Vec::new(alloc),
+        },
+        delay: None,
+        inputs: Vec::new(alloc),
+        outputs: Vec::new(alloc),
+        vars: Vec::new(alloc),
+    };
+    Ok(Net {
         places: Vec::new(alloc),
-        transitions: Vec::new(alloc),
+        transitions: Vec::from_array(alloc, [transition])?,
         variables: Vec::new(alloc),
         constants: Vec::new(alloc),
         constructors: Vec::new(alloc),
         funs: Arc::new(alloc, Funs { functions })?,
-    };
+    })
+}
+
+// The end by a fault of the transition, or because nothing is enabled.
+fn end_with(alloc: Global, fault: Option<EvalFault>) -> End
+    ensures cause { (n : PlainNet) → is_binding_element n (record { transition = 0; binding = [] }) ≡ true → IsCause n (end_view result) }
+{
+    match fault {
+        None => End::Dead,
+        Some(fault) => {
+            let element = Element {
+                transition: 0,
+                binding: Binding::new(alloc),
+            };
+            End::Fault(element, fault)
+        }
+    }
+}
+
+// A run of that net, with this journal and this end.
+fn run_with(
+    alloc: Global,
+    journal: Vec<Event>,
+    fault: Option<EvalFault>,
+) -> Result<Finished, Memory>
+    ensures printable { IfOk result (λ run. IsPrintable (net_view run.setup.net.value) (finished_view run)) }
+{
     let setup = Setup {
-        net: Arc::new(alloc, net)?,
+        net: Arc::new(alloc, bare_net(alloc)?)?,
         start: PlainMarking::new(alloc, 0)?,
         clock: 0,
         limits: Limits {
@@ -325,7 +395,7 @@ fn empty_run(alloc: Global, journal: Vec<Event>) -> Result<Finished, Memory>
         occurrences: Vec::new(alloc),
         marking: PlainMarking::new(alloc, 0)?,
         clock: 0,
-        cause: End::Dead,
+        cause: end_with(alloc, fault),
         closing: outlook,
     })
 }

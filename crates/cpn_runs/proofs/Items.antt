@@ -1,7 +1,7 @@
 -- The items of a list: the last one, and one of them with what stands before and behind it.
 use Rattle.std.proofs.Common.{◌≡◌, ℕ, zero, suc, ◌<◌, List, [], ◌∷◌, ◌++◌, length, map, Some, refl, ap, arith, inl, inr, slice_get, slice_set}
 use Rattle.std.specs.List.{AllByRecursion}
-use Rattle.cpn_definitions.proofs.Rising.{IsIn}
+use Rattle.cpn_definitions.proofs.RisingLists.{IsIn}
 
 -- ---- the last of a list
 

@@ -1,15 +1,18 @@
 -- Every journal, whatever the order in which claims are made and completed, and for any number of seats: the claims leave a
 -- marking, and those that are committed are a legal occurrence sequence.
-use Rattle.std.proofs.Common.{◌≡◌, ℕ, suc, ◌==◌, ◌⊎◌, true, false, cond, List, [], ◌∷◌, ◌++◌, map, take, drop, Some, None, refl, sym, ap, subst, ◌∙◌, inl, inr, slice_get}
+use Rattle.std.proofs.Common.{◌≡◌, ℕ, suc, ◌==◌, ◌⊎◌, true, false, cond, List, [], ◌∷◌, ◌++◌, map, length, take, drop, Some, None, Option, refl, sym, ap, subst, ◌∙◌, inl, inr, slice_get}
 use Rattle.std.specs.List.{AllByRecursion, list_any}
-use Rattle.std.proofs.lemmas.Bool.{cond_both, and_parts}
+use Rattle.std.specs.Option.{MatchOption}
+use Rattle.std.proofs.Math.Path.{ap₂}
+use Rattle.std.proofs.Math.Seq.{take-append_seam}
+use Rattle.std.proofs.lemmas.Bool.{and_parts}
 use Rattle.std.proofs.lemmas.List.{take-append-drop}
 use Rattle.std.proofs.lemmas.Option.{same_Some}
 use Rattle.cpn_definitions.specs.Lists.{IsInOrder}
 use Rattle.cpn_definitions.specs.Marking.{Marking}
 use Rattle.cpn_definitions.specs.Net.{PlainNet}
-use Rattle.cpn_definitions.specs.Meaning.{Outcome, gives, faults, no_meaning}
-use Rattle.cpn_definitions.specs.Occurrence.{PlainElement, Needed, Made, needed_cmp, threshold, are_covered, after, needs_of, outputs_of, subtract, add_made}
+use Rattle.cpn_definitions.specs.Outcome.{Fault, Outcome, gives, faults, no_meaning}
+use Rattle.cpn_definitions.specs.Occurrence.{PlainElement, Needed, Made, needed_cmp, threshold, are_covered, covered, after, needs_of, outputs_of, subtract, add_made}
 use Rattle.cpn_definitions.specs.Legal.{LeastTime, Legal}
 use Rattle.cpn_definitions.specs.Sound.{IsStamped, IsMarking}
 use Rattle.cpn_definitions.proofs.UntimedPlaces.{MadeStamped, stamped_subtracted, stamped_added, outputs_stamped, marking_stamped}
@@ -17,15 +20,15 @@ use Rattle.cpn_definitions.proofs.Markings.{held_at}
 use Rattle.cpn_definitions.proofs.Needs.{needs_in_order}
 use Rattle.cpn_definitions.proofs.Subtraction.{AllAreSorted}
 use Rattle.cpn_definitions.proofs.Addition.{sorted_added}
-use Rattle.cpn_definitions.proofs.Richer.{IsRicher, richer_covers, richer_subtracted, richer_added, richer_with_more, sorted_subtracted}
+use Rattle.cpn_definitions.proofs.RicherMarkings.{IsRicher, richer_covers, richer_subtracted, richer_added, richer_with_more, sorted_subtracted}
 use Rattle.cpn_runs.specs.HoleRun.{PlainClaim, Status, open_claim, done_with, faulted_with, added, after_claim, marking_left, is_open, is_done, done_prefix}
-use Rattle.cpn_runs.specs.State.{PlainSetup, PlainState, PlainEvent, claim_made, claim_completed, PlainEnd, first_state, unclaimed_in, settled_in, committed, owed_cut, cut_at, cut_by, given_needs, new_claim, status_after, MayClaim, MayComplete, Happens, Leads, IsState, timed, numbered, committed_occurrences, EndsBy}
-use Rattle.cpn_runs.specs.Run.{Outlook, HasOutlook, IsRun}
+use Rattle.cpn_runs.specs.State.{PlainSetup, PlainState, PlainEvent, claim_made, claim_completed, cut_made, PlainEnd, dead, steps_made, fault_end, PlainCut, first_state, unclaimed_in, settled_in, committed, owed_cut, cut_at, cut_by, given_needs, new_claim, status_after, MayClaim, MayComplete, MayCut, Happens, Leads, IsState, timed, numbered, committed_occurrences, HasCause, EndsBy}
+use Rattle.cpn_runs.specs.Run.{Outlook, HasOutlook, IsTrueFault, IsRun}
 use Rattle.cpn_runs.proofs.Items.{split_at, all_parts}
 use Rattle.cpn_runs.proofs.Sequences.{left_parts, left_from, marking_left_more}
-use Rattle.cpn_runs.proofs.Covered.{covered_needs, covered_too, after_is, least_now}
-use Rattle.cpn_runs.proofs.Rounds.{no_cut_at_any}
-use Rattle.cpn_runs.proofs.States.{IsClaimOf, drawn_now, IsReached, event_reaches, every_state}
+use Rattle.cpn_runs.proofs.CoveredElements.{covered_needs, covered_too, after_is, least_now}
+use Rattle.cpn_runs.proofs.Cuts.{no_cut_at_any, committed_are_done, done_owe_none, done_are_closed, owed_is}
+use Rattle.cpn_runs.proofs.States.{IsClaimOf, drawn_now, IsReached, event_reaches, every_state, no_completion_after_a_cut}
 
 -- ---- a hole is filled
 
@@ -119,15 +122,19 @@ stamped_left setup m (claim ∷ claims) last each stamped is =
 
 -- ---- the unclaimed marking is there in each state
 
--- The claims leave a marking.
+-- The claims leave a marking, where the element of the fault that a cut is for is covered.
 pub record LeavesMarking (setup : PlainSetup) (state : PlainState) : Type 0 where
   pub last : Marking
   pub is : unclaimed_in setup state ≡ Some last
+  pub true_cut : (cut : PlainCut) → state.cut ≡ Some cut → IsTrueFault setup.net last setup.clock cut.cause
 
 open_adds_none : (status : Status) → is_open status ≡ true → added status ≡ []
 open_adds_none open_claim h = refl
 open_adds_none (done_with outputs) h = cc
 open_adds_none (faulted_with fault) h = refl
+
+not_none : (o : Option PlainCut) (cut : PlainCut) → o ≡ Some cut → o ≡ None → ⊥
+not_none o cut some none = cc
 
 claim_leaves : (setup : PlainSetup) (old : PlainState) (seat number : ℕ) (new : PlainState) → (c : MayClaim setup old seat number new) → IsStamped setup.net c.marking → LeavesMarking setup new
 claim_leaves setup old seat number new c stamped =
@@ -135,16 +142,65 @@ claim_leaves setup old seat number new c stamped =
     subst (LeavesMarking setup) (sym c.new_is) (record {
       last = after_claim claim c.marking;
       is = marking_left_more setup.start old.claims claim c.marking c.marking_is (covered_needs setup.net c.marking old.clock c.drawn.element stamped (drawn_now setup old seat number new c));
+      true_cut = λ cut stands. absurd (not_none old.cut cut stands c.no_cut);
     })
 
-completion_leaves : (setup : PlainSetup) (old : PlainState) (seat number : ℕ) (new : PlainState) → AllAreSorted setup.start → AllByRecursion (IsClaimOf setup) old.claims → LeavesMarking setup old → MayComplete setup old seat number new → LeavesMarking setup new
-completion_leaves setup old seat number new sorted claims leaves c =
+completion_leaves : (setup : PlainSetup) (journal : List PlainEvent) (old : PlainState) (seat number : ℕ) (new : PlainState) → AllAreSorted setup.start → IsReached setup journal old → LeavesMarking setup old → MayComplete setup old seat number new → LeavesMarking setup new
+completion_leaves setup journal old seat number new sorted reached leaves c =
     let claim = c.held_claim in
     let parts = split_at old.claims number claim c.claim_is in
     let none = open_adds_none claim.status (and_parts (is_open claim.status) (claim.seat == seat) c.held).0 in
-    let ordered = subst (AllByRecursion HasOrder) parts.is (have_order setup old.claims claims) in
+    let ordered = subst (AllByRecursion HasOrder) parts.is (have_order setup old.claims reached.claims_are) in
     let filled = filled_leaves setup.start parts.before claim parts.later c.status leaves.last sorted ordered none (subst (λ cs. marking_left setup.start cs ≡ Some leaves.last) parts.is leaves.is) in
-    subst (LeavesMarking setup) (sym (c.new_is ∙ ap (λ cs. record old { claims = cs }) (parts.changed (completed c.status claim)))) (record { last = filled.0; is = filled.1 })
+    subst (LeavesMarking setup) (sym (c.new_is ∙ ap (λ cs. record old { claims = cs }) (parts.changed (completed c.status claim)))) (record {
+      last = filled.0;
+      is = filled.1;
+      true_cut = λ cut stands. absurd (no_completion_after_a_cut setup journal old seat number new cut reached stands c);
+    })
+
+-- of claims that leave a marking those ahead of one leave one too, and it covers the needs of that one
+record LeavesFor (m : Marking) (before : List PlainClaim) (claim : PlainClaim) : Type 0 where
+  mid : Marking
+  is : marking_left m before ≡ Some mid
+  covers : are_covered (threshold claim.time) mid claim.needs ≡ true
+
+leaves_for : (m : Marking) (before : List PlainClaim) (claim : PlainClaim) (later : List PlainClaim) (last : Marking) → marking_left m (before ++ claim ∷ later) ≡ Some last → LeavesFor m before claim
+leaves_for m [] claim later last is = record { mid = m; is = refl; covers = (left_parts m claim later last is).0 }
+leaves_for m (first ∷ before) claim later last is =
+    let parts = left_parts m first (before ++ claim ∷ later) last is in
+    let rest = leaves_for (after_claim first m) before claim later last parts.1 in
+    record { mid = rest.mid; is = left_from m first before rest.mid parts.0 rest.is; covers = rest.covers }
+
+-- the outputs of a claim that is done with a fault have it
+faulted_with_fault : (o : Outcome (List Made)) (status : Status) (fault : Fault) → (is_open status ≡ true) ⊎ (status_after o ≡ Some status) → status ≡ faulted_with fault → o ≡ faults fault
+faulted_with_fault (gives outputs) status fault (inl h) is = let e : is_open (faulted_with fault) ≡ true = ap is_open (sym is) ∙ h in cc
+faulted_with_fault (gives outputs) status fault (inr h) is = cc
+faulted_with_fault (faults other) status fault (inl h) is = let e : is_open (faulted_with fault) ≡ true = ap is_open (sym is) ∙ h in cc
+faulted_with_fault (faults other) status fault (inr h) is = cc
+faulted_with_fault no_meaning status fault (inl h) is = let e : is_open (faulted_with fault) ≡ true = ap is_open (sym is) ∙ h in cc
+faulted_with_fault no_meaning status fault (inr h) is = cc
+
+-- A cut leaves the marking of the claims ahead of it, where the element of the first claim that it removes is covered.
+cut_leaves : (setup : PlainSetup) (old : PlainState) (number : ℕ) (new : PlainState) → IsStamped setup.net setup.start → AllByRecursion (IsClaimOf setup) old.claims → LeavesMarking setup old → MayCut setup old number new → LeavesMarking setup new
+cut_leaves setup old number new stamped claims leaves c =
+    let owed = owed_is old.claims c.cut c.owed in
+    let claim = owed.faulted in
+    let parts = split_at old.claims (done_prefix old.claims) claim owed.claim_is in
+    let each = all_parts (IsClaimOf setup) parts.before (claim ∷ parts.later) (subst (AllByRecursion (IsClaimOf setup)) parts.is claims) in
+    let one : IsClaimOf setup claim = each.1.0 in
+    let left = leaves_for setup.start parts.before claim parts.later leaves.last (subst (λ cs. marking_left setup.start cs ≡ Some leaves.last) parts.is leaves.is) in
+    let at : number ≡ length parts.before = c.number_is ∙ owed.number_is ∙ sym parts.place in
+    let first : take number old.claims ≡ parts.before = ap₂ take at parts.is ∙ take-append_seam parts.before (claim ∷ parts.later) in
+    let needs_covered = subst (λ needs. are_covered (threshold claim.time) left.mid needs ≡ true) one.needs_are left.covers in
+    let is_covered : covered setup.net left.mid claim.time claim.element ≡ true = covered_too setup.net one.marking left.mid claim.time claim.element (stamped_left setup setup.start parts.before left.mid each.0 stamped left.is) one.was_covered needs_covered in
+    let has_fault : outputs_of setup.net claim.element claim.time ≡ faults owed.fault = faulted_with_fault (outputs_of setup.net claim.element claim.time) claim.status owed.fault one.status_is owed.fault_is in
+    let is_true : IsTrueFault setup.net left.mid setup.clock (fault_end claim.element owed.fault) =
+    subst (λ (t : ℕ). (covered setup.net left.mid t claim.element ≡ true) × (outputs_of setup.net claim.element t ≡ faults owed.fault)) one.time_is (is_covered, has_fault) in
+    subst (LeavesMarking setup) (sym c.new_is) (record {
+      last = left.mid;
+      is = ap (marking_left setup.start) first ∙ left.is;
+      true_cut = λ cut stands. subst (IsTrueFault setup.net left.mid setup.clock) (sym owed.cause_is ∙ ap (λ (k : PlainCut). k.cause) (same_Some c.cut cut stands)) is_true;
+    })
 
 -- What is kept from the start of a run on: its first marking is sorted, and stamped as the net is timed.
 pub record IsStart (setup : PlainSetup) : Type 0 where
@@ -155,10 +211,11 @@ pub record IsStart (setup : PlainSetup) : Type 0 where
 pub marking_is_start : (setup : PlainSetup) → IsMarking setup.net.places setup.start → IsStart setup
 marking_is_start setup is = record { sorted = λ p. (held_at setup.net.places setup.start is p).0; stamped = marking_stamped setup.net setup.start is }
 
-event_leaves : (setup : PlainSetup) (old : PlainState) (event : PlainEvent) (new : PlainState) → IsStart setup → AllByRecursion (IsClaimOf setup) old.claims → LeavesMarking setup old → Happens setup old event new → LeavesMarking setup new
-event_leaves setup old (claim_made seat number) new start claims leaves c =
-    claim_leaves setup old seat number new c (stamped_left setup setup.start old.claims c.marking claims start.stamped c.marking_is)
-event_leaves setup old (claim_completed seat number) new start claims leaves c = completion_leaves setup old seat number new start.sorted claims leaves c
+event_leaves : (setup : PlainSetup) (journal : List PlainEvent) (old : PlainState) (event : PlainEvent) (new : PlainState) → IsStart setup → IsReached setup journal old → LeavesMarking setup old → Happens setup old event new → LeavesMarking setup new
+event_leaves setup journal old (claim_made seat number) new start reached leaves c =
+    claim_leaves setup old seat number new c (stamped_left setup setup.start old.claims c.marking reached.claims_are start.stamped c.marking_is)
+event_leaves setup journal old (claim_completed seat number) new start reached leaves c = completion_leaves setup journal old seat number new start.sorted reached leaves c
+event_leaves setup journal old (cut_made number) new start reached leaves c = cut_leaves setup old number new start.stamped reached.claims_are leaves c
 
 events_leave
     : (setup : PlainSetup) (journal : List PlainEvent) (old : PlainState) (events : List PlainEvent) (state : PlainState)
@@ -169,7 +226,7 @@ events_leave
     → LeavesMarking setup state
 events_leave setup journal old [] state start reached leaves leads = subst (LeavesMarking setup) (sym leads) leaves
 events_leave setup journal old (event ∷ events) state start reached leaves leads =
-    events_leave setup (journal ++ event ∷ []) leads.0 events state start (event_reaches setup journal old event leads.0 reached leads.1) (event_leaves setup old event leads.0 start reached.claims_are leaves leads.1) leads.2
+    events_leave setup (journal ++ event ∷ []) leads.0 events state start (event_reaches setup journal old event leads.0 reached leads.1) (event_leaves setup journal old event leads.0 start reached leaves leads.1) leads.2
 
 -- ---- the committed claims
 
@@ -177,11 +234,6 @@ is_done_with : (status : Status) → is_done status ≡ true → (made : List Ma
 is_done_with open_claim h = cc
 is_done_with (done_with outputs) h = (outputs, refl)
 is_done_with (faulted_with fault) h = cc
-
-committed_are_done : (claims : List PlainClaim) → AllByRecursion (λ claim. is_done claim.status ≡ true) (take (done_prefix claims) claims)
-committed_are_done [] = tt
-committed_are_done (claim ∷ claims) =
-    cond_both (is_done claim.status) (suc (done_prefix claims)) 0 (λ k. AllByRecursion (λ c. is_done c.status ≡ true) (take k (claim ∷ claims))) (λ h. (h, committed_are_done claims)) (λ _. tt)
 
 -- the first of claims that leave a marking leave one
 front_leaves : (m : Marking) (before later : List PlainClaim) (last : Marking) → marking_left m (before ++ later) ≡ Some last → (end : Marking) × (marking_left m before ≡ Some end)
@@ -239,8 +291,9 @@ all_are_committed (claim ∷ claims) none_open none_owed = split claim.status re
     split (faulted_with fault) is rest = let e : cut_by 0 claim.element (faulted_with fault) ≡ None = rw is at none_owed in cc
 
 -- What holds of every journal: the claims leave a marking; the committed ones leave one, and are a legal occurrence
--- sequence from the start to it and the clock; and where no claim is open and no cut is owed, all claims are committed and
--- both markings are the same.
+-- sequence from the start to it and the clock; where no claim is open and no cut is owed, all claims are committed and
+-- both markings are the same; and the element of the fault that a cut is for is covered in the settled marking at the clock,
+-- and its outputs have the fault.
 pub record Settles (setup : PlainSetup) (state : PlainState) : Type 0 where
   pub last : Marking
   pub leaves : unclaimed_in setup state ≡ Some last
@@ -249,12 +302,13 @@ pub record Settles (setup : PlainSetup) (state : PlainState) : Type 0 where
   pub legal : Legal setup.net setup.start setup.clock (map timed (committed_occurrences setup state)) marking state.clock
   pub all_committed : list_any (λ claim. is_open claim.status) state.claims ≡ false → owed_cut setup state ≡ None → take (committed setup state) state.claims ≡ state.claims
   pub all_settled : list_any (λ claim. is_open claim.status) state.claims ≡ false → owed_cut setup state ≡ None → marking ≡ last
+  pub true_cut : (cut : PlainCut) → state.cut ≡ Some cut → IsTrueFault setup.net marking state.clock cut.cause
 
 -- every journal settles, for any number of seats
 pub every_journal_settles : (setup : PlainSetup) (journal : List PlainEvent) (state : PlainState) → IsStart setup → IsState setup journal state → Settles setup state
 every_journal_settles setup journal state start reached =
     let r = every_state setup journal state reached in
-    let leaves = events_leave setup [] (first_state setup) journal state start (every_state setup [] (first_state setup) refl) (record { last = setup.start; is = refl }) reached in
+    let leaves = events_leave setup [] (first_state setup) journal state start (every_state setup [] (first_state setup) refl) (record { last = setup.start; is = refl; true_cut = λ cut stands. absurd (not_none None cut stands refl) }) reached in
     let k = committed setup state in
     let whole : take k state.claims ++ drop k state.claims ≡ state.claims = take-append-drop k state.claims in
     let front = front_leaves setup.start (take k state.claims) (drop k state.claims) leaves.last (subst (λ cs. marking_left setup.start cs ≡ Some leaves.last) (sym whole) leaves.is) in
@@ -268,6 +322,12 @@ every_journal_settles setup journal state start reached =
       all_committed = λ none_open none_owed. all_are_committed state.claims none_open none_owed;
       all_settled =
           λ none_open none_owed. same_Some front.0 leaves.last (sym front.1 ∙ ap (marking_left setup.start) (all_are_committed state.claims none_open none_owed) ∙ leaves.is);
+      true_cut = λ cut stands.
+          let done = (r.cut_off cut stands).all_done in
+          let same : front.0 ≡ leaves.last =
+          same_Some front.0 leaves.last (sym front.1 ∙ ap (marking_left setup.start) (all_are_committed state.claims (done_are_closed state.claims done) (done_owe_none state.claims done)) ∙ leaves.is) in
+          let P : Marking → ℕ → Type 0 = λ m clock. IsTrueFault setup.net m clock cut.cause in
+          subst (P front.0) (sym r.clock_is) (subst (λ m. P m setup.clock) (sym same) (leaves.true_cut cut stands));
     }
 
 -- where a run ends, all that it claimed has occurred: its last marking is the one that all its claims leave
@@ -275,6 +335,19 @@ pub ended_is_settled : (setup : PlainSetup) (journal : List PlainEvent) (state :
 ended_is_settled setup journal state cause start reached ends =
     let s = every_journal_settles setup journal state start reached in
     s.settled_is ∙ ap (λ m. Some m) (s.all_settled ends.none_open ends.none_owed) ∙ sym s.leaves
+
+-- a run ends by a true fault, or by none
+ends_truly : (setup : PlainSetup) (state : PlainState) (cause : PlainEnd) (m : Marking) → ((cut : PlainCut) → state.cut ≡ Some cut → IsTrueFault setup.net m state.clock cut.cause) → EndsBy setup state cause → IsTrueFault setup.net m state.clock cause
+ends_truly setup state cause m is_true ends = by state.cut refl ends.has_cause
+  where
+    without : (c : PlainEnd) → HasCause setup state c → IsTrueFault setup.net m state.clock c
+    without dead has = tt
+    without steps_made has = tt
+    without (fault_end e fault) has = absurd has
+
+    by : (cut : Option PlainCut) → state.cut ≡ cut → MatchOption cut (HasCause setup state cause) (λ k. cause ≡ k.cause) → IsTrueFault setup.net m state.clock cause
+    by None stands has = without cause has
+    by (Some cut) stands is = subst (IsTrueFault setup.net m state.clock) (sym is) (is_true cut stands)
 
 -- a journal with an end is that of a run, for any number of seats: that its occurrences are legal follows
 pub ended_is_run
@@ -297,6 +370,7 @@ ended_is_run setup journal state cause marking opening closing start reached end
       marking_is = is;
       clock_is = refl;
       legal = subst (λ m. Legal setup.net setup.start setup.clock (map timed (committed_occurrences setup state)) m state.clock) same s.legal;
+      true_fault = subst (λ m. IsTrueFault setup.net m state.clock cause) same (ends_truly setup state cause s.marking s.true_cut ends);
       opening = at_start;
       closing = at_end;
     }

@@ -1,9 +1,10 @@
 pub mod Items
 pub mod Sequences
-pub mod Covered
+pub mod CoveredElements
+pub mod Cuts
 pub mod States
 pub mod Rounds
-pub mod Ending
+pub mod RunEnds
 pub mod OneJournal
 pub mod OneRun
 pub mod Journals
@@ -11,3 +12,4 @@ pub mod Picks
 pub mod Rows
 pub mod WorkedNet
 pub mod TwoSeats
+pub mod FaultyRuns

@@ -1,5 +1,5 @@
 -- With one seat there is at most one journal that has an end.
-use Rattle.std.proofs.Common.{◌≡◌, ℕ, zero, suc, ◌<◌, ◌==◌, Bool, true, false, ◌||◌, List, [], ◌∷◌, ◌++◌, length, Some, None, Option, refl, sym, ap, ◌∙◌, subst, arith, slice_get, slice_set, eqb-true, eq-eqb}
+use Rattle.std.proofs.Common.{◌≡◌, ℕ, zero, suc, ◌<◌, ◌==◌, ◌⊎◌, Bool, true, false, ◌||◌, List, [], ◌∷◌, ◌++◌, length, take, Some, None, Option, refl, sym, ap, ◌∙◌, subst, inl, inr, arith, slice_get, slice_set, eqb-true, eq-eqb}
 use Rattle.std.specs.List.{list_any}
 use Rattle.std.specs.Option.{MatchOption}
 use Rattle.std.proofs.Math.Path.{ap₂}
@@ -8,11 +8,12 @@ use Rattle.std.proofs.lemmas.Option.{same_Some}
 use Rattle.cpn_definitions.specs.Marking.{Marking}
 use Rattle.cpn_definitions.specs.Occurrence.{covered}
 use Rattle.cpn_definitions.specs.Enabled.{ready}
-use Rattle.cpn_runs.specs.HoleRun.{PlainClaim, is_open}
-use Rattle.cpn_runs.specs.State.{PlainSetup, PlainEvent, claim_made, claim_completed, PlainEnd, dead, steps_made, fault_end, PlainState, is_held_by, new_claim, PlainCut, MayClaim, MayComplete, Happens, Leads, HasCause, EndsBy}
-use Rattle.cpn_definitions.proofs.Rising.{in_filter_from, contains_from_in}
+use Rattle.cpn_runs.specs.HoleRun.{PlainClaim, is_open, done_prefix}
+use Rattle.cpn_runs.specs.State.{PlainSetup, PlainEvent, claim_made, claim_completed, cut_made, PlainEnd, dead, steps_made, fault_end, PlainState, owed_cut, is_held_by, new_claim, PlainCut, MayClaim, MayComplete, MayCut, Happens, Leads, HasCause, EndsBy}
+use Rattle.cpn_definitions.proofs.RisingLists.{in_filter_from, contains_from_in}
 use Rattle.cpn_runs.proofs.Items.{last_changed, in_from_get}
-use Rattle.cpn_runs.proofs.States.{claim_is_unique, completion_is_unique, closed_status}
+use Rattle.cpn_runs.proofs.Cuts.{AreDone, committed_are_done, done_owe_none, done_is_not_open, done_at, owed_is}
+use Rattle.cpn_runs.proofs.States.{claim_is_unique, completion_is_unique, cut_is_unique, closed_status}
 
 -- no claim is open
 abbrev pub AreClosed : List PlainClaim → Type 0
@@ -32,6 +33,16 @@ pub record IsBusy (state : PlainState) : Type 0 where
   pub closed : AreClosed before
   pub last_open : is_open last.status ≡ true
   pub seat : last.seat ≡ 0
+
+-- After the cut: the claims that stand are all done.
+pub record IsCut (state : PlainState) : Type 0 where
+  pub cut : PlainCut
+  pub stands : state.cut ≡ Some cut
+  pub all_done : AreDone state.claims
+
+-- where a run of one seat is
+abbrev pub IsPhase : PlainState → Type 0
+IsPhase state = IsCalm state ⊎ (IsBusy state ⊎ IsCut state)
 
 clash : (b : Bool) → b ≡ true → b ≡ false → ⊥
 clash b is_true is_false = cc
@@ -164,19 +175,53 @@ pub record IsSameEvent (event event' : PlainEvent) (new new' : PlainState) : Typ
   pub events : event ≡ event'
   pub news : new ≡ new'
 
-calm_same : (setup : PlainSetup) (old : PlainState) (event event' : PlainEvent) (new new' : PlainState) → setup.limits.seats ≡ 1 → IsCalm old → Happens setup old event new → Happens setup old event' new' → IsSameEvent event event' new new' × IsBusy new
+not_owed_and_owed : (owed : Option PlainCut) (cut : PlainCut) → owed ≡ None → owed ≡ Some cut → ⊥
+not_owed_and_owed owed cut none some = cc
+
+-- a cut is determined, and none follows it
+cut_same : (setup : PlainSetup) (old : PlainState) (number number' : ℕ) (new new' : PlainState) → MayCut setup old number new → MayCut setup old number' new' → IsSameEvent (cut_made number) (cut_made number') new new' × IsPhase new
+cut_same setup old number number' new new' a b =
+    let cuts : a.cut ≡ b.cut = same_Some a.cut b.cut (sym a.owed ∙ b.owed) in
+    let numbers : number ≡ number' = a.number_is ∙ ap (λ (c : PlainCut). c.number) cuts ∙ sym b.number_is in
+    let same : MayCut setup old number' new = subst (λ (k : ℕ). MayCut setup old k new) numbers a in
+    let at : number ≡ done_prefix old.claims = a.number_is ∙ (owed_is old.claims a.cut a.owed).number_is in (
+      record { events = ap cut_made numbers; news = cut_is_unique setup old number' new new' same b },
+      subst IsPhase (sym a.new_is) (inr (inr (record { cut = a.cut; stands = refl; all_done = subst (λ (k : ℕ). AreDone (take k old.claims)) (sym at) (committed_are_done old.claims) }))),
+    )
+
+calm_same : (setup : PlainSetup) (old : PlainState) (event event' : PlainEvent) (new new' : PlainState) → setup.limits.seats ≡ 1 → IsCalm old → Happens setup old event new → Happens setup old event' new' → IsSameEvent event event' new new' × IsPhase new
 calm_same setup old (claim_made seat number) (claim_made seat' number') new new' one calm a b =
     let same = claim_is_determined setup old seat number seat' number' new new' one a b in
-    (record { events = ap₂ claim_made same.seats same.numbers; news = same.news }, claim_makes_busy setup old seat number new one calm a)
+    (record { events = ap₂ claim_made same.seats same.numbers; news = same.news }, inr (inl (claim_makes_busy setup old seat number new one calm a)))
 calm_same setup old (claim_made seat number) (claim_completed seat' number') new new' one calm a b = absurd (none_completes_calmly setup old seat' number' new' calm b)
+calm_same setup old (claim_made seat number) (cut_made number') new new' one calm a b = absurd (not_owed_and_owed (owed_cut setup old) b.cut a.none_owed b.owed)
 calm_same setup old (claim_completed seat number) event' new new' one calm a b = absurd (none_completes_calmly setup old seat number new calm a)
+calm_same setup old (cut_made number) (claim_made seat' number') new new' one calm a b = absurd (not_owed_and_owed (owed_cut setup old) a.cut b.none_owed a.owed)
+calm_same setup old (cut_made number) (claim_completed seat' number') new new' one calm a b = absurd (none_completes_calmly setup old seat' number' new' calm b)
+calm_same setup old (cut_made number) (cut_made number') new new' one calm a b = cut_same setup old number number' new new' a b
 
-busy_same : (setup : PlainSetup) (old : PlainState) (event event' : PlainEvent) (new new' : PlainState) → setup.limits.seats ≡ 1 → IsBusy old → Happens setup old event new → Happens setup old event' new' → IsSameEvent event event' new new' × IsCalm new
+busy_same : (setup : PlainSetup) (old : PlainState) (event event' : PlainEvent) (new new' : PlainState) → setup.limits.seats ≡ 1 → IsBusy old → Happens setup old event new → Happens setup old event' new' → IsSameEvent event event' new new' × IsPhase new
 busy_same setup old (claim_completed seat number) (claim_completed seat' number') new new' one busy a b =
     let same = completion_is_determined setup old seat number seat' number' new new' busy a b in
-    (record { events = ap₂ claim_completed same.seats same.numbers; news = same.news }, completion_makes_calm setup old seat number new busy a)
+    (record { events = ap₂ claim_completed same.seats same.numbers; news = same.news }, inl (completion_makes_calm setup old seat number new busy a))
 busy_same setup old (claim_completed seat number) (claim_made seat' number') new new' one busy a b = absurd (none_claims_busily setup old seat' number' new' one busy b)
+busy_same setup old (claim_completed seat number) (cut_made number') new new' one busy a b = absurd (not_owed_and_owed (owed_cut setup old) b.cut a.none_owed b.owed)
 busy_same setup old (claim_made seat number) event' new new' one busy a b = absurd (none_claims_busily setup old seat number new one busy a)
+busy_same setup old (cut_made number) (claim_made seat' number') new new' one busy a b = absurd (none_claims_busily setup old seat' number' new' one busy b)
+busy_same setup old (cut_made number) (claim_completed seat' number') new new' one busy a b = absurd (not_owed_and_owed (owed_cut setup old) a.cut b.none_owed a.owed)
+busy_same setup old (cut_made number) (cut_made number') new new' one busy a b = cut_same setup old number number' new new' a b
+
+-- after the cut nothing happens
+none_after_cut : (setup : PlainSetup) (old : PlainState) (event : PlainEvent) (new : PlainState) → IsCut old → Happens setup old event new → ⊥
+none_after_cut setup old (claim_made seat number) new over a = not_owed_and_owed old.cut over.cut a.no_cut over.stands
+none_after_cut setup old (claim_completed seat number) new over a =
+    clash (is_open a.held_claim.status) (held_is_open seat a.held_claim a.held).0 (done_is_not_open a.held_claim.status (done_at old.claims number a.held_claim over.all_done a.claim_is))
+none_after_cut setup old (cut_made number) new over a = not_owed_and_owed (owed_cut setup old) a.cut (done_owe_none old.claims over.all_done) a.owed
+
+one_event : (setup : PlainSetup) (old : PlainState) (event event' : PlainEvent) (new new' : PlainState) → setup.limits.seats ≡ 1 → IsPhase old → Happens setup old event new → Happens setup old event' new' → IsSameEvent event event' new new' × IsPhase new
+one_event setup old event event' new new' one (inl calm) a b = calm_same setup old event event' new new' one calm a b
+one_event setup old event event' new new' one (inr (inl busy)) a b = busy_same setup old event event' new new' one busy a b
+one_event setup old event event' new new' one (inr (inr over)) a b = absurd (none_after_cut setup old event new over a)
 
 open_is_found : (before : List PlainClaim) (last : PlainClaim) → is_open last.status ≡ true → list_any (λ claim. is_open claim.status) (before ++ last ∷ []) ≡ true
 open_is_found [] last opened = rw opened refl
@@ -201,7 +246,7 @@ calm_cause setup state cause calm ends =
 -- what a claim draws is covered at some time
 drawn_covered : (setup : PlainSetup) (old : PlainState) (seat number : ℕ) (new : PlainState) (c : MayClaim setup old seat number new) → covered setup.net c.marking c.drawn.earliest c.drawn.element ≡ true
 drawn_covered setup old seat number new c =
-    ((c.enabled.exact c.drawn).0 (contains_from_in c.entries c.drawn (in_filter_from _ c.entries c.drawn (in_from_get (ready old.clock c.entries) _ c.drawn c.drawn_is.position)).0)).is_covered
+    ((c.enabled.exact c.drawn).0 (contains_from_in c.entries c.drawn (in_filter_from _ c.entries c.drawn (in_from_get (ready old.clock c.entries) _ c.drawn c.drawn_is)).0)).is_covered
 
 no_claim_at_end : (setup : PlainSetup) (state : PlainState) (cause : PlainEnd) (seat number : ℕ) (new : PlainState) → HasCause setup state cause → MayClaim setup state seat number new → ⊥
 no_claim_at_end setup state steps_made seat number new has c =
@@ -215,12 +260,18 @@ no_claim_at_end setup state dead seat number new has c =
     clash (covered setup.net has.1.0 c.drawn.earliest c.drawn.element) (subst P same (drawn_covered setup state seat number new c)) (has.1.2 c.drawn.earliest c.drawn.element)
 no_claim_at_end setup state (fault_end e fault) seat number new has c = has
 
--- a calm state that has an end has no event
-pub end_has_no_event : (setup : PlainSetup) (state : PlainState) (cause : PlainEnd) (event : PlainEvent) (new : PlainState) → IsCalm state → EndsBy setup state cause → Happens setup state event new → ⊥
-end_has_no_event setup state cause (claim_made seat number) new calm ends happens = no_claim_at_end setup state cause seat number new (calm_cause setup state cause calm ends) happens
-end_has_no_event setup state cause (claim_completed seat number) new calm ends happens = none_completes_calmly setup state seat number new calm happens
+-- a state that has an end has no event
+calm_end_has_no_event : (setup : PlainSetup) (state : PlainState) (cause : PlainEnd) (event : PlainEvent) (new : PlainState) → IsCalm state → EndsBy setup state cause → Happens setup state event new → ⊥
+calm_end_has_no_event setup state cause (claim_made seat number) new calm ends happens = no_claim_at_end setup state cause seat number new (calm_cause setup state cause calm ends) happens
+calm_end_has_no_event setup state cause (claim_completed seat number) new calm ends happens = none_completes_calmly setup state seat number new calm happens
+calm_end_has_no_event setup state cause (cut_made number) new calm ends happens = not_owed_and_owed (owed_cut setup state) happens.cut ends.none_owed happens.owed
 
--- Two journals that have an end, from one calm or busy state with one seat, are the same and lead to the same state.
+pub end_has_no_event : (setup : PlainSetup) (state : PlainState) (cause : PlainEnd) (event : PlainEvent) (new : PlainState) → IsPhase state → EndsBy setup state cause → Happens setup state event new → ⊥
+end_has_no_event setup state cause event new (inl calm) ends happens = calm_end_has_no_event setup state cause event new calm ends happens
+end_has_no_event setup state cause event new (inr (inl busy)) ends happens = busy_has_no_end setup state cause busy ends
+end_has_no_event setup state cause event new (inr (inr over)) ends happens = none_after_cut setup state event new over happens
+
+-- Two journals that have an end, from one state of a run of one seat, are the same and lead to the same state.
 pub record IsSameEnd (journal journal' : List PlainEvent) (state state' : PlainState) : Type 0 where
   pub journals : journal ≡ journal'
   pub states : state ≡ state'
@@ -228,22 +279,12 @@ pub record IsSameEnd (journal journal' : List PlainEvent) (state state' : PlainS
 moved_ends : (setup : PlainSetup) (old state : PlainState) (cause : PlainEnd) → state ≡ old → EndsBy setup state cause → EndsBy setup old cause
 moved_ends setup old state cause same ends = let P : PlainState → Type 0 = λ s. EndsBy setup s cause in subst P same ends
 
-mutual
-  pub calm_journal : (setup : PlainSetup) (old : PlainState) (J J' : List PlainEvent) (s s' : PlainState) (cause cause' : PlainEnd) → setup.limits.seats ≡ 1 → IsCalm old → Leads setup old J s → EndsBy setup s cause → Leads setup old J' s' → EndsBy setup s' cause' → IsSameEnd J J' s s'
-  calm_journal setup old [] [] s s' cause cause' one calm a ends b ends' = record { journals = refl; states = a ∙ sym b }
-  calm_journal setup old [] (event ∷ J') s s' cause cause' one calm a ends b ends' = absurd (end_has_no_event setup old cause event b.0 calm (moved_ends setup old s cause a ends) b.1)
-  calm_journal setup old (event ∷ J) [] s s' cause cause' one calm a ends b ends' = absurd (end_has_no_event setup old cause' event a.0 calm (moved_ends setup old s' cause' b ends') a.1)
-  calm_journal setup old (event ∷ J) (event' ∷ J') s s' cause cause' one calm a ends b ends' =
-      let same = calm_same setup old event event' a.0 b.0 one calm a.1 b.1 in
-      let P : PlainState → Type 0 = λ mid. Leads setup mid J' s' in
-      let rest = busy_journal setup a.0 J J' s s' cause cause' one same.1 a.2 ends (subst P (sym same.0.news) b.2) ends' in
-      record { journals = ap₂ (λ e es. e ∷ es) same.0.events rest.journals; states = rest.states }
-
-  pub busy_journal : (setup : PlainSetup) (old : PlainState) (J J' : List PlainEvent) (s s' : PlainState) (cause cause' : PlainEnd) → setup.limits.seats ≡ 1 → IsBusy old → Leads setup old J s → EndsBy setup s cause → Leads setup old J' s' → EndsBy setup s' cause' → IsSameEnd J J' s s'
-  busy_journal setup old [] J' s s' cause cause' one busy a ends b ends' = absurd (busy_has_no_end setup old cause busy (moved_ends setup old s cause a ends))
-  busy_journal setup old (event ∷ J) [] s s' cause cause' one busy a ends b ends' = absurd (busy_has_no_end setup old cause' busy (moved_ends setup old s' cause' b ends'))
-  busy_journal setup old (event ∷ J) (event' ∷ J') s s' cause cause' one busy a ends b ends' =
-      let same = busy_same setup old event event' a.0 b.0 one busy a.1 b.1 in
-      let P : PlainState → Type 0 = λ mid. Leads setup mid J' s' in
-      let rest = calm_journal setup a.0 J J' s s' cause cause' one same.1 a.2 ends (subst P (sym same.0.news) b.2) ends' in
-      record { journals = ap₂ (λ e es. e ∷ es) same.0.events rest.journals; states = rest.states }
+pub same_journal : (setup : PlainSetup) (old : PlainState) (J J' : List PlainEvent) (s s' : PlainState) (cause cause' : PlainEnd) → setup.limits.seats ≡ 1 → IsPhase old → Leads setup old J s → EndsBy setup s cause → Leads setup old J' s' → EndsBy setup s' cause' → IsSameEnd J J' s s'
+same_journal setup old [] [] s s' cause cause' one phase a ends b ends' = record { journals = refl; states = a ∙ sym b }
+same_journal setup old [] (event ∷ J') s s' cause cause' one phase a ends b ends' = absurd (end_has_no_event setup old cause event b.0 phase (moved_ends setup old s cause a ends) b.1)
+same_journal setup old (event ∷ J) [] s s' cause cause' one phase a ends b ends' = absurd (end_has_no_event setup old cause' event a.0 phase (moved_ends setup old s' cause' b ends') a.1)
+same_journal setup old (event ∷ J) (event' ∷ J') s s' cause cause' one phase a ends b ends' =
+    let same = one_event setup old event event' a.0 b.0 one phase a.1 b.1 in
+    let P : PlainState → Type 0 = λ mid. Leads setup mid J' s' in
+    let rest = same_journal setup a.0 J J' s s' cause cause' one same.1 a.2 ends (subst P (sym same.0.news) b.2) ends' in
+    record { journals = ap₂ (λ e es. e ∷ es) same.0.events rest.journals; states = rest.states }

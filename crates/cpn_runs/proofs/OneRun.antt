@@ -1,5 +1,5 @@
 -- With one seat a setup has one run.
-use Rattle.std.proofs.Common.{◌≡◌, ℕ, List, length, Some, None, Option, refl, sym, ap, ◌∙◌, subst}
+use Rattle.std.proofs.Common.{◌≡◌, ℕ, List, length, Some, None, Option, refl, sym, ap, ◌∙◌, subst, inl}
 use Rattle.std.specs.Option.{MatchOption}
 use Rattle.std.proofs.Math.Path.{ap₂}
 use Rattle.std.proofs.lemmas.Option.{same_Some}
@@ -7,14 +7,13 @@ use Rattle.cpn_definitions.specs.Marking.{Marking}
 use Rattle.cpn_definitions.specs.Enabled.{ready, next_time}
 use Rattle.cpn_runs.specs.State.{PlainSetup, PlainEvent, PlainEnd, dead, steps_made, fault_end, PlainCut, PlainState, first_state, IsState, HasCause, EndsBy, committed_occurrences, settled_in}
 use Rattle.cpn_runs.specs.Run.{PlainFinished, IsRun, Outlook, HasOutlook}
-use Rattle.cpn_definitions.proofs.Unique.{enabled_is_unique}
-use Rattle.cpn_runs.proofs.States.{every_state}
-use Rattle.cpn_runs.proofs.OneJournal.{IsSameEnd, calm_journal}
+use Rattle.cpn_definitions.proofs.OneEnabledList.{enabled_is_unique}
+use Rattle.cpn_runs.proofs.OneJournal.{IsSameEnd, same_journal}
 
 -- with one seat there is at most one journal that has an end, and it leads to one state
 pub one_journal : (setup : PlainSetup) (J J' : List PlainEvent) (s s' : PlainState) (cause cause' : PlainEnd) → setup.limits.seats ≡ 1 → IsState setup J s → EndsBy setup s cause → IsState setup J' s' → EndsBy setup s' cause' → IsSameEnd J J' s s'
 one_journal setup J J' s s' cause cause' one a ends b ends' =
-    calm_journal setup (first_state setup) J J' s s' cause cause' one (record { no_cut = refl; closed = refl }) a ends b ends'
+    same_journal setup (first_state setup) J J' s s' cause cause' one (inl (record { no_cut = refl; closed = refl })) a ends b ends'
 
 -- a run without a cut has one cause
 one_cause : (setup : PlainSetup) (s : PlainState) (c c' : PlainEnd) → HasCause setup s c → HasCause setup s c' → c ≡ c'
@@ -26,10 +25,13 @@ one_cause setup s (fault_end e f) c' has has' = absurd has
 one_cause setup s steps_made (fault_end e f) has has' = absurd has'
 one_cause setup s dead (fault_end e f) has has' = absurd has'
 
-end_cause : (setup : PlainSetup) (s : PlainState) (cause : PlainEnd) → s.cut ≡ None → EndsBy setup s cause → HasCause setup s cause
-end_cause setup s cause no_cut ends =
-    let P : Option PlainCut → Type 0 = λ cut. MatchOption cut (HasCause setup s cause) (λ c. cause ≡ c.cause) in
-    subst P no_cut ends.has_cause
+-- and so has each run, with a cut or without
+one_end : (setup : PlainSetup) (s : PlainState) (c c' : PlainEnd) → EndsBy setup s c → EndsBy setup s c' → c ≡ c'
+one_end setup s c c' ends ends' = by s.cut ends.has_cause ends'.has_cause
+  where
+    by : (cut : Option PlainCut) → MatchOption cut (HasCause setup s c) (λ k. c ≡ k.cause) → MatchOption cut (HasCause setup s c') (λ k. c' ≡ k.cause) → c ≡ c'
+    by None has has' = one_cause setup s c c' has has'
+    by (Some cut) is is' = is ∙ sym is'
 
 -- a marking at a clock has one outlook
 pub one_outlook : (setup : PlainSetup) (m : Marking) (clock : ℕ) (o o' : Outlook) → HasOutlook setup m clock o → HasOutlook setup m clock o' → o ≡ o'
@@ -51,8 +53,7 @@ one_run setup r r' one a b =
     let same = one_journal setup r.journal r'.journal a.state b.state r.cause r'.cause one a.reached a.ends b.reached b.ends in
     let P : PlainState → Type 0 = λ s. EndsBy setup s r.cause in
     let ends : EndsBy setup b.state r.cause = subst P same.states a.ends in
-    let no_cut : b.state.cut ≡ None = (every_state setup r'.journal b.state b.reached).no_cut in
-    let causes : r.cause ≡ r'.cause = one_cause setup b.state r.cause r'.cause (end_cause setup b.state r.cause no_cut ends) (end_cause setup b.state r'.cause no_cut b.ends) in
+    let causes : r.cause ≡ r'.cause = one_end setup b.state r.cause r'.cause ends b.ends in
     let Q : PlainState → Type 0 = λ s. settled_in setup s ≡ Some r.marking in
     let markings : r.marking ≡ r'.marking = same_Some r.marking r'.marking (sym (subst Q same.states a.marking_is) ∙ b.marking_is) in
     let clocks : r.clock ≡ r'.clock = a.clock_is ∙ ap (λ (s : PlainState). s.clock) same.states ∙ sym b.clock_is in

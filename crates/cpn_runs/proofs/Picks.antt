@@ -13,11 +13,11 @@ use Rattle.cpn_definitions.specs.ValueOrder.{same_value_true}
 use Rattle.cpn_definitions.specs.Lists.{IsInOrder}
 use Rattle.cpn_definitions.specs.Marking.{Marking, tokens_at, on_place, without_token, stamps, covers, begins_by, without_latest, less}
 use Rattle.cpn_definitions.specs.Occurrence.{Needed, needed_cmp, threshold, are_covered, subtract}
-use Rattle.cpn_definitions.proofs.InOrder.{added_either_way}
+use Rattle.cpn_definitions.proofs.OrderedLists.{added_either_way}
 use Rattle.cpn_definitions.proofs.Stamps.{IsAtMostEach, AreRising, stamps_rise}
 use Rattle.cpn_definitions.proofs.Subtraction.{AllAreSorted, is_for, thresholds_for, sorted_without, taken, subtract_is_less}
 use Rattle.cpn_definitions.proofs.Addition.{with_stamp, with_stamps}
-use Rattle.cpn_definitions.proofs.Richer.{without_rising, covers_first, covered_in_turn}
+use Rattle.cpn_definitions.proofs.RicherMarkings.{without_rising, covers_first, covered_in_turn}
 use Rattle.cpn_runs.specs.HoleRun.{PlainClaim, PlainPick, PlainHoleRun, latest_stamp, pick_of, picks_of, after_claim, hole_run}
 use Rattle.cpn_runs.proofs.Sequences.{run_on}
 

@@ -1,20 +1,24 @@
--- A run of one seat, each claim being completed before the next: it is under way at its start, and stays so with each round.
-use Rattle.std.proofs.Common.{◌≡◌, ℕ, suc, ◌+◌, true, false, List, [], ◌∷◌, ◌++◌, length, map, take, Some, None, Option, refl, sym, ap, ◌∙◌, subst, inl, arith, slice_get, zero-add}
+-- A run of one seat, each claim being completed before the next: it is under way at its start, and stays so with each round;
+-- a round with a fault ends with a cut.
+use Rattle.std.proofs.Common.{◌≡◌, ℕ, suc, ◌+◌, true, false, List, [], ◌∷◌, ◌++◌, length, map, take, Some, None, refl, sym, ap, ◌∙◌, subst, inl, arith, slice_get, zero-add}
 use Rattle.std.proofs.Math.Path.{ap₂}
+use Rattle.std.proofs.Math.Seq.{take-append_seam}
 use Rattle.std.specs.List.{list_any}
 use Rattle.cpn_definitions.specs.Marking.{Marking}
 use Rattle.cpn_definitions.specs.Net.{PlainNet}
+use Rattle.cpn_definitions.specs.Outcome.{Fault}
 use Rattle.cpn_definitions.specs.Occurrence.{PlainElement, Made, threshold, needs_of, subtract}
 use Rattle.cpn_definitions.specs.Legal.{TimedElement, Legal}
 use Rattle.cpn_definitions.specs.Enabled.{PlainEntry}
 use Rattle.cpn_definitions.specs.Sound.{IsStamped}
 use Rattle.cpn_definitions.proofs.UntimedPlaces.{stamped_subtracted, stamped_added, outputs_stamped}
 use Rattle.cpn_runs.specs.HoleRun.{PlainClaim, Status, open_claim, done_with, faulted_with, marking_left, is_open, is_done, done_prefix}
-use Rattle.cpn_runs.specs.State.{PlainSetup, PlainEvent, claim_made, claim_completed, PlainCut, PlainState, PlainOccurrence, first_state, cut_by, cut_at, is_held_by, given_needs, new_claim, MayClaim, MayComplete, Leads, timed, numbered}
-use Rattle.cpn_runs.specs.Rounds.{given_outputs, done_claim, done_claims, state_with, IsUnderWay, IsRound, next_occurrence, marking_after}
+use Rattle.cpn_runs.specs.State.{PlainSetup, PlainEvent, claim_made, claim_completed, cut_made, fault_end, PlainCut, PlainState, PlainOccurrence, first_state, cut_by, is_held_by, given_needs, new_claim, MayClaim, MayComplete, MayCut, Leads, IsState, timed, numbered}
+use Rattle.cpn_runs.specs.Rounds.{given_outputs, done_claim, done_claims, state_with, IsUnderWay, IsClaimed, IsRound, IsFaultyRound, next_occurrence, marking_after, faulted_journal}
 use Rattle.cpn_runs.proofs.Items.{last_is_at, last_changed_at, map_more}
+use Rattle.cpn_runs.proofs.Cuts.{no_cut_at_any, cut_of, AreDone, done_owe_none, done_are_closed, fault_owes}
 use Rattle.cpn_runs.proofs.Sequences.{legal_more, marking_left_more}
-use Rattle.cpn_runs.proofs.Covered.{covered_needs, after_is, least_now}
+use Rattle.cpn_runs.proofs.CoveredElements.{covered_needs, after_is, least_now}
 
 -- events go on from where other events led
 pub leads_more : (setup : PlainSetup) (old : PlainState) (events more : List PlainEvent) (mid new : PlainState) → Leads setup old events mid → Leads setup mid more new → Leads setup old (events ++ more) new
@@ -23,28 +27,16 @@ leads_more setup old (event ∷ events) more mid new first second = (first.0, fi
 
 -- ---- claims that are all done
 
--- whether a claim makes a cut owed doesn't depend on its number
-pub no_cut_at_any : (j k : ℕ) (claim : Option PlainClaim) → cut_at j claim ≡ None → cut_at k claim ≡ None
-no_cut_at_any j k None none = refl
-no_cut_at_any j k (Some claim) none = by_status claim.status none
-  where
-    by_status : (status : Status) → cut_by j claim.element status ≡ None → cut_by k claim.element status ≡ None
-    by_status open_claim is = refl
-    by_status (done_with outputs) is = refl
-    by_status (faulted_with fault) is = cc
+-- the claims of occurrences are all done: they make no cut owed; none is open or held, and all are committed
+pub all_done : (n : PlainNet) (os : List PlainOccurrence) → AreDone (done_claims n os)
+all_done n [] = tt
+all_done n (o ∷ os) = (refl, all_done n os)
 
--- the cut that claims make owed
-abbrev cut_of : List PlainClaim → Option PlainCut
-cut_of claims = cut_at (done_prefix claims) (slice_get claims (done_prefix claims))
-
--- claims that are all done make no cut owed; none is open or held, and all are committed
 pub done_owe_no_cut : (n : PlainNet) (os : List PlainOccurrence) → cut_of (done_claims n os) ≡ None
-done_owe_no_cut n [] = refl
-done_owe_no_cut n (o ∷ os) = no_cut_at_any (done_prefix (done_claims n os)) (suc (done_prefix (done_claims n os))) (slice_get (done_claims n os) (done_prefix (done_claims n os))) (done_owe_no_cut n os)
+done_owe_no_cut n os = done_owe_none (done_claims n os) (all_done n os)
 
 pub done_are_not_open : (n : PlainNet) (os : List PlainOccurrence) → list_any (λ claim. is_open claim.status) (done_claims n os) ≡ false
-done_are_not_open n [] = refl
-done_are_not_open n (o ∷ os) = done_are_not_open n os
+done_are_not_open n os = done_are_closed (done_claims n os) (all_done n os)
 
 pub done_are_not_held : (n : PlainNet) (seat : ℕ) (os : List PlainOccurrence) → list_any (is_held_by seat) (done_claims n os) ≡ false
 done_are_not_held n seat [] = refl
@@ -104,22 +96,22 @@ claims_are setup os marking drawn outputs round =
 abbrev within : PlainSetup → List PlainOccurrence → PlainElement → PlainState
 within setup os e = record { clock = setup.clock; claims = done_claims setup.net os ++ new_claim setup.net 0 setup.clock e ∷ []; cut = None }
 
-claims_it : (setup : PlainSetup) (os : List PlainOccurrence) (marking : Marking) (drawn : PlainEntry) (outputs : List Made)
-    → marking_left setup.start (done_claims setup.net os) ≡ Some marking → IsRound setup os marking drawn outputs
+claims_it : (setup : PlainSetup) (os : List PlainOccurrence) (marking : Marking) (drawn : PlainEntry)
+    → marking_left setup.start (done_claims setup.net os) ≡ Some marking → IsClaimed setup os marking drawn
     → MayClaim setup (state_with setup os) 0 (length os) (within setup os drawn.element)
-claims_it setup os marking drawn outputs marking_is round = record {
+claims_it setup os marking drawn marking_is claimed = record {
   no_cut = refl;
   none_owed = done_owe_no_cut setup.net os;
   next_number = sym (length_done setup.net os);
-  below_limit = round.below_limit;
-  seat_known = round.has_seat;
+  below_limit = claimed.below_limit;
+  seat_known = claimed.has_seat;
   seat_free = done_are_not_held setup.net 0 os;
   marking = marking;
   marking_is = marking_is;
-  entries = round.entries;
-  enabled = round.enabled;
+  entries = claimed.entries;
+  enabled = claimed.enabled;
   drawn = drawn;
-  drawn_is = round.drawn_is;
+  drawn_is = claimed.drawn_is;
   new_is = refl;
 }
 
@@ -151,7 +143,7 @@ left_after : (setup : PlainSetup) (os : List PlainOccurrence) (marking : Marking
     → marking_left setup.start (done_claims setup.net (os ++ next_occurrence setup os drawn.element ∷ [])) ≡ Some (marking_after setup marking drawn.element outputs)
 left_after setup os marking drawn outputs marking_is stamped round =
     ap (marking_left setup.start) (claims_are setup os marking drawn outputs round)
-    ∙ marking_left_more setup.start (done_claims setup.net os) (completed_claim setup drawn.element outputs) marking marking_is (covered_needs setup.net marking setup.clock drawn.element stamped round.is_covered)
+    ∙ marking_left_more setup.start (done_claims setup.net os) (completed_claim setup drawn.element outputs) marking marking_is (covered_needs setup.net marking setup.clock drawn.element stamped round.claimed.is_covered)
 
 stamped_after : (setup : PlainSetup) (os : List PlainOccurrence) (marking : Marking) (drawn : PlainEntry) (outputs : List Made) → IsStamped setup.net marking → IsRound setup os marking drawn outputs
     → IsStamped setup.net (marking_after setup marking drawn.element outputs)
@@ -166,8 +158,14 @@ legal_after setup os marking drawn outputs legal stamped round =
     let next = marking_after setup marking drawn.element outputs in
     let P : List TimedElement → Type 0 = λ h. Legal setup.net setup.start setup.clock h next setup.clock in
     subst P (sym (map_more timed os (next_occurrence setup os drawn.element)))
-    (legal_more setup.net setup.start setup.clock (map timed os) marking setup.clock (timed (next_occurrence setup os drawn.element)) next legal (least_now setup.net marking setup.clock drawn.element round.is_covered) round.is_covered
-    (after_is setup.net marking setup.clock drawn.element outputs stamped round.is_covered round.outputs_are))
+    (legal_more setup.net setup.start setup.clock (map timed os) marking setup.clock (timed (next_occurrence setup os drawn.element)) next legal (least_now setup.net marking setup.clock drawn.element round.claimed.is_covered) round.claimed.is_covered
+    (after_is setup.net marking setup.clock drawn.element outputs stamped round.claimed.is_covered round.outputs_are))
+
+-- the journal of a run under way, with the claim of the next round
+leads_within : (setup : PlainSetup) (journal : List PlainEvent) (os : List PlainOccurrence) (marking : Marking) (drawn : PlainEntry) → IsUnderWay setup journal os marking → IsClaimed setup os marking drawn
+    → Leads setup (first_state setup) (journal ++ claim_made 0 (length os) ∷ []) (within setup os drawn.element)
+leads_within setup journal os marking drawn way claimed =
+    leads_more setup (first_state setup) journal (claim_made 0 (length os) ∷ []) (state_with setup os) (within setup os drawn.element) way.reached (within setup os drawn.element, claims_it setup os marking drawn way.marking_is claimed, refl)
 
 -- A run under way stays so with one round more: the journal has a claim and its completion more, the occurrences one more,
 -- and the marking is the one after the round.
@@ -177,10 +175,67 @@ pub round_more : (setup : PlainSetup) (journal : List PlainEvent) (os : List Pla
 round_more setup journal os marking drawn outputs way round = record {
   reached =
       leads_more setup (first_state setup) (journal ++ claim_made 0 (length os) ∷ []) (claim_completed 0 (length os) ∷ []) (within setup os drawn.element) (state_with setup (os ++ next_occurrence setup os drawn.element ∷ []))
-      (leads_more setup (first_state setup) journal (claim_made 0 (length os) ∷ []) (state_with setup os) (within setup os drawn.element) way.reached (within setup os drawn.element, claims_it setup os marking drawn outputs way.marking_is round, refl))
+      (leads_within setup journal os marking drawn way round.claimed)
       (state_with setup (os ++ next_occurrence setup os drawn.element ∷ []), completes_it setup os marking drawn outputs round, refl);
   numbers = numbers_after setup os marking drawn outputs way.numbers round;
   marking_is = left_after setup os marking drawn outputs way.marking_is way.stamped round;
   stamped = stamped_after setup os marking drawn outputs way.stamped round;
   legal = legal_after setup os marking drawn outputs way.legal way.stamped round;
 }
+
+-- ---- a round with a fault
+
+-- the claim of a round, done with a fault
+abbrev faulted_claim : PlainSetup → PlainElement → Fault → PlainClaim
+faulted_claim setup e fault = record (new_claim setup.net 0 setup.clock e) { status = faulted_with fault }
+
+-- the state in which its cut is owed
+abbrev owing : PlainSetup → List PlainOccurrence → PlainElement → Fault → PlainState
+owing setup os e fault = record { clock = setup.clock; claims = done_claims setup.net os ++ faulted_claim setup e fault ∷ []; cut = None }
+
+-- the cut, and the state after it
+abbrev pub cut_for : List PlainOccurrence → PlainElement → Fault → PlainCut
+cut_for os e fault = record { number = length os; cause = fault_end e fault }
+
+abbrev pub cut_with : PlainSetup → List PlainOccurrence → PlainElement → Fault → PlainState
+cut_with setup os e fault = record { clock = setup.clock; claims = done_claims setup.net os; cut = Some (cut_for os e fault) }
+
+faults_it : (setup : PlainSetup) (os : List PlainOccurrence) (marking : Marking) (drawn : PlainEntry) (fault : Fault) → IsFaultyRound setup os marking drawn fault
+    → MayComplete setup (within setup os drawn.element) 0 (length os) (owing setup os drawn.element fault)
+faults_it setup os marking drawn fault round =
+    let claim = new_claim setup.net 0 setup.clock drawn.element in
+    let cs = done_claims setup.net os in
+    record {
+      none_owed = open_owes_no_cut setup.net os claim refl;
+      held_claim = claim;
+      claim_is = last_is_at cs (length os) claim (length_done setup.net os);
+      held = refl;
+      status = faulted_with fault;
+      status_is = rw round.fault_is refl;
+      new_is = ap (λ claims. record { clock = setup.clock; claims = claims; cut = None }) (sym (last_changed_at cs (length os) claim (faulted_claim setup drawn.element fault) (length_done setup.net os)));
+    }
+
+cuts_it : (setup : PlainSetup) (os : List PlainOccurrence) (e : PlainElement) (fault : Fault) → MayCut setup (owing setup os e fault) (length os) (cut_with setup os e fault)
+cuts_it setup os e fault =
+    let cs = done_claims setup.net os in
+    let claim = faulted_claim setup e fault in
+    let same : length cs ≡ length os = length_done setup.net os in
+    record {
+      cut = cut_for os e fault;
+      owed = fault_owes cs claim fault (all_done setup.net os) refl ∙ ap (λ (k : ℕ). Some (record { number = k; cause = fault_end e fault })) same;
+      number_is = refl;
+      new_is = ap (λ claims. record { clock = setup.clock; claims = claims; cut = Some (cut_for os e fault) }) (sym (ap (λ (k : ℕ). take k (cs ++ claim ∷ [])) (sym same) ∙ take-append_seam cs (claim ∷ [])));
+    }
+
+-- A round with a fault has three events: the claim, its completion, and the cut, which leaves the claims as they were before
+-- the round.
+pub faulted : (setup : PlainSetup) (journal : List PlainEvent) (os : List PlainOccurrence) (marking : Marking) (drawn : PlainEntry) (fault : Fault)
+    → IsUnderWay setup journal os marking → IsFaultyRound setup os marking drawn fault
+    → IsState setup (faulted_journal journal os) (cut_with setup os drawn.element fault)
+faulted setup journal os marking drawn fault way round =
+    let number = length os in
+    let owes = owing setup os drawn.element fault in
+    let last = cut_with setup os drawn.element fault in
+    leads_more setup (first_state setup) ((journal ++ claim_made 0 number ∷ []) ++ claim_completed 0 number ∷ []) (cut_made number ∷ []) owes last
+    (leads_more setup (first_state setup) (journal ++ claim_made 0 number ∷ []) (claim_completed 0 number ∷ []) (within setup os drawn.element) owes (leads_within setup journal os marking drawn way round.claimed) (owes, faults_it setup os marking drawn fault round, refl))
+    (last, cuts_it setup os drawn.element fault, refl)

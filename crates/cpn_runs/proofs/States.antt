@@ -1,21 +1,23 @@
 -- The states of a run, for any number of seats: a journal leads to one state; what holds in each state that a journal allows;
 -- and where nothing happens and nothing ends.
-use Rattle.std.proofs.Common.{◌≡◌, ℕ, suc, ◌+◌, ◌<◌, ◌≤◌, ◌==◌, ◌⊎◌, Bool, true, false, ◌&&◌, ◌||◌, cond, List, [], ◌∷◌, ◌++◌, length, map, append_assoc, length-append, Some, None, Option, refl, sym, ap, ◌∙◌, subst, inl, inr, arith, slice_set, eqb-true, count_by}
+use Rattle.std.proofs.Common.{◌≡◌, ℕ, suc, ◌+◌, ◌<◌, ◌≤◌, ◌==◌, ◌⊎◌, Bool, true, false, ◌&&◌, ◌||◌, cond, List, [], ◌∷◌, ◌++◌, length, map, take, drop, append_assoc, length-append, Some, None, Option, refl, sym, ap, ◌∙◌, subst, inl, inr, arith, slice_set, eqb-true, count_by}
 use Rattle.std.specs.List.{list_any, AllByRecursion}
 use Rattle.std.specs.Option.{MatchOption}
 use Rattle.std.proofs.Math.Path.{ap₂}
 use Rattle.std.proofs.lemmas.Bool.{and_parts}
 use Rattle.std.proofs.lemmas.Option.{same_Some}
+use Rattle.std.proofs.lemmas.List.{take-append-drop}
 use Rattle.std.proofs.lemmas.List.Sums.{sum_by-cons, sum_by-append}
 use Rattle.cpn_definitions.specs.Marking.{Marking}
-use Rattle.cpn_definitions.specs.Meaning.{Outcome, gives, faults, no_meaning}
+use Rattle.cpn_definitions.specs.Outcome.{Fault, Outcome, gives, faults, no_meaning}
 use Rattle.cpn_definitions.specs.Occurrence.{Made, covered, needs_of, outputs_of}
 use Rattle.cpn_definitions.specs.Enabled.{PlainEntry, Enabled, ready}
-use Rattle.cpn_definitions.proofs.Rising.{in_filter_from, contains_from_in}
-use Rattle.cpn_definitions.proofs.Unique.{enabled_is_unique}
-use Rattle.cpn_runs.specs.HoleRun.{PlainClaim, Status, done_with, faulted_with, is_open}
-use Rattle.cpn_runs.specs.State.{PlainSetup, PlainEvent, claim_made, claim_completed, PlainEnd, PlainCut, PlainState, first_state, owed_cut, is_held_by, given_needs, new_claim, status_after, IsDrawn, MayClaim, MayComplete, Happens, Leads, IsState, HasCause, EndsBy}
+use Rattle.cpn_definitions.proofs.RisingLists.{in_filter_from, contains_from_in}
+use Rattle.cpn_definitions.proofs.OneEnabledList.{enabled_is_unique}
+use Rattle.cpn_runs.specs.HoleRun.{PlainClaim, Status, done_with, faulted_with, is_open, done_prefix}
+use Rattle.cpn_runs.specs.State.{PlainSetup, PlainEvent, claim_made, claim_completed, cut_made, PlainEnd, fault_end, PlainCut, PlainState, first_state, owed_cut, is_held_by, given_needs, new_claim, status_after, IsDrawn, MayClaim, MayComplete, MayCut, Happens, Leads, IsState, HasCause, EndsBy}
 use Rattle.cpn_runs.proofs.Items.{IsSplit, split_at, in_from_get, map_more, all_joined, all_parts}
+use Rattle.cpn_runs.proofs.Cuts.{AreDone, committed_are_done, as_many_are_committed, done_owe_none, done_is_not_open, done_at, fewer_first, IsOwed, owed_is}
 
 -- ---- one state
 
@@ -23,7 +25,7 @@ drawn_is_unique : (seed k : ℕ) (xs ys : List PlainEntry) (x y : PlainEntry) �
 drawn_is_unique seed k xs ys x y same first second =
     let P : List PlainEntry → Type 0 = λ zs. IsDrawn seed k zs x in
     let moved : IsDrawn seed k ys x = subst P same first in
-    same_Some x y (sym moved.position ∙ second.position)
+    same_Some x y (sym moved ∙ second)
 
 -- a claim of a seat leads to one state
 pub claim_is_unique : (setup : PlainSetup) (old : PlainState) (seat number : ℕ) (new new' : PlainState) → MayClaim setup old seat number new → MayClaim setup old seat number new' → new ≡ new'
@@ -42,9 +44,16 @@ completion_is_unique setup old seat number new new' a b =
     let statuses : a.status ≡ b.status = same_Some a.status b.status (sym (subst P claims a.status_is) ∙ b.status_is) in
     a.new_is ∙ ap₂ (λ claim status. record old { claims = slice_set old.claims number (record claim { status = status }) }) claims statuses ∙ sym b.new_is
 
+-- a cut leads to one state
+pub cut_is_unique : (setup : PlainSetup) (old : PlainState) (number : ℕ) (new new' : PlainState) → MayCut setup old number new → MayCut setup old number new' → new ≡ new'
+cut_is_unique setup old number new new' a b =
+    let cuts : a.cut ≡ b.cut = same_Some a.cut b.cut (sym a.owed ∙ b.owed) in
+    a.new_is ∙ ap (λ (cut : PlainCut). record old { claims = take number old.claims; cut = Some cut }) cuts ∙ sym b.new_is
+
 pub event_is_unique : (setup : PlainSetup) (old : PlainState) (event : PlainEvent) (new new' : PlainState) → Happens setup old event new → Happens setup old event new' → new ≡ new'
 event_is_unique setup old (claim_made seat number) new new' a b = claim_is_unique setup old seat number new new' a b
 event_is_unique setup old (claim_completed seat number) new new' a b = completion_is_unique setup old seat number new new' a b
+event_is_unique setup old (cut_made number) new new' a b = cut_is_unique setup old number new new' a b
 
 lead_to_one : (setup : PlainSetup) (old : PlainState) (journal : List PlainEvent) (s s' : PlainState) → Leads setup old journal s → Leads setup old journal s' → s ≡ s'
 lead_to_one setup old [] s s' a b = a ∙ sym b
@@ -61,10 +70,13 @@ one_state setup journal s s' a b = lead_to_one setup (first_state setup) journal
 some_is_not_none : {A : Type 0} (o : Option A) (x : A) → o ≡ Some x → o ≡ None → ⊥
 some_is_not_none o x some none = let e : Some x ≡ None = sym some ∙ none in cc
 
--- nothing happens where a cut is owed
-pub nothing_happens_where_owed : (setup : PlainSetup) (old : PlainState) (cut : PlainCut) (event : PlainEvent) (new : PlainState) → owed_cut setup old ≡ Some cut → Happens setup old event new → ⊥
-nothing_happens_where_owed setup old cut (claim_made seat number) new owed happens = some_is_not_none (owed_cut setup old) cut owed happens.none_owed
-nothing_happens_where_owed setup old cut (claim_completed seat number) new owed happens = some_is_not_none (owed_cut setup old) cut owed happens.none_owed
+-- where a cut is owed just that cut happens
+pub cut_happens_where_owed : (setup : PlainSetup) (old : PlainState) (cut : PlainCut) (event : PlainEvent) (new : PlainState) → owed_cut setup old ≡ Some cut → Happens setup old event new → event ≡ cut_made cut.number
+cut_happens_where_owed setup old cut (claim_made seat number) new owed happens = absurd (some_is_not_none (owed_cut setup old) cut owed happens.none_owed)
+cut_happens_where_owed setup old cut (claim_completed seat number) new owed happens = absurd (some_is_not_none (owed_cut setup old) cut owed happens.none_owed)
+cut_happens_where_owed setup old cut (cut_made number) new owed happens =
+    let same : happens.cut ≡ cut = same_Some happens.cut cut (sym happens.owed ∙ owed) in
+    ap cut_made (happens.number_is ∙ ap (λ (c : PlainCut). c.number) same)
 
 -- no claim is made after a cut
 pub no_claim_after_a_cut : (setup : PlainSetup) (old : PlainState) (cut : PlainCut) (seat number : ℕ) (new : PlainState) → old.cut ≡ Some cut → MayClaim setup old seat number new → ⊥
@@ -90,21 +102,25 @@ abbrev pub claim_numbers : List PlainEvent → List ℕ
 claim_numbers [] = []
 claim_numbers (claim_made seat number ∷ events) = number ∷ claim_numbers events
 claim_numbers (claim_completed seat number ∷ events) = claim_numbers events
+claim_numbers (cut_made number ∷ events) = claim_numbers events
 
 -- the seats of the claims that a journal makes
 abbrev pub claim_seats : List PlainEvent → List ℕ
 claim_seats [] = []
 claim_seats (claim_made seat number ∷ events) = seat ∷ claim_seats events
 claim_seats (claim_completed seat number ∷ events) = claim_seats events
+claim_seats (cut_made number ∷ events) = claim_seats events
 
 -- whether an event is a claim of the seat, and whether it is a completion of the seat
 abbrev pub is_claim_by : ℕ → PlainEvent → Bool
 is_claim_by seat (claim_made by number) = by == seat
 is_claim_by seat (claim_completed by number) = false
+is_claim_by seat (cut_made number) = false
 
 abbrev pub is_completion_by : ℕ → PlainEvent → Bool
 is_completion_by seat (claim_made by number) = false
 is_completion_by seat (claim_completed by number) = by == seat
+is_completion_by seat (cut_made number) = false
 
 -- the numbers count up from k
 abbrev pub AreCounted : ℕ → List ℕ → Type 0
@@ -121,19 +137,34 @@ pub record IsClaimOf (setup : PlainSetup) (claim : PlainClaim) : Type 0 where
   pub was_covered : covered setup.net marking claim.time claim.element ≡ true
   pub status_is : (is_open claim.status ≡ true) ⊎ (status_after (outputs_of setup.net claim.element claim.time) ≡ Some claim.status)
 
--- What holds in each state that a journal allows: no event moved the clock or made a cut; at most as many claims were made as
--- may be, numbered from 0, each by the seat that its event names; each is one of the run; no seat has two open claims; and of
--- the claims that a seat made those are open that it has not completed.
-pub record IsReached (setup : PlainSetup) (journal : List PlainEvent) (state : PlainState) : Type 0 where
-  pub clock_is : state.clock ≡ setup.clock
-  pub no_cut : state.cut ≡ None
-  pub few_claims : length state.claims ≤ setup.limits.steps
-  pub numbers : AreCounted 0 (claim_numbers journal)
+-- What holds before a cut: each claim that the journal makes stands, and is of the seat that its event names; and of the
+-- claims that a seat made those are open that it has not completed.
+pub record IsUncut (journal : List PlainEvent) (state : PlainState) : Type 0 where
   pub as_many : length (claim_numbers journal) ≡ length state.claims
   pub claimed_by : map (λ (claim : PlainClaim). claim.seat) state.claims ≡ claim_seats journal
+  pub balance : (seat : ℕ) → count_by (is_held_by seat) state.claims + count_by (is_completion_by seat) journal ≡ count_by (is_claim_by seat) journal
+
+-- What a cut leaves: just the claims ahead of its number, which are all done. It was made for the claim of that number, which
+-- was done with a fault; the fault is the cause.
+pub record IsCutOff (setup : PlainSetup) (state : PlainState) (cut : PlainCut) : Type 0 where
+  pub number_is : cut.number ≡ length state.claims
+  pub all_done : AreDone state.claims
+  pub removed : PlainClaim
+  pub removed_is : IsClaimOf setup removed
+  pub fault : Fault
+  pub fault_is : removed.status ≡ faulted_with fault
+  pub cause_is : cut.cause ≡ fault_end removed.element fault
+
+-- What holds in each state that a journal allows: no event moved the clock; at most as many claims were made as may be,
+-- numbered from 0; each that stands is one of the run; no seat has two open claims; and what holds before a cut and after it.
+pub record IsReached (setup : PlainSetup) (journal : List PlainEvent) (state : PlainState) : Type 0 where
+  pub clock_is : state.clock ≡ setup.clock
+  pub few_claims : length (claim_numbers journal) ≤ setup.limits.steps
+  pub numbers : AreCounted 0 (claim_numbers journal)
   pub claims_are : AllByRecursion (IsClaimOf setup) state.claims
   pub one_each : (seat : ℕ) → count_by (is_held_by seat) state.claims ≤ 1
-  pub balance : (seat : ℕ) → count_by (is_held_by seat) state.claims + count_by (is_completion_by seat) journal ≡ count_by (is_claim_by seat) journal
+  pub uncut : state.cut ≡ None → IsUncut journal state
+  pub cut_off : (cut : PlainCut) → state.cut ≡ Some cut → IsCutOff setup state cut
 
 -- ---- counting
 
@@ -168,11 +199,13 @@ numbers_joined : (events more : List PlainEvent) → claim_numbers (events ++ mo
 numbers_joined [] more = refl
 numbers_joined (claim_made seat number ∷ events) more = ap (λ xs. number ∷ xs) (numbers_joined events more)
 numbers_joined (claim_completed seat number ∷ events) more = numbers_joined events more
+numbers_joined (cut_made number ∷ events) more = numbers_joined events more
 
 seats_joined : (events more : List PlainEvent) → claim_seats (events ++ more) ≡ claim_seats events ++ claim_seats more
 seats_joined [] more = refl
 seats_joined (claim_made seat number ∷ events) more = ap (λ xs. seat ∷ xs) (seats_joined events more)
 seats_joined (claim_completed seat number ∷ events) more = seats_joined events more
+seats_joined (cut_made number ∷ events) more = seats_joined events more
 
 no_more : {A : Type 0} (xs : List A) → xs ++ [] ≡ xs
 no_more [] = refl
@@ -183,7 +216,7 @@ no_more (x ∷ xs) = ap (λ ys. x ∷ ys) (no_more xs)
 -- what is drawn is covered at the clock
 pub drawn_now : (setup : PlainSetup) (old : PlainState) (seat number : ℕ) (new : PlainState) (c : MayClaim setup old seat number new) → covered setup.net c.marking old.clock c.drawn.element ≡ true
 drawn_now setup old seat number new c =
-    let kept = in_filter_from (λ (x : PlainEntry). x.earliest == old.clock) c.entries c.drawn (in_from_get (ready old.clock c.entries) _ c.drawn c.drawn_is.position) in
+    let kept = in_filter_from (λ (x : PlainEntry). x.earliest == old.clock) c.entries c.drawn (in_from_get (ready old.clock c.entries) _ c.drawn c.drawn_is) in
     let now : c.drawn.earliest ≡ old.clock = eqb-true c.drawn.earliest old.clock kept.1 in
     subst (λ t. covered setup.net c.marking t c.drawn.element ≡ true) now ((c.enabled.exact c.drawn).0 (contains_from_in c.entries c.drawn kept.0)).is_covered
 
@@ -204,24 +237,28 @@ balanced_by_a_claim h h' c c' k k' x a b d e = omega arith
 balanced_by_a_completion : (h h' c c' k k' x : ℕ) → h' + x ≡ h → c' ≡ c + x → k' ≡ k + 0 → h + c ≡ k → h' + c' ≡ k'
 balanced_by_a_completion h h' c c' k k' x a b d e = omega arith
 
-few_more : (all before number limit : ℕ) → all ≡ before + 1 → number ≡ before → number < limit → all ≤ limit
-few_more all before number limit a b c = omega arith
+few_more : (all made before number limit : ℕ) → all ≡ made + 1 → made ≡ before → number ≡ before → number < limit → all ≤ limit
+few_more all made before number limit a b c d = omega arith
 
 claim_reaches : (setup : PlainSetup) (journal : List PlainEvent) (old : PlainState) (seat number : ℕ) (new : PlainState) → IsReached setup journal old → MayClaim setup old seat number new → IsReached setup (journal ++ claim_made seat number ∷ []) new
 claim_reaches setup journal old seat number new r c =
     let numbers_are = numbers_joined journal (claim_made seat number ∷ []) in
+    let made : length (claim_numbers (journal ++ claim_made seat number ∷ [])) ≡ length (claim_numbers journal) + 1 = ap (λ (xs : List ℕ). length xs) numbers_are ∙ length-append (claim_numbers journal) (number ∷ []) in
+    let before = r.uncut c.no_cut in
     subst (IsReached setup (journal ++ claim_made seat number ∷ [])) (sym c.new_is) (record {
       clock_is = r.clock_is;
-      no_cut = r.no_cut;
-      few_claims = few_more (length (old.claims ++ claim ∷ [])) (length old.claims) number setup.limits.steps joined c.next_number c.below_limit;
-      numbers = subst (AreCounted 0) (sym numbers_are) (counted_more 0 (claim_numbers journal) number r.numbers (next c.next_number r.as_many));
-      as_many = ap (λ (xs : List ℕ). length xs) numbers_are ∙ length-append (claim_numbers journal) (number ∷ []) ∙ ap (λ (k : ℕ). k + 1) r.as_many ∙ sym joined;
-      claimed_by = map_more (λ (k : PlainClaim). k.seat) old.claims claim ∙ ap (λ xs. xs ++ seat ∷ []) r.claimed_by ∙ sym (seats_joined journal (claim_made seat number ∷ []));
+      few_claims = few_more _ (length (claim_numbers journal)) (length old.claims) number setup.limits.steps made before.as_many c.next_number c.below_limit;
+      numbers = subst (AreCounted 0) (sym numbers_are) (counted_more 0 (claim_numbers journal) number r.numbers (next c.next_number before.as_many));
       claims_are = all_joined (IsClaimOf setup) old.claims (claim ∷ []) r.claims_are (claim_of setup old seat number new r.clock_is c, tt);
       one_each = λ s. one s (seat == s) refl;
-      balance =
-          λ s. balanced_by_a_claim _ _ _ _ _ _ (cond (seat == s) 1 0) (count_last (is_held_by s) old.claims claim) (count_last (is_completion_by s) journal (claim_made seat number)) (count_last (is_claim_by s) journal (claim_made seat number))
-          (r.balance s);
+      uncut = λ none. record {
+        as_many = made ∙ ap (λ (k : ℕ). k + 1) before.as_many ∙ sym joined;
+        claimed_by = map_more (λ (k : PlainClaim). k.seat) old.claims claim ∙ ap (λ xs. xs ++ seat ∷ []) before.claimed_by ∙ sym (seats_joined journal (claim_made seat number ∷ []));
+        balance =
+            λ s. balanced_by_a_claim _ _ _ _ _ _ (cond (seat == s) 1 0) (count_last (is_held_by s) old.claims claim) (count_last (is_completion_by s) journal (claim_made seat number)) (count_last (is_claim_by s) journal (claim_made seat number))
+            (before.balance s);
+      };
+      cut_off = λ cut is. absurd (some_is_not_none old.cut cut is c.no_cut);
     })
   where
     claim : PlainClaim
@@ -261,22 +298,32 @@ count_completed s claim status before later closed =
     sums : (x b l new old : ℕ) → new ≡ b + (0 + l) → old ≡ b + (x + l) → new + x ≡ old
     sums x b l new old first second = omega arith
 
+-- no claim is completed after a cut: each that it leaves is done
+pub no_completion_after_a_cut : (setup : PlainSetup) (journal : List PlainEvent) (old : PlainState) (seat number : ℕ) (new : PlainState) (cut : PlainCut) → IsReached setup journal old → old.cut ≡ Some cut → MayComplete setup old seat number new → ⊥
+no_completion_after_a_cut setup journal old seat number new cut r stands c =
+    let done = done_at old.claims number c.held_claim (r.cut_off cut stands).all_done c.claim_is in
+    let opened = (and_parts (is_open c.held_claim.status) (c.held_claim.seat == seat) c.held).0 in
+    let e : true ≡ false = sym opened ∙ done_is_not_open c.held_claim.status done in
+    cc
+
 completion_reaches : (setup : PlainSetup) (journal : List PlainEvent) (old : PlainState) (seat number : ℕ) (new : PlainState) → IsReached setup journal old → MayComplete setup old seat number new → IsReached setup (journal ++ claim_completed seat number ∷ []) new
 completion_reaches setup journal old seat number new r c =
     let numbers_are = numbers_joined journal (claim_completed seat number ∷ []) ∙ no_more (claim_numbers journal) in
     let seats_are = seats_joined journal (claim_completed seat number ∷ []) ∙ no_more (claim_seats journal) in
     subst (IsReached setup (journal ++ claim_completed seat number ∷ [])) (sym (c.new_is ∙ ap (λ cs. record old { claims = cs }) (parts.changed completed))) (record {
       clock_is = r.clock_is;
-      no_cut = r.no_cut;
-      few_claims = subst (λ k. k ≤ setup.limits.steps) (sym lengths) r.few_claims;
+      few_claims = subst (λ (xs : List ℕ). length xs ≤ setup.limits.steps) (sym numbers_are) r.few_claims;
       numbers = subst (AreCounted 0) (sym numbers_are) r.numbers;
-      as_many = ap (λ (xs : List ℕ). length xs) numbers_are ∙ r.as_many ∙ sym lengths;
-      claimed_by = seats_of ∙ r.claimed_by ∙ sym seats_are;
       claims_are = all_joined (IsClaimOf setup) parts.before (completed ∷ parts.later) each.0 (now, each.1.1);
       one_each = λ s. at_most _ (cond (is_held_by s c.held_claim) 1 0) _ (count s) (r.one_each s);
-      balance =
-          λ s. balanced_by_a_completion _ _ _ _ _ _ (cond (seat == s) 1 0) (ap (λ b. count_by (is_held_by s) (parts.before ++ completed ∷ parts.later) + cond b 1 0) (sym (held_by s)) ∙ count s)
-          (count_last (is_completion_by s) journal (claim_completed seat number)) (count_last (is_claim_by s) journal (claim_completed seat number)) (r.balance s);
+      uncut = λ none. let whole = r.uncut none in record {
+        as_many = ap (λ (xs : List ℕ). length xs) numbers_are ∙ whole.as_many ∙ sym lengths;
+        claimed_by = seats_of ∙ whole.claimed_by ∙ sym seats_are;
+        balance =
+            λ s. balanced_by_a_completion _ _ _ _ _ _ (cond (seat == s) 1 0) (ap (λ b. count_by (is_held_by s) (parts.before ++ completed ∷ parts.later) + cond b 1 0) (sym (held_by s)) ∙ count s)
+            (count_last (is_completion_by s) journal (claim_completed seat number)) (count_last (is_claim_by s) journal (claim_completed seat number)) (whole.balance s);
+      };
+      cut_off = λ cut is. absurd (no_completion_after_a_cut setup journal old seat number new cut r is c);
     })
   where
     claim : PlainClaim
@@ -322,11 +369,53 @@ completion_reaches setup journal old seat number new r c =
         let held = and_parts (is_open c.held_claim.status) (c.held_claim.seat == seat) c.held in
         ap (λ b. b && (c.held_claim.seat == s)) held.0 ∙ ap (λ (k : ℕ). k == s) (eqb-true c.held_claim.seat seat held.1)
 
+-- ---- a cut
+
+cut_reaches : (setup : PlainSetup) (journal : List PlainEvent) (old : PlainState) (number : ℕ) (new : PlainState) → IsReached setup journal old → MayCut setup old number new → IsReached setup (journal ++ cut_made number ∷ []) new
+cut_reaches setup journal old number new r c =
+    let numbers_are = numbers_joined journal (cut_made number ∷ []) ∙ no_more (claim_numbers journal) in
+    subst (IsReached setup (journal ++ cut_made number ∷ [])) (sym c.new_is) (record {
+      clock_is = r.clock_is;
+      few_claims = subst (λ (xs : List ℕ). length xs ≤ setup.limits.steps) (sym numbers_are) r.few_claims;
+      numbers = subst (AreCounted 0) (sym numbers_are) r.numbers;
+      claims_are = (all_parts (IsClaimOf setup) (take number old.claims) (drop number old.claims) whole).0;
+      one_each = λ s. fewer (fewer_first (is_held_by s) number old.claims) (r.one_each s);
+      uncut = λ none. absurd (some_is_not_none (Some c.cut) c.cut refl none);
+      cut_off = λ cut is. subst (IsCutOff setup cut_state) (same_Some c.cut cut is) (record {
+        number_is = sym c.number_is ∙ at ∙ sym (as_many_are_committed old.claims) ∙ ap (λ (k : ℕ). length (take k old.claims)) (sym at);
+        all_done = subst (λ (k : ℕ). AreDone (take k old.claims)) (sym at) (committed_are_done old.claims);
+        removed = owed.faulted;
+        removed_is = (all_parts (IsClaimOf setup) parts.before (owed.faulted ∷ parts.later) (subst (AllByRecursion (IsClaimOf setup)) parts.is r.claims_are)).1.0;
+        fault = owed.fault;
+        fault_is = owed.fault_is;
+        cause_is = owed.cause_is;
+      });
+    })
+  where
+    cut_state : PlainState
+    cut_state = record old { claims = take number old.claims; cut = Some c.cut }
+
+    owed : IsOwed old.claims c.cut
+    owed = owed_is old.claims c.cut c.owed
+
+    at : number ≡ done_prefix old.claims
+    at = c.number_is ∙ owed.number_is
+
+    parts : IsSplit old.claims (done_prefix old.claims) owed.faulted
+    parts = split_at old.claims (done_prefix old.claims) owed.faulted owed.claim_is
+
+    whole : AllByRecursion (IsClaimOf setup) (take number old.claims ++ drop number old.claims)
+    whole = subst (AllByRecursion (IsClaimOf setup)) (sym (take-append-drop number old.claims)) r.claims_are
+
+    fewer : {a b : ℕ} → a ≤ b → b ≤ 1 → a ≤ 1
+    fewer {a} {b} h k = omega arith
+
 -- ---- every journal
 
 pub event_reaches : (setup : PlainSetup) (journal : List PlainEvent) (old : PlainState) (event : PlainEvent) (new : PlainState) → IsReached setup journal old → Happens setup old event new → IsReached setup (journal ++ event ∷ []) new
 event_reaches setup journal old (claim_made seat number) new r happens = claim_reaches setup journal old seat number new r happens
 event_reaches setup journal old (claim_completed seat number) new r happens = completion_reaches setup journal old seat number new r happens
+event_reaches setup journal old (cut_made number) new r happens = cut_reaches setup journal old number new r happens
 
 events_reach : (setup : PlainSetup) (journal : List PlainEvent) (old : PlainState) (events : List PlainEvent) (state : PlainState) → IsReached setup journal old → Leads setup old events state → IsReached setup (journal ++ events) state
 events_reach setup journal old [] state r leads = subst (IsReached setup (journal ++ [])) (sym leads) (subst (λ J. IsReached setup J old) (sym (no_more journal)) r)
@@ -339,21 +428,21 @@ pub every_state : (setup : PlainSetup) (journal : List PlainEvent) (state : Plai
 every_state setup journal state reached =
     let first : IsReached setup [] (first_state setup) = record {
       clock_is = refl;
-      no_cut = refl;
       few_claims = omega arith;
       numbers = tt;
-      as_many = refl;
-      claimed_by = refl;
       claims_are = tt;
       one_each = λ s. at_most_one;
-      balance = λ s. refl;
+      uncut = λ none. record { as_many = refl; claimed_by = refl; balance = λ s. refl };
+      cut_off = λ cut is. absurd (some_is_not_none None cut is refl);
     } in
     events_reach setup [] (first_state setup) journal state first reached
   where
     at_most_one : 0 ≤ 1
     at_most_one = omega arith
 
--- where a cut is owed a journal goes no further
-pub no_journal_goes_on_where_owed : (setup : PlainSetup) (old : PlainState) (cut : PlainCut) (events : List PlainEvent) (new : PlainState) → owed_cut setup old ≡ Some cut → Leads setup old events new → events ≡ []
-no_journal_goes_on_where_owed setup old cut [] new owed leads = refl
-no_journal_goes_on_where_owed setup old cut (event ∷ events) new owed leads = absurd (nothing_happens_where_owed setup old cut event leads.0 owed leads.1)
+-- after a cut nothing happens
+pub nothing_happens_after_a_cut : (setup : PlainSetup) (journal : List PlainEvent) (old : PlainState) (cut : PlainCut) (event : PlainEvent) (new : PlainState) → IsReached setup journal old → old.cut ≡ Some cut → Happens setup old event new → ⊥
+nothing_happens_after_a_cut setup journal old cut (claim_made seat number) new r stands happens = no_claim_after_a_cut setup old cut seat number new stands happens
+nothing_happens_after_a_cut setup journal old cut (claim_completed seat number) new r stands happens = no_completion_after_a_cut setup journal old seat number new cut r stands happens
+nothing_happens_after_a_cut setup journal old cut (cut_made number) new r stands happens =
+    some_is_not_none (owed_cut setup old) happens.cut happens.owed (done_owe_none old.claims (r.cut_off cut stands).all_done)

@@ -1,38 +1,35 @@
 -- A run of two seats in the worked net, in which the second claim is completed before the first; and which causes end a run,
 -- and which do not.
-use Rattle.std.proofs.Common.{◌≡◌, ℕ, ◌%◌, true, false, List, [], ◌∷◌, Some, None, refl, sym, subst, inl, arith, slice_get, pos}
-use Rattle.cpn_definitions.specs.Value.{int}
+use Rattle.std.proofs.Common.{◌≡◌, ℕ, ◌%◌, true, false, List, [], ◌∷◌, Some, None, refl, sym, subst, inl, arith, slice_get}
 use Rattle.cpn_definitions.specs.Marking.{Marking, token_at}
-use Rattle.cpn_definitions.specs.Net.{literal, one, PlainNet}
-use Rattle.cpn_definitions.specs.Meaning.{not_in_colour}
+use Rattle.cpn_definitions.specs.Outcome.{not_in_colour}
 use Rattle.cpn_definitions.specs.Occurrence.{Made, covered, needs_of, outputs_of, after}
 use Rattle.cpn_definitions.specs.Enabled.{PlainEntry, Enabled}
 use Rattle.cpn_definitions.specs.Legal.{LeastTime, Legal}
-use Rattle.cpn_runs.specs.HoleRun.{PlainClaim, done_with, faulted_with}
+use Rattle.cpn_runs.specs.HoleRun.{PlainClaim, done_with}
 use Rattle.cpn_runs.specs.Draw.{word}
-use Rattle.cpn_runs.specs.State.{PlainSetup, PlainEvent, claim_made, claim_completed, PlainEnd, dead, steps_made, fault_end, PlainState, first_state, owed_cut, new_claim, IsDrawn, MayClaim, MayComplete, IsState, EndsBy}
+use Rattle.cpn_runs.specs.State.{PlainSetup, PlainEvent, claim_made, claim_completed, PlainEnd, dead, steps_made, fault_end, PlainState, first_state, new_claim, IsDrawn, MayClaim, MayComplete, IsState, EndsBy}
 use Rattle.cpn_runs.specs.Run.{HasOutlook, PlainFinished, IsRun}
-use Rattle.cpn_runs.proofs.States.{nothing_happens_where_owed}
-use Rattle.cpn_runs.proofs.WorkedNet.{seven, worked, moves, digits, move, seven_at_three, entry, clash, covered_at_three, one_is_enabled, emptied, emptied_is_dead, none_is_enabled, no_other}
+use Rattle.cpn_runs.proofs.WorkedNet.{seven, worked, move, seven_at_three, entry, clash, covered_at_three, one_is_enabled, emptied, emptied_is_dead, none_is_enabled, no_other}
 
 -- 7 at 0 and 7 at 3 on place 0, at the clock 3, and two claims that may be made
-abbrev start : Marking
+abbrev pub start : Marking
 start = (token_at seven 0 ∷ token_at seven 3 ∷ []) ∷ [] ∷ []
 
-abbrev setup : PlainSetup
+abbrev pub setup : PlainSetup
 setup = record { net = worked; start = start; clock = 3; limits = record { steps = 2; until = 100; seats = 2 }; seed = 11 }
 
 -- its states: seat 0 claims, seat 1 claims, seat 1 completes, seat 0 completes
-abbrev with_claims : List PlainClaim → PlainState
+abbrev pub with_claims : List PlainClaim → PlainState
 with_claims claims = record { clock = 3; claims = claims; cut = None }
 
-abbrev opened : ℕ → PlainClaim
+abbrev pub opened : ℕ → PlainClaim
 opened seat = new_claim worked seat 3 move
 
 abbrev output : Made
 output = record { place = 1; value = seven; stamp = 5 }
 
-abbrev done : ℕ → PlainClaim
+abbrev pub done : ℕ → PlainClaim
 done seat = record (opened seat) { status = done_with (output ∷ []) }
 
 abbrev one_claimed : PlainState
@@ -50,11 +47,11 @@ both_done = with_claims (done 0 ∷ done 1 ∷ [])
 remainder_by_one : (x : ℕ) → x % 1 ≡ 0
 remainder_by_one x = omega arith
 
-drawn_alone : (seed k : ℕ) (x : PlainEntry) → IsDrawn seed k (x ∷ []) x
-drawn_alone seed k x = record { some = omega arith; position = subst (λ i. slice_get (x ∷ []) i ≡ Some x) (sym (remainder_by_one (word seed k))) refl }
+pub drawn_alone : (seed k : ℕ) (x : PlainEntry) → IsDrawn seed k (x ∷ []) x
+drawn_alone seed k x = subst (λ i. slice_get (x ∷ []) i ≡ Some x) (sym (remainder_by_one (word seed k))) refl
 
 -- at the clock 3 the element is enabled, alone, where it is covered at it
-enabled_now : (m : Marking) → covered worked m 3 move ≡ true → Enabled worked m 3 (entry 3 ∷ [])
+pub enabled_now : (m : Marking) → covered worked m 3 move ≡ true → Enabled worked m 3 (entry 3 ∷ [])
 enabled_now m is = one_is_enabled m 3 3 (omega arith) is (λ s from below. absurd (omega arith))
 
 first_claim : MayClaim setup (first_state setup) 0 0 one_claimed
@@ -148,7 +145,7 @@ closing = record { entries = []; enabled = none_is_enabled last 3 (λ time e. no
 
 is_run : IsRun setup run
 unfolding needs_of
-is_run = record { state = both_done; reached = reached; ends = ends_by_steps; occurrences_are = refl; marking_is = refl; clock_is = refl; legal = legal; opening = opening; closing = closing }
+is_run = record { state = both_done; reached = reached; ends = ends_by_steps; occurrences_are = refl; marking_is = refl; clock_is = refl; legal = legal; opening = opening; true_fault = tt; closing = closing }
 
 -- ---- what ends a run, and what does not
 
@@ -188,7 +185,7 @@ not_by_steps_where_emptied : EndsBy used_up (first_state used_up) steps_made →
 not_by_steps_where_emptied ends = none_is_two ends.has_cause
 
 -- without a cut no fault is the cause
-abbrev no_fault : PlainEnd
+abbrev pub no_fault : PlainEnd
 no_fault = fault_end move not_in_colour
 
 no_fault_ends_it : EndsBy used_up (first_state used_up) no_fault → ⊥
@@ -203,25 +200,3 @@ ends_by_the_cut = record { none_open = refl; none_owed = refl; has_cause = refl 
 
 not_dead_after_a_cut : EndsBy used_up cut_off dead → ⊥
 not_dead_after_a_cut ends = let e : dead ≡ no_fault = ends.has_cause in cc
-
--- ---- a fault
-
--- the net with an output that is no digit: the claim is done with the fault, which owes a cut from it on
-abbrev faulty : PlainNet
-faulty = record worked { transitions = record moves { outputs = record { place = 1; colour = digits; expr = one (literal (int (pos 12))); terms = [] } ∷ [] } ∷ [] }
-
-abbrev faulty_setup : PlainSetup
-faulty_setup = record setup { net = faulty }
-
-abbrev faulty_claim : PlainClaim
-faulty_claim = record (new_claim faulty 0 3 move) { status = faulted_with not_in_colour }
-
-faulty_completion : MayComplete faulty_setup (with_claims (new_claim faulty 0 3 move ∷ [])) 0 0 (with_claims (faulty_claim ∷ []))
-unfolding outputs_of
-faulty_completion = record { none_owed = refl; held_claim = new_claim faulty 0 3 move; claim_is = refl; held = refl; status = faulted_with not_in_colour; status_is = refl; new_is = refl }
-
-cut_is_owed : owed_cut faulty_setup (with_claims (faulty_claim ∷ [])) ≡ Some (record { number = 0; cause = no_fault })
-cut_is_owed = refl
-
-nothing_happens : (seat number : ℕ) (new : PlainState) → MayClaim faulty_setup (with_claims (faulty_claim ∷ [])) seat number new → ⊥
-nothing_happens seat number new claim = nothing_happens_where_owed faulty_setup (with_claims (faulty_claim ∷ [])) (record { number = 0; cause = no_fault }) (claim_made seat number) new refl claim

@@ -6,12 +6,13 @@ use Rattle.std.proofs.lemmas.Option.{same_Some}
 use Rattle.cpn_definitions.specs.Value.{PlainValue, int}
 use Rattle.cpn_definitions.specs.Colour.{PlainColour, int_shape}
 use Rattle.cpn_definitions.specs.Marking.{Marking, token_at}
-use Rattle.cpn_definitions.specs.Net.{literal, one, PlainNet, PlainTransition, transition_at}
+use Rattle.cpn_definitions.specs.Inscription.{literal, one}
+use Rattle.cpn_definitions.specs.Net.{PlainNet, PlainTransition, transition_at}
 use Rattle.cpn_definitions.specs.Meaning.{PlainBinding}
 use Rattle.cpn_definitions.specs.Occurrence.{PlainElement, binds, guard_holds, may_occur, covered, needs_of, outputs_of, after}
 use Rattle.cpn_definitions.specs.Enabled.{PlainEntry, IsEarliest, Enabled, IsDead}
 use Rattle.cpn_definitions.specs.Legal.{LeastTime, TimedElement, Legal}
-use Rattle.cpn_definitions.proofs.Rising.{IsIn, in_from_contains, contains_from_in}
+use Rattle.cpn_definitions.proofs.RisingLists.{IsIn, in_from_contains, contains_from_in}
 
 abbrev pub seven : PlainValue
 seven = int (pos 7)
@@ -20,8 +21,8 @@ seven = int (pos 7)
 abbrev pub digits : PlainColour
 digits = record { shape = int_shape (pos 0) (pos 9); timed = true }
 
-abbrev pub moves : PlainTransition
-moves = record {
+abbrev pub move_transition : PlainTransition
+move_transition = record {
   name = [];
   guard = [];
   delay = Some (literal (int (pos 2)));
@@ -33,7 +34,7 @@ moves = record {
 abbrev pub worked : PlainNet
 worked = record {
   places = record { name = []; colour = digits } ∷ record { name = []; colour = digits } ∷ [];
-  transitions = moves ∷ [];
+  transitions = move_transition ∷ [];
   variables = [];
   constants = [];
   constructors = [];

@@ -3,7 +3,7 @@ use Rattle.std.specs.Prelude.{ℕ, suc, Bool, true, false, if◌then◌else◌, 
 use Rattle.std.specs.Option.{option_map}
 use Rattle.cpn_definitions.specs.Value.{PlainValue}
 use Rattle.cpn_definitions.specs.Marking.{Marking, tokens_at, on_place, stamps, begins_by, without_token}
-use Rattle.cpn_definitions.specs.Meaning.{Fault}
+use Rattle.cpn_definitions.specs.Outcome.{Fault}
 use Rattle.cpn_definitions.specs.Occurrence.{PlainElement, Needed, Made, threshold, are_covered, subtract, add_made}
 
 -- What became of a claim: it is open, done with the tokens that it made, or done with a fault of its outputs.
@@ -77,7 +77,7 @@ marking_left m claims = option_map (λ run. run.marking) (hole_run m claims)
 abbrev pub unclaimed : Marking → List PlainClaim → Option Marking
 unclaimed start claims = marking_left start claims
 
--- Settled: the marking that the first k claims leave, where each of them is done with its outputs.
+-- Settled: the marking that the first k claims leave. It is asked of the committed ones, which are all done with their outputs.
 abbrev pub settled : Marking → ℕ → List PlainClaim → Option Marking
 settled start k claims = marking_left start (take k claims)
 

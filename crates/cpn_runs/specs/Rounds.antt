@@ -1,14 +1,15 @@
--- Rounds of a run of one seat: each claim is completed before the next is made. Source: own choice.
-use Rattle.std.specs.Prelude.{◌≡◌, ◌≢◌, ◌<◌, true, List, [], length, map, Some, None}
+-- Rounds of a run of one seat: each claim is completed before the next is made, and a fault is the last round's.
+-- Source: own choice.
+use Rattle.std.specs.Prelude.{◌≡◌, ◌≢◌, ◌<◌, true, List, [], ◌∷◌, ◌++◌, length, map, Some, None}
 use Rattle.cpn_definitions.specs.Marking.{Marking}
 use Rattle.cpn_definitions.specs.Net.{PlainNet}
-use Rattle.cpn_definitions.specs.Meaning.{Outcome, gives, faults, no_meaning}
+use Rattle.cpn_definitions.specs.Outcome.{Fault, Outcome, gives, faults, no_meaning}
 use Rattle.cpn_definitions.specs.Occurrence.{PlainElement, Made, covered, needs_of, outputs_of, threshold, subtract, add_made}
 use Rattle.cpn_definitions.specs.Legal.{Legal}
 use Rattle.cpn_definitions.specs.Enabled.{PlainEntry, Enabled, ready, IsDead}
 use Rattle.cpn_definitions.specs.Sound.{IsStamped}
 use Rattle.cpn_runs.specs.HoleRun.{PlainClaim, done_with, marking_left}
-use Rattle.cpn_runs.specs.State.{PlainSetup, PlainEvent, PlainEnd, dead, steps_made, fault_end, PlainState, given_needs, new_claim, IsDrawn, IsState, PlainOccurrence, timed, numbered}
+use Rattle.cpn_runs.specs.State.{PlainSetup, PlainEvent, claim_made, claim_completed, cut_made, PlainEnd, dead, steps_made, fault_end, PlainState, given_needs, new_claim, IsDrawn, IsState, PlainOccurrence, timed, numbered}
 
 -- the outputs that an outcome gives, none where it gives none
 abbrev pub given_outputs : Outcome (List Made) → List Made
@@ -36,15 +37,24 @@ pub record IsUnderWay (setup : PlainSetup) (journal : List PlainEvent) (os : Lis
   pub stamped : IsStamped setup.net marking
   pub legal : Legal setup.net setup.start setup.clock (map timed os) marking setup.clock
 
--- What one round does: the drawn element is claimed and completed.
-pub record IsRound (setup : PlainSetup) (os : List PlainOccurrence) (marking : Marking) (drawn : PlainEntry) (outputs : List Made) : Type 0 where
+-- What a round claims: the drawn one of the ready elements, while fewer claims were made than may be.
+pub record IsClaimed (setup : PlainSetup) (os : List PlainOccurrence) (marking : Marking) (drawn : PlainEntry) : Type 0 where
   pub entries : List PlainEntry
   pub enabled : Enabled setup.net marking setup.clock entries
   pub drawn_is : IsDrawn setup.seed (length os) (ready setup.clock entries) drawn
   pub below_limit : length os < setup.limits.steps
   pub has_seat : 0 < setup.limits.seats
   pub is_covered : covered setup.net marking setup.clock drawn.element ≡ true
+
+-- What one round does: the claimed element is completed with its outputs.
+pub record IsRound (setup : PlainSetup) (os : List PlainOccurrence) (marking : Marking) (drawn : PlainEntry) (outputs : List Made) : Type 0 where
+  pub claimed : IsClaimed setup os marking drawn
   pub outputs_are : outputs_of setup.net drawn.element setup.clock ≡ gives outputs
+
+-- What the last round of a run does where the outputs of the claimed element have a fault.
+pub record IsFaultyRound (setup : PlainSetup) (os : List PlainOccurrence) (marking : Marking) (drawn : PlainEntry) (fault : Fault) : Type 0 where
+  pub claimed : IsClaimed setup os marking drawn
+  pub fault_is : outputs_of setup.net drawn.element setup.clock ≡ faults fault
 
 -- the occurrence of an element in the next round
 abbrev pub next_occurrence : PlainSetup → List PlainOccurrence → PlainElement → PlainOccurrence
@@ -54,7 +64,11 @@ next_occurrence setup os e = record { number = length os; time = setup.clock; el
 abbrev pub marking_after : PlainSetup → Marking → PlainElement → List Made → Marking
 marking_after setup marking e outputs = add_made outputs (subtract (threshold setup.clock) (given_needs (needs_of setup.net e)) marking)
 
--- the rounds are over, and the run ends by the cause
+-- the journal after a round with a fault: the claim, its completion, and the cut
+abbrev pub faulted_journal : List PlainEvent → List PlainOccurrence → List PlainEvent
+faulted_journal journal os = ((journal ++ claim_made 0 (length os) ∷ []) ++ claim_completed 0 (length os) ∷ []) ++ cut_made (length os) ∷ []
+
+-- the rounds are over, and the run ends by the cause; by a fault it ends within a round
 abbrev pub IsOver : PlainSetup → List PlainOccurrence → Marking → PlainEnd → Type 0
 IsOver setup os marking steps_made = length os ≡ setup.limits.steps
 IsOver setup os marking dead = (length os ≢ setup.limits.steps) × IsDead setup.net marking

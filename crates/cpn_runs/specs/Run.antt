@@ -1,9 +1,12 @@
 -- What a run that has ended shows. Source: own choice.
-use Rattle.std.specs.Prelude.{◌≡◌, ℕ, List, length, map, Option, Some}
+use Rattle.std.specs.Prelude.{◌≡◌, ℕ, true, List, length, map, Option, Some}
 use Rattle.cpn_definitions.specs.Marking.{Marking}
+use Rattle.cpn_definitions.specs.Net.{PlainNet}
+use Rattle.cpn_definitions.specs.Outcome.{faults}
+use Rattle.cpn_definitions.specs.Occurrence.{covered, outputs_of}
 use Rattle.cpn_definitions.specs.Legal.{Legal}
 use Rattle.cpn_definitions.specs.Enabled.{PlainEntry, Enabled, ready, next_time}
-use Rattle.cpn_runs.specs.State.{PlainSetup, PlainEvent, PlainEnd, PlainState, IsState, EndsBy, PlainOccurrence, timed, committed_occurrences, settled_in}
+use Rattle.cpn_runs.specs.State.{PlainSetup, PlainEvent, PlainEnd, dead, steps_made, fault_end, PlainState, IsState, EndsBy, PlainOccurrence, timed, committed_occurrences, settled_in}
 
 -- The number of the ready elements of a marking at a clock, and the next time.
 pub record Outlook : Type 0 where
@@ -28,9 +31,17 @@ pub record PlainFinished : Type 0 where
   pub cause : PlainEnd
   pub closing : Outlook
 
+-- Where the cause is a fault of an element, the element is covered in the marking at the clock, and its outputs have the
+-- fault.
+abbrev pub IsTrueFault : PlainNet → Marking → ℕ → PlainEnd → Type 0
+IsTrueFault n m clock dead = Unit {0}
+IsTrueFault n m clock steps_made = Unit {0}
+IsTrueFault n m clock (fault_end e fault) = (covered n m clock e ≡ true) × (outputs_of n e clock ≡ faults fault)
+
 -- A run of a setup: the journal leads to a state that ends by the cause; the occurrences are those that are committed
--- there, and are a legal occurrence sequence from the start to the marking and the clock, which are the state's; and the
--- outlooks are those of the marking and the clock at the start and at the end.
+-- there, and are a legal occurrence sequence from the start to the marking and the clock, which are the state's; where the
+-- cause is a fault, its element has it there; and the outlooks are those of the marking and the clock at the start and at
+-- the end.
 pub record IsRun (setup : PlainSetup) (run : PlainFinished) : Type 0 where
   pub state : PlainState
   pub reached : IsState setup run.journal state
@@ -39,5 +50,6 @@ pub record IsRun (setup : PlainSetup) (run : PlainFinished) : Type 0 where
   pub marking_is : settled_in setup state ≡ Some run.marking
   pub clock_is : run.clock ≡ state.clock
   pub legal : Legal setup.net setup.start setup.clock (map timed run.occurrences) run.marking run.clock
+  pub true_fault : IsTrueFault setup.net run.marking run.clock run.cause
   pub opening : HasOutlook setup setup.start setup.clock run.opening
   pub closing : HasOutlook setup run.marking run.clock run.closing

@@ -5,7 +5,7 @@ use Rattle.std.specs.Prelude.{◌≡◌, ◌≢◌, ℕ, suc, ◌<◌, ◌%◌, 
 use Rattle.std.specs.List.{list_any}
 use Rattle.cpn_definitions.specs.Marking.{Marking}
 use Rattle.cpn_definitions.specs.Net.{PlainNet}
-use Rattle.cpn_definitions.specs.Meaning.{Fault, Outcome, gives, faults, no_meaning}
+use Rattle.cpn_definitions.specs.Outcome.{Fault, Outcome, gives, faults, no_meaning}
 use Rattle.cpn_definitions.specs.Occurrence.{PlainElement, Needed, Made, needs_of, outputs_of}
 use Rattle.cpn_definitions.specs.Enabled.{PlainEntry, Enabled, ready, IsDead}
 use Rattle.cpn_definitions.specs.Legal.{TimedElement}
@@ -27,10 +27,11 @@ pub record PlainSetup : Type 0 where
   pub seed : ℕ
 
 -- An event of a run: a seat claims an enabled element, under the next number; a seat completes the
--- claim of a number.
+-- claim of a number; the claims from a number on are cut off.
 pub data PlainEvent : Type 0 where
   claim_made : ℕ → ℕ → PlainEvent
   claim_completed : ℕ → ℕ → PlainEvent
+  cut_made : ℕ → PlainEvent
 
 -- How a run ends: no element is covered at any time, as many claims were made as it may make, or the outputs
 -- of an element had a fault.
@@ -44,8 +45,7 @@ pub record PlainCut : Type 0 where
   pub number : ℕ
   pub cause : PlainEnd
 
--- The state of a run: the clock, the claims, and the last cut. No event below makes a cut, so there is none
--- in any state of a journal.
+-- The state of a run: the clock, the claims, and the last cut.
 pub record PlainState : Type 0 where
   pub clock : ℕ
   pub claims : List PlainClaim
@@ -101,9 +101,8 @@ status_after (faults fault) = Some (faulted_with fault)
 status_after no_meaning = None
 
 -- The entry is the one that word k draws from the ready ones: the word modulo their number is its position.
-pub record IsDrawn (seed k : ℕ) (entries : List PlainEntry) (drawn : PlainEntry) : Type 0 where
-  pub some : 0 < length entries
-  pub position : slice_get entries (word seed k % length entries) ≡ Some drawn
+abbrev pub IsDrawn : ℕ → ℕ → List PlainEntry → PlainEntry → Type 0
+IsDrawn seed k entries drawn = slice_get entries (word seed k % length entries) ≡ Some drawn
 
 -- Claim: no cut stands or is owed; the number is that of the next claim and below the limit; the seat is one of the
 -- run's and has no open claim. The claim is open on the drawn one of the ready elements.
@@ -133,10 +132,19 @@ pub record MayComplete (setup : PlainSetup) (old : PlainState) (seat number : �
   pub status_is : status_after (outputs_of setup.net held_claim.element held_claim.time) ≡ Some status
   pub new_is : new ≡ record old { claims = slice_set old.claims number (record held_claim { status = status }) }
 
+-- Cut: it is owed, and has the number. The claims from that number on are removed, and the cut stands; what they took is
+-- back in the marking that the claims leave.
+pub record MayCut (setup : PlainSetup) (old : PlainState) (number : ℕ) (new : PlainState) : Type 0 where
+  pub cut : PlainCut
+  pub owed : owed_cut setup old ≡ Some cut
+  pub number_is : number ≡ cut.number
+  pub new_is : new ≡ record old { claims = take number old.claims; cut = Some cut }
+
 -- the event may happen in the old state, and leads to the new one
 abbrev pub Happens : PlainSetup → PlainState → PlainEvent → PlainState → Type 0
 Happens setup old (claim_made seat number) new = MayClaim setup old seat number new
 Happens setup old (claim_completed seat number) new = MayComplete setup old seat number new
+Happens setup old (cut_made number) new = MayCut setup old number new
 
 -- the events may happen one after another from the old state, and lead to the new one
 abbrev pub Leads : PlainSetup → PlainState → List PlainEvent → PlainState → Type 0

@@ -1,5 +1,7 @@
 //! The events of a run, its limits and its ends.
 
+use cpn_core::{Element, EvalFault};
+
 /// An event of a run.
 ///
 /// Source: own choice.
@@ -7,8 +9,10 @@
 pub enum Event {
     /// A seat claims an enabled element under the next number, from 0.
     Claim { seat: u32, number: u64 },
-    /// A seat completes the claim of this number with its outputs.
+    /// A seat completes the claim of this number, with its outputs or with their fault.
     Done { seat: u32, number: u64 },
+    /// The claims from this number on are cut off.
+    Cut { number: u64 },
 }
 
 /// The limits of a run.
@@ -23,8 +27,10 @@ pub struct Limits {
 }
 
 /// The cause of a run's end, in the order in which they are tried.
-#[derive(Clone, Copy, Debug, PartialEq, Eq)]
+#[derive(Drop)]
 pub enum End {
+    /// The outputs of the element have this fault.
+    Fault(Element, EvalFault),
     /// As many claims were made as the limit allows.
     Steps,
     /// No binding element is enabled at any time.

@@ -15,7 +15,7 @@ use Rattle.cpn_definitions.specs.Net.{PlainNet, variable_at}
 use Rattle.cpn_definitions.specs.Meaning.{PlainBinding}
 use Rattle.cpn_definitions.specs.Occurrence.{binds}
 use Rattle.cpn_definitions.specs.Enabled.{binding_cmp}
-use Rattle.cpn_definitions.proofs.Rising.{IsIn, in_map, in_flat_map, each_in, each_mapped, each_implied, each_flat, rises_mapped, rises_flat}
+use Rattle.cpn_definitions.proofs.RisingLists.{IsIn, in_map, in_flat_map, each_in, each_mapped, each_implied, each_flat, rises_mapped, rises_flat}
 use Rattle.cpn_search.specs.Assignments.{extended, assignments, AreInOrder}
 
 -- ---- the order of bindings

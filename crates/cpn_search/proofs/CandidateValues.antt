@@ -10,8 +10,9 @@ use Rattle.cpn_definitions.specs.ValueOrder.{value_cmp_total, value_same, value_
 use Rattle.cpn_definitions.specs.Colour.{admits}
 use Rattle.cpn_definitions.specs.Lists.{Rises}
 use Rattle.cpn_definitions.specs.Marking.{PlainToken, Tokens, Marking, tokens_at, MayPrecede, AreSorted}
-use Rattle.cpn_definitions.specs.Net.{PlainArc, PlainNet, variable_at, is_variable}
-use Rattle.cpn_definitions.proofs.Rising.{IsIn, one_that_passes, all_pass, each_implied}
+use Rattle.cpn_definitions.specs.Net.{PlainArc, PlainNet, variable_at}
+use Rattle.cpn_definitions.specs.Lone.{is_variable}
+use Rattle.cpn_definitions.proofs.RisingLists.{IsIn, one_that_passes, all_pass, each_implied}
 use Rattle.cpn_search.specs.Candidates.{has_value, is_last_of, values_passing, first_place, stands_at_each, is_candidate, candidates}
 
 -- ---- the values of sorted tokens that pass a test

@@ -7,12 +7,14 @@ use Rattle.cpn_definitions.specs.Value.{PlainValue}
 use Rattle.cpn_definitions.specs.Colour.{admits}
 use Rattle.cpn_definitions.specs.Lists.{Rises}
 use Rattle.cpn_definitions.specs.Marking.{Marking, tokens_at}
-use Rattle.cpn_definitions.specs.Net.{PlainArc, PlainTransition, PlainNet, no_transition, variable_at, transition_at, is_variable}
-use Rattle.cpn_definitions.specs.Meaning.{PlainBinding, gives_and, bound_value}
+use Rattle.cpn_definitions.specs.Net.{PlainArc, PlainTransition, PlainNet, no_transition, variable_at, transition_at}
+use Rattle.cpn_definitions.specs.Lone.{is_variable, stands_alone, HasLoneVariables, IsFoundOnTokens}
+use Rattle.cpn_definitions.specs.Outcome.{gives_and}
+use Rattle.cpn_definitions.specs.Meaning.{PlainBinding, bound_value}
 use Rattle.cpn_definitions.specs.Occurrence.{needs_of, are_covered, threshold_in, binds, guard_holds, may_occur, covered}
-use Rattle.cpn_definitions.specs.Sound.{IsSound, IsSoundTransition, is_bindable}
+use Rattle.cpn_definitions.specs.Sound.{IsSound, IsSoundTransition}
 use Rattle.cpn_definitions.proofs.Outcomes.{gives_and_parts}
-use Rattle.cpn_definitions.proofs.Rising.{IsIn, contains_from_in, passes_at, of_one_in}
+use Rattle.cpn_definitions.proofs.RisingLists.{IsIn, contains_from_in, passes_at, of_one_in}
 use Rattle.cpn_search.specs.Candidates.{has_value, candidates}
 use Rattle.cpn_search.specs.Assignments.{assignments_of}
 use Rattle.cpn_search.specs.Found.{element_of}
@@ -52,6 +54,10 @@ transition_in (x ∷ ts) (suc t) lt = inr (transition_in ts t (shorter t (length
 -- a transition of a sound net is sound
 pub sound_transition : (n : PlainNet) (t : ℕ) → IsSound n → nat_lt t (length n.transitions) ≡ true → IsSoundTransition n (transition_at n t)
 sound_transition n t sound lt = of_one_in (IsSoundTransition n) n.transitions (transition_at n t) sound.transitions_sound (transition_in n.transitions t lt)
+
+-- the variables of a transition stand alone where those of each do
+pub lone_transition : (n : PlainNet) (t : ℕ) → IsFoundOnTokens n → nat_lt t (length n.transitions) ≡ true → HasLoneVariables (transition_at n t)
+lone_transition n t alone lt = of_one_in HasLoneVariables n.transitions (transition_at n t) alone (transition_in n.transitions t lt)
 
 -- ---- what a binding gives the variables
 
@@ -118,25 +124,25 @@ value_at_each n m time t b x v all is arc h by =
 -- each value of a covered binding is a candidate of its variable
 value_is_candidate
     : (n : PlainNet) (m : Marking) (time t : ℕ) (b : PlainBinding) (p : ℕ × PlainValue)
-    → IsSoundTransition n (transition_at n t) → IsCoveredBy n m time t b → IsIn p b → IsIn p.1 (candidates n m (transition_at n t).inputs p.0)
-value_is_candidate n m time t b p sound is h =
+    → IsSoundTransition n (transition_at n t) → HasLoneVariables (transition_at n t) → IsCoveredBy n m time t b → IsIn p b → IsIn p.1 (candidates n m (transition_at n t).inputs p.0)
+value_is_candidate n m time t b p sound alone is h =
     let tr : PlainTransition = transition_at n t in
     let pair = pair_is_of n tr.vars b p is.binds_them h in
     let stands = value_at_each n m time t b p.0 p.1 is.needs_covered (pair_is_bound n tr.vars b p sound.listed is.binds_them h) in
-    let first = first_place_is p.0 tr.inputs (passes_at (is_bindable tr) tr.vars p.0 sound.bindable pair.0) in
+    let first = first_place_is p.0 tr.inputs (passes_at (stands_alone tr) tr.vars p.0 alone pair.0) in
     in_candidates n m tr.inputs p.0 p.1 (is_candidate_from n m tr.inputs p.0 p.1 pair.1 stands)
     (subst (λ place. has_value p.1 (tokens_at m place) ≡ true) (sym first.3) (stands first.0 first.1 first.2))
 
 -- every covered binding of a sound transition is among its assignments
 pub covered_is_assigned
     : (n : PlainNet) (m : Marking) (time t : ℕ) (b : PlainBinding)
-    → IsSound n
+    → IsSound n → IsFoundOnTokens n
     → covered n m time (element_of t b) ≡ true
     → Contains (assignments_of n m t) b
-covered_is_assigned n m time t b sound is =
+covered_is_assigned n m time t b sound alone is =
     let tr : PlainTransition = transition_at n t in
     let parts = covered_parts n m time t b is in
     let of_net = sound_transition n t sound parts.in_range in
     contains_from_in (assignments_of n m t) b
     (assignments_have (candidates n m tr.inputs) tr.vars b [] ([] ∷ []) (inl refl)
-    (are_assigned n (candidates n m tr.inputs) tr.vars b parts.binds_them (λ p h. value_is_candidate n m time t b p of_net parts h)))
+    (are_assigned n (candidates n m tr.inputs) tr.vars b parts.binds_them (λ p h. value_is_candidate n m time t b p of_net (lone_transition n t alone parts.in_range) parts h)))

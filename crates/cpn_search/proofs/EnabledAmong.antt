@@ -11,7 +11,7 @@ use Rattle.cpn_definitions.specs.Net.{PlainNet}
 use Rattle.cpn_definitions.specs.Meaning.{PlainBinding}
 use Rattle.cpn_definitions.specs.Occurrence.{covered}
 use Rattle.cpn_definitions.specs.Enabled.{PlainEntry, PlainFound, binding_cmp, entry_cmp, entries_of, IsEarliest, EnabledOf}
-use Rattle.cpn_definitions.proofs.Rising.{IsIn, in_from_contains, contains_from_in, in_append_left, in_append_right, in_append_cases, each_in, of_one_in, rises_appended}
+use Rattle.cpn_definitions.proofs.RisingLists.{IsIn, in_from_contains, contains_from_in, in_append_left, in_append_right, in_append_cases, each_in, of_one_in, rises_appended}
 use Rattle.cpn_search.specs.Found.{element_of, IsNeverCovered, IsLeastTime, found_of, EnabledAmong}
 use Rattle.cpn_search.proofs.LeastTimes.{not_never, least_is_one}
 

@@ -9,7 +9,7 @@ use Rattle.cpn_definitions.specs.Lists.{Rises}
 use Rattle.cpn_definitions.specs.Marking.{Marking}
 use Rattle.cpn_definitions.specs.Net.{PlainNet}
 use Rattle.cpn_definitions.specs.Enabled.{PlainEntry, PlainFound, binding_cmp, entry_cmp, IsEarliest, Enabled, entries_of, EnabledOf}
-use Rattle.cpn_definitions.proofs.Rising.{IsIn, in_from_contains, contains_from_in, in_append_left, in_append_right, in_append_cases, in_map, in_map_from, each_in, rises_mapped, rises_appended}
+use Rattle.cpn_definitions.proofs.RisingLists.{IsIn, in_from_contains, contains_from_in, in_append_left, in_append_right, in_append_cases, in_map, in_map_from, each_in, rises_mapped, rises_appended}
 use Rattle.cpn_search.specs.Found.{not_before, entries_at, EnabledBelow}
 use Rattle.cpn_search.proofs.Completeness.{covered_parts}
 use Rattle.cpn_search.proofs.LeastTimes.{from_clock, from_start}

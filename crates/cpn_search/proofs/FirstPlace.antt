@@ -3,7 +3,7 @@ use Rattle.std.proofs.Common.{◌≡◌, ℕ, ◌<◌, Bool, true, false, cond, 
 use Rattle.std.specs.List.{list_all, list_any}
 use Rattle.std.proofs.lemmas.Bool.{and_parts}
 use Rattle.std.proofs.lemmas.Bool.Decides.{nat_tests}
-use Rattle.cpn_definitions.specs.Net.{is_variable}
+use Rattle.cpn_definitions.specs.Lone.{is_variable}
 use Rattle.cpn_search.specs.Candidates.{first_place}
 use Rattle.cpn_core.specs.declared.nets.PlaceArc.{PlaceArc}
 use Rattle.cpn_core.specs.Nets.{arc_view}

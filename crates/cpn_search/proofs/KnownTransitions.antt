@@ -3,10 +3,12 @@ use Rattle.std.proofs.Common.{◌≡◌, ℕ, zero, suc, ◌<◌, Bool, true, fa
 use Rattle.std.specs.List.{list_all, list_any, AllByRecursion}
 use Rattle.std.proofs.lemmas.Bool.Decides.{nat_tests}
 use Rattle.cpn_definitions.specs.Marking.{Marking}
-use Rattle.cpn_definitions.specs.Net.{PlainArc, PlainTransition, PlainNet, no_transition, transition_at, is_variable}
-use Rattle.cpn_definitions.specs.Meaning.{PlainBinding, HasMeaning}
+use Rattle.cpn_definitions.specs.Net.{PlainArc, PlainTransition, PlainNet, no_transition, transition_at}
+use Rattle.cpn_definitions.specs.Lone.{is_variable, stands_alone, HasLoneVariables, IsFoundOnTokens}
+use Rattle.cpn_definitions.specs.Outcome.{HasMeaning}
+use Rattle.cpn_definitions.specs.Meaning.{PlainBinding}
 use Rattle.cpn_definitions.specs.Occurrence.{binds, guard_holds, may_occur, needs_of}
-use Rattle.cpn_definitions.specs.Sound.{IsSound, IsSoundTransition, IsSoundInput, is_bindable, IsMarking}
+use Rattle.cpn_definitions.specs.Sound.{IsSound, IsSoundTransition, IsSoundInput, IsMarking}
 use Rattle.cpn_definitions.proofs.Markings.{marking_length}
 use Rattle.cpn_core.specs.declared.nets.Net.{Net}
 use Rattle.cpn_core.specs.declared.nets.PlaceArc.{PlaceArc}
@@ -15,7 +17,7 @@ use Rattle.cpn_core.specs.Nets.{arc_view, transition_view, net_view}
 use Rattle.cpn_search.specs.Known.{IsKnown}
 use Rattle.cpn_eval.specs.Guards.{GuardHasMeaning}
 use Rattle.cpn_search.specs.Found.{element_of, IsNeverCovered}
-use Rattle.cpn_search.proofs.Completeness.{sound_transition}
+use Rattle.cpn_search.proofs.Completeness.{sound_transition, lone_transition}
 use Rattle.cpn_search.proofs.Needs.{needs_mean}
 use Rattle.cpn_search.proofs.LeastTimes.{never_by_guard}
 
@@ -58,20 +60,21 @@ arcs_placed n t k (arc ∷ arcs) long sound =
     let first : nat_lt arc.place k ≡ true = above arc.place k (subst (λ (j : ℕ). arc.place < j) long sound.0.sound.place_known) in
     rw first (arcs_placed n t k arcs long sound.1)
 
-known_parts : (n : Net) (m : Marking) (tr : Transition) → IsSoundTransition (net_view n) (transition_view tr) → IsMarking (net_view n).places m → IsKnown n m tr
-known_parts n m tr sound marking = record {
+known_parts : (n : Net) (m : Marking) (tr : Transition) → IsSoundTransition (net_view n) (transition_view tr) → HasLoneVariables (transition_view tr) → IsMarking (net_view n).places m → IsKnown n m tr
+known_parts n m tr sound alone marking = record {
   placed = arcs_placed (net_view n) (transition_view tr) (length m) tr.inputs.items (sym (marking_length (net_view n).places m marking)) sound.inputs_sound;
   declared = ap (λ (k : ℕ). list_all (λ x. nat_lt x k) tr.vars.items) (sym (length_map _ n.variables.items)) ∙ sound.declared;
   bindable =
-      all_alike (λ x. list_any (λ (arc : PlaceArc). is_variable x (arc_view arc).expr) tr.inputs.items) (is_bindable (transition_view tr)) tr.vars.items
+      all_alike (λ x. list_any (λ (arc : PlaceArc). is_variable x (arc_view arc).expr) tr.inputs.items) (stands_alone (transition_view tr)) tr.vars.items
       (λ x. sym (any_mapped (λ (arc : PlainArc). is_variable x arc.expr) arc_view tr.inputs.items))
-      ∙ sound.bindable;
+      ∙ alone;
 }
 
 -- what is known of a transition of a sound net
-pub known_transition : (n : Net) (m : Marking) (t : ℕ) (tr : Transition) → IsSound (net_view n) → IsMarking (net_view n).places m → t < length n.transitions.items → tr ≡ get_or n.transitions.items t tr → IsKnown n m tr
-known_transition n m t tr sound marking lt is =
-    known_parts n m tr (subst (IsSoundTransition (net_view n)) (transition_is n t tr lt is) (sound_transition (net_view n) t sound (in_range n t lt))) marking
+pub known_transition : (n : Net) (m : Marking) (t : ℕ) (tr : Transition) → IsSound (net_view n) → IsFoundOnTokens (net_view n) → IsMarking (net_view n).places m → t < length n.transitions.items → tr ≡ get_or n.transitions.items t tr → IsKnown n m tr
+known_transition n m t tr sound alone marking lt is =
+    known_parts n m tr (subst (IsSoundTransition (net_view n)) (transition_is n t tr lt is) (sound_transition (net_view n) t sound (in_range n t lt)))
+    (subst HasLoneVariables (transition_is n t tr lt is) (lone_transition (net_view n) t alone (in_range n t lt))) marking
 
 -- ---- what may be asked
 

@@ -4,11 +4,12 @@ use Rattle.std.proofs.Common.{◌≡◌, ℕ, ◌<◌, Bool, true, false, ◌&&�
 use Rattle.std.proofs.lemmas.Bool.{cases_lt}
 use Rattle.cpn_definitions.specs.Marking.{Marking}
 use Rattle.cpn_definitions.specs.Net.{PlainNet, transition_at}
-use Rattle.cpn_definitions.specs.Meaning.{PlainBinding, Fault, gives, faults, gives_and}
+use Rattle.cpn_definitions.specs.Outcome.{Fault, gives, faults, gives_and}
+use Rattle.cpn_definitions.specs.Meaning.{PlainBinding}
 use Rattle.cpn_definitions.specs.Occurrence.{PlainElement, Needed, needs_of, threshold, threshold_in, are_covered, binds, guard_holds, may_occur, covered}
 use Rattle.cpn_definitions.specs.Enabled.{PlainEntry, IsEarliest}
 use Rattle.cpn_definitions.specs.Sound.{IsMarking}
-use Rattle.cpn_definitions.proofs.Later.{covered_later, has_entry}
+use Rattle.cpn_definitions.proofs.LeastTimes.{covered_later, has_entry}
 use Rattle.cpn_definitions.proofs.UntimedPlaces.{covered_alike, marking_stamped}
 use Rattle.cpn_search.specs.Found.{element_of, IsNeverCovered, IsLeastTime, not_before}
 

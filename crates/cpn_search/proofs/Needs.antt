@@ -11,12 +11,18 @@ use Rattle.cpn_definitions.specs.ValueOrder.{same_value_refl}
 use Rattle.cpn_definitions.specs.Colour.{PlainColour, admits}
 use Rattle.cpn_definitions.specs.Lists.{with_item, with_items, in_order}
 use Rattle.cpn_definitions.specs.Marking.{Tokens, Marking, tokens_at, stamps, covers}
-use Rattle.cpn_definitions.specs.Net.{PlainExpr, literal, variable, Functions, ArcInscription, one, PlainArc, PlainTransition, PlainNet, transition_at, is_variable}
-use Rattle.cpn_definitions.specs.Meaning.{PlainBinding, Outcome, gives, faults, no_meaning, not_in_colour, HasMeaning, bound_value, given, meaning, in_colour, PlainTerm, terms_of, gather, ◌>>=◌}
-use Rattle.cpn_definitions.specs.Occurrence.{Needed, needed_cmp, binds, needed_by, needs_of, same_need, thresholds, are_covered}
+use Rattle.cpn_definitions.specs.Inscription.{PlainExpr, literal, variable, Functions, ArcInscription, one}
+use Rattle.cpn_definitions.specs.Net.{PlainArc, PlainTransition, PlainNet, transition_at}
+use Rattle.cpn_definitions.specs.Lone.{is_variable}
+use Rattle.cpn_definitions.proofs.Lone.{variable_alone}
+use Rattle.cpn_definitions.proofs.Terms.{one_token}
+use Rattle.cpn_definitions.specs.Outcome.{Outcome, gives, faults, no_meaning, not_in_colour, HasMeaning, given, ◌>>=◌}
+use Rattle.cpn_definitions.specs.Meaning.{PlainBinding, bound_value, meaning}
+use Rattle.cpn_definitions.specs.Terms.{in_colour, PlainTerm, terms_of}
+use Rattle.cpn_definitions.specs.Occurrence.{gather, Needed, needed_cmp, binds, needed_by, needs_of, same_need, thresholds, are_covered}
 use Rattle.cpn_definitions.specs.Sound.{IsSoundInput}
 use Rattle.cpn_definitions.proofs.Outcomes.{same_given, bound_parts}
-use Rattle.cpn_definitions.proofs.Rising.{IsIn, in_append_left, in_append_right, in_map, in_filter, passes_at, each_implied}
+use Rattle.cpn_definitions.proofs.RisingLists.{IsIn, in_append_left, in_append_right, in_map, in_filter, passes_at, each_implied}
 use Rattle.cpn_search.specs.Candidates.{has_value}
 use Rattle.cpn_search.specs.Found.{element_of}
 
@@ -76,7 +82,7 @@ expr_needs
     → meaning funs e b 0 ≡ gives v → needed_by funs b (record arc { expr = one e }) ≡ gives ys → token_of arc v ∷ [] ≡ ys
 expr_needs funs b arc e v ys is gives_it =
     let terms = bound_parts (terms_of funs (one e) arc.colour b 0) _ ys gives_it in
-    let first = bound_parts (meaning funs e b 0) _ terms.0 terms.1 in
+    let first = bound_parts (meaning funs e b 0) _ terms.0 (sym (one_token funs e arc.colour b 0) ∙ terms.1) in
     let second = bound_parts (in_colour arc.colour first.0) _ terms.0 first.2 in
     let same : v ≡ second.0 = same_given v first.0 (sym is ∙ first.1) ∙ in_colour_is arc.colour first.0 second.0 second.1 in
     let one_term : record { value = second.0; count = 1; delay = 0 } ∷ [] ≡ terms.0 = same_given _ _ second.2 in
@@ -86,16 +92,10 @@ expr_needs funs b arc e v ys is gives_it =
 variable_needs
     : (funs : Functions) (b : PlainBinding) (arc : PlainArc) (x : ℕ) (v : PlainValue) (ys : List Needed)
     → is_variable x arc.expr ≡ true → bound_value x b ≡ Some v → needed_by funs b arc ≡ gives ys → IsIn (token_of arc v) ys
-variable_needs funs b arc x v ys by is gives_it = by_expr arc.expr by gives_it
-  where
-    number_same : (x y : ℕ) → (x == y) ≡ true → x ≡ y
-    number_same x y h = grind (arith, nat_tests)
-
-    by_expr : (e : ArcInscription) → is_variable x e ≡ true → needed_by funs b (record arc { expr = e }) ≡ gives ys → IsIn (token_of arc v) ys
-    by_expr (one (literal w)) by' g = cc
-    by_expr (one (variable y)) by' g =
-        let named : meaning funs (variable y) b 0 ≡ gives v = ap (λ z. given (bound_value z b)) (sym (number_same x y by')) ∙ ap given is in
-        subst (IsIn (token_of arc v)) (expr_needs funs b arc (variable y) v ys named g) (inl refl)
+variable_needs funs b arc x v ys by is gives_it =
+    let named : meaning funs (variable x) b 0 ≡ gives v = ap given is in
+    let alone : needed_by funs b (record arc { expr = one (variable x) }) ≡ gives ys = subst (λ (m : ArcInscription). needed_by funs b (record arc { expr = m }) ≡ gives ys) (variable_alone x arc.expr by) gives_it in
+    subst (IsIn (token_of arc v)) (expr_needs funs b arc (variable x) v ys named alone) (inl refl)
 
 -- the needs of an element have one for the value of each variable on each of the arcs whose inscription it is
 pub needed_at

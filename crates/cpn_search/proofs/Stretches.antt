@@ -3,30 +3,15 @@ use Rattle.std.proofs.Common.{◌≡◌, ℕ, zero, suc, ◌+◌, ◌-◌, ◌<�
 use Rattle.std.specs.Ordering.{ordering_reverse, is_le}
 use Rattle.std.specs.List.{AllWithin}
 use Rattle.std.proofs.lemmas.Bool.Decides.{nat_tests}
-use Rattle.std.proofs.lemmas.Cmp.{upto, tied_itself}
+use Rattle.std.proofs.lemmas.Cmp.{upto}
 use Rattle.std.proofs.lemmas.List.{get_or-drop, length-drop, drop-drop, get_or_default}
 use Rattle.cpn_definitions.specs.Value.{PlainValue}
 use Rattle.cpn_definitions.specs.Order.{value_cmp, same_value}
 use Rattle.cpn_definitions.specs.Marking.{PlainToken, Tokens, token_cmp, AreSorted}
-use Rattle.cpn_definitions.specs.ValueOrder.{value_cmp_total, token_cmp_total, value_same, value_itself, same_value_refl, value_not_above}
+use Rattle.cpn_definitions.specs.ValueOrder.{value_cmp_total, value_same, value_itself, same_value_refl, value_not_above}
+use Rattle.cpn_definitions.proofs.SortedTokens.{sorted_places}
 use Rattle.cpn_search.specs.Candidates.{is_last_of, values_passing}
 use Rattle.cpn_search.specs.Stretches.{is_at_most, IsEndOf}
-
--- ---- sorted tokens, by their places
-
-head_first : (k l : PlainToken) (ls : Tokens) (j : ℕ) (d : PlainToken) → is_gt (token_cmp k l) ≡ false → AreSorted (l ∷ ls) → j < length (l ∷ ls) → is_gt (token_cmp k (get_or (l ∷ ls) j d)) ≡ false
-head_first k l ls zero d h sorted lt = h
-head_first k l [] (suc j) d h sorted lt = let no : ⊥ = omega arith in absurd no
-head_first k l (m ∷ ms) (suc j) d h sorted lt = head_first k m ms j d (upto token_cmp_total k l m h sorted.0) sorted.1 (omega arith)
-
--- of two sorted tokens the earlier is not above the later
-pub sorted_places : (ks : Tokens) (i j : ℕ) (d : PlainToken) → AreSorted ks → i ≤ j → j < length ks → is_gt (token_cmp (get_or ks i d) (get_or ks j d)) ≡ false
-sorted_places [] i j d sorted le lt = let no : ⊥ = omega arith in absurd no
-sorted_places (k ∷ ks) zero zero d sorted le lt = ap is_gt (tied_itself token_cmp_total k)
-sorted_places (k ∷ []) zero (suc j) d sorted le lt = let no : ⊥ = omega arith in absurd no
-sorted_places (k ∷ l ∷ ls) zero (suc j) d sorted le lt = head_first k l ls j d sorted.0 sorted.1 (omega arith)
-sorted_places (k ∷ ks) (suc i) zero d sorted le lt = let no : ⊥ = omega arith in absurd no
-sorted_places (k ∷ ks) (suc i) (suc j) d sorted le lt = sorted_places ks i j d sorted.1 (omega arith) (omega arith)
 
 -- ---- values that are not after another
 

@@ -7,6 +7,7 @@ use Rattle.cpn_definitions.specs.Value.{PlainValue}
 use Rattle.cpn_definitions.specs.Order.{value_cmp}
 use Rattle.cpn_definitions.specs.Lists.{Rises}
 use Rattle.cpn_definitions.specs.Marking.{AreSorted}
+use Rattle.cpn_definitions.proofs.ViewedLists.{entry, within, up_to}
 use Rattle.cpn_search.specs.Candidates.{values_passing}
 use Rattle.cpn_search.specs.Stretches.{IsEndOf}
 use Rattle.cpn_search.proofs.CandidateValues.{values_rise}
@@ -15,7 +16,6 @@ use Rattle.cpn_core.specs.declared.values.Value.{Value}
 use Rattle.cpn_core.specs.declared.places.Token.{Token}
 use Rattle.cpn_core.specs.Views.{value_view}
 use Rattle.cpn_core.specs.Tokens.{token_view, tokens_view}
-use Rattle.cpn_search.proofs.PlainTokens.{entry, within, up_to}
 
 module _
     (tokens : List Token) (start end : ℕ) (d : Token)
@@ -28,18 +28,18 @@ module _
     here = get_or tokens start d
 
     seen : token_view here ≡ get_or (tokens_view tokens) start (token_view here)
-    seen = entry tokens start here lt (get_or_default tokens start d here lt)
+    seen = entry token_view tokens start here lt (get_or_default tokens start d here lt)
 
     -- the next value begins further on, so that fewer tokens are left
     pub fewer_left : length tokens - end < length tokens - start
     fewer_left =
-        let on = ends_past (tokens_view tokens) start end (token_view here) sorted (within tokens start lt) (up_to tokens end short) seen ends in
+        let on = ends_past (tokens_view tokens) start end (token_view here) sorted (within token_view tokens start lt) (up_to token_view tokens end short) seen ends in
         omega (arith, on)
 
     passing_here : (keep : PlainValue → Bool) → values_passing keep (tokens_view (drop start tokens)) ≡ cond (keep (value_view here.value)) (value_view here.value ∷ values_passing keep (tokens_view (drop end tokens))) (values_passing keep (tokens_view (drop end tokens)))
     passing_here keep =
         ap (values_passing keep) (sym (drop-map token_view start tokens))
-        ∙ passing_from (tokens_view tokens) start end (token_view here) sorted (within tokens start lt) (up_to tokens end short) seen ends keep
+        ∙ passing_from (tokens_view tokens) start end (token_view here) sorted (within token_view tokens start lt) (up_to token_view tokens end short) seen ends keep
         ∙ ap (λ ls. cond (keep (value_view here.value)) (value_view here.value ∷ values_passing keep ls) (values_passing keep ls)) (drop-map token_view end tokens)
 
     -- with a copy of a value that passes, those so far and those further on are still all

@@ -8,11 +8,18 @@ use Rattle.cpn_definitions.specs.Value.{PlainValue, int}
 use Rattle.cpn_definitions.specs.Colour.{PlainColour, admits}
 use Rattle.cpn_definitions.specs.Lists.{Rises}
 use Rattle.cpn_definitions.specs.Marking.{Marking, token_at, add_token}
-use Rattle.cpn_definitions.specs.Net.{PlainExpr, literal, variable, Functions, one, PlainArc, PlainTransition, Coloured, PlainNet, no_transition, nothing, place_at, transition_at, variable_at, is_variable}
-use Rattle.cpn_definitions.specs.Meaning.{PlainBinding, gives, faults, not_in_colour, HasMeaning, PlainTerm, bound_value, given, in_colour, meaning, terms_of, ◌>>=◌}
+use Rattle.cpn_definitions.specs.Inscription.{PlainExpr, literal, variable, variable_pattern, literal_pattern, Functions, one}
+use Rattle.cpn_definitions.specs.Net.{PlainArc, PlainTransition, Coloured, PlainNet, no_transition, nothing, place_at, transition_at, variable_at}
+use Rattle.cpn_definitions.specs.Bindable.{binding_terms}
+use Rattle.cpn_definitions.specs.Lone.{is_variable, stands_alone, HasLoneVariables, IsFoundOnTokens}
+use Rattle.cpn_definitions.specs.Outcome.{gives, faults, not_in_colour, HasMeaning, given, ◌>>=◌}
+use Rattle.cpn_definitions.specs.Meaning.{PlainBinding, bound_value, meaning}
+use Rattle.cpn_definitions.specs.Terms.{PlainTerm, in_colour, terms_of}
 use Rattle.cpn_definitions.specs.Occurrence.{binds, transition_delay}
-use Rattle.cpn_definitions.specs.Sound.{IsSound, IsSoundTransition, IsSoundInput, IsSoundArc, is_bindable, may_hold, IsMarking}
-use Rattle.cpn_definitions.proofs.Rising.{IsIn, in_map, of_one_in, each_implied, passes_at, one_that_passes, some_passes, all_pass, each_in, each_mapped}
+use Rattle.cpn_definitions.specs.Sound.{IsSound, IsSoundTransition, IsSoundInput, IsSoundArc, may_hold, IsMarking}
+use Rattle.cpn_definitions.proofs.RisingLists.{IsIn, in_map, of_one_in, each_implied, passes_at, one_that_passes, some_passes, all_pass, each_in, each_mapped}
+use Rattle.cpn_definitions.proofs.Lone.{are_bindable_alone}
+use Rattle.cpn_definitions.proofs.Terms.{one_token}
 use Rattle.cpn_definitions.proofs.Markings.{added_marking}
 use Rattle.cpn_search.specs.Worked.{numbers, inscription_of, arc_of, has_arc, are_fit, two_places, IsWorked}
 
@@ -79,8 +86,10 @@ inscription_means n funs vars x colour b time is = by_number (nat_lt x vars) ref
     by_value None v e = cc
 
     by_number : (b' : Bool) → nat_lt x vars ≡ b' → HasMeaning (terms_of funs (one (cond b' (variable x) (literal (int (pos 7))))) colour b time)
-    by_number true lt = let v = is_given n (range_with_len 0 vars) b x is (in_range_from x 0 vars (omega arith) (omega (arith, is_below x vars lt))) in by_value (bound_value x b) v.0 v.1
-    by_number false ge = in_the_colour (int (pos 7)) (admits colour (int (pos 7)))
+    by_number true lt =
+        let v = is_given n (range_with_len 0 vars) b x is (in_range_from x 0 vars (omega arith) (omega (arith, is_below x vars lt))) in
+        subst HasMeaning (sym (one_token funs (variable x) colour b time)) (by_value (bound_value x b) v.0 v.1)
+    by_number false ge = subst HasMeaning (sym (one_token funs (literal (int (pos 7))) colour b time)) (in_the_colour (int (pos 7)) (admits colour (int (pos 7))))
 
 module _ (timed guard : Bool) (vars : ℕ) (arcs : List (ℕ × ℕ)) (n : PlainNet) (is : IsWorked timed guard vars arcs n) (fit : are_fit vars arcs ≡ true) (few : length arcs ≤ 64) where
   abbrev t : PlainTransition
@@ -104,15 +113,15 @@ module _ (timed guard : Bool) (vars : ℕ) (arcs : List (ℕ × ℕ)) (n : Plain
       its (a ∷ b ∷ rest) (suc (suc p)) lt e = absurd (omega arith)
 
   -- each variable is the inscription of an arc
-  each_bindable : list_all (is_bindable t) t.vars ≡ true
-  each_bindable = subst (λ (xs : List ℕ). list_all (is_bindable t) xs ≡ true) (sym is.worked.listed) (all_pass (is_bindable t) (range_with_len 0 vars) each)
+  each_alone : list_all (stands_alone t) t.vars ≡ true
+  each_alone = subst (λ (xs : List ℕ). list_all (stands_alone t) xs ≡ true) (sym is.worked.listed) (all_pass (stands_alone t) (range_with_len 0 vars) each)
     where
       this_one : (x : ℕ) (a : ℕ × ℕ) → nat_lt x vars ≡ true → (a.1 == x) ≡ true → is_variable x (arc_of timed vars a).expr ≡ true
       this_one x a lt same =
           let e : a.1 ≡ x = number_same a.1 x same in
           subst (λ inscription. is_variable x (one inscription) ≡ true) (sym (cond-true (nat_lt a.1 vars) (variable a.1) (literal (int (pos 7))) (subst (λ (k : ℕ). nat_lt k vars ≡ true) (sym e) lt))) (number_itself x a.1 (sym e))
 
-      each : (x : ℕ) → IsIn x (range_with_len 0 vars) → is_bindable t x ≡ true
+      each : (x : ℕ) → IsIn x (range_with_len 0 vars) → stands_alone t x ≡ true
       each x h =
           let arc = one_that_passes (λ (a : ℕ × ℕ). a.1 == x) arcs (passes_at (λ x. has_arc x arcs) (range_with_len 0 vars) x fit_parts.1 h) in
           let lt : nat_lt x vars ≡ true = passes_at (λ x. nat_lt x vars) (range_with_len 0 vars) x (range_below vars) h in
@@ -122,6 +131,10 @@ module _ (timed guard : Bool) (vars : ℕ) (arcs : List (ℕ × ℕ)) (n : Plain
   each_sound : AllByRecursion (IsSoundInput n t) t.inputs
   each_sound = subst (AllByRecursion (IsSoundInput n t)) (sym is.worked.inputs) (each_mapped (IsSoundInput n t) (arc_of timed vars) arcs (each_in (λ a. IsSoundInput n t (arc_of timed vars a)) arcs one_sound))
     where
+      its_term : (x : ℕ) (b : Bool) → record { count = 1; pattern = cond b (variable_pattern x) (literal_pattern (int (pos 7))) } ∷ [] ≡ binding_terms (one (cond b (variable x) (literal (int (pos 7)))))
+      its_term x true = refl
+      its_term x false = refl
+
       one_sound : (a : ℕ × ℕ) → IsIn a arcs → IsSoundInput n t (arc_of timed vars a)
       one_sound a h =
           let lt : a.0 < 2 = is_below a.0 2 (passes_at (λ (b : ℕ × ℕ). nat_lt b.0 2) arcs a fit_parts.0 h) in
@@ -131,14 +144,14 @@ module _ (timed guard : Bool) (vars : ℕ) (arcs : List (ℕ × ℕ)) (n : Plain
               colour_is = coloured a.0 lt;
               means = λ b time bound le. inscription_means n n.functions vars a.1 (numbers timed) b time (subst (λ (xs : List ℕ). binds n xs b ≡ true) is.worked.listed bound);
             };
-            terms_are = refl;
+            terms_are = its_term a.1 (nat_lt a.1 vars);
           }
 
   transition_sound : IsSoundTransition n t
   transition_sound = record {
     listed = subst (Rises nat_cmp) (sym is.worked.listed) (range_rises 0 vars);
     declared = ap₂ (λ (k : ℕ) (xs : List ℕ). list_all (λ x. nat_lt x k) xs) is.variables is.worked.listed ∙ range_below vars;
-    bindable = each_bindable;
+    bindable = are_bindable_alone n t each_alone;
     guard_means = λ b bound. subst (AllByRecursion (λ e. HasMeaning (meaning n.functions e b 0))) (sym is.worked.guarded) ((λ e. cc), tt);
     delay_means = λ b time bound le. subst (λ (d : Option PlainExpr). HasMeaning (transition_delay n.functions d b time)) (sym is.worked.undelayed) (λ e. cc);
     few_arcs = omega (arith, ap length is.worked.inputs, ap length is.worked.outputs, length-map arcs (arc_of timed vars));
@@ -159,6 +172,10 @@ module _ (timed guard : Bool) (vars : ℕ) (arcs : List (ℕ × ℕ)) (n : Plain
     few_transitions = omega (arith, is.transitions);
     few_variables = omega (arith, is.variables);
   }
+
+  -- and each of its variables stands alone on an input arc
+  pub worked_is_found : IsFoundOnTokens n
+  worked_is_found = only_one HasLoneVariables n.transitions is.transitions each_alone
 
 -- ---- markings
 
@@ -236,3 +253,11 @@ pub sound_where_tested
     → length arcs ≤ 64 → vars < 2 ^ 32 → IsSound n
 sound_where_tested timed guard vars arcs n is placed used few narrow =
     worked_is_sound timed guard vars arcs n is (and_from (list_all (λ (a : ℕ × ℕ). nat_lt a.0 2) arcs) (list_all (λ x. has_arc x arcs) (range_with_len 0 vars)) placed used) few narrow
+
+-- and its bindings are found on the tokens
+pub found_where_tested
+    : (timed guard : Bool) (vars : ℕ) (arcs : List (ℕ × ℕ)) (n : PlainNet)
+    → IsWorked timed guard vars arcs n → list_all (λ (a : ℕ × ℕ). nat_lt a.0 2) arcs ≡ true → list_all (λ x. has_arc x arcs) (range_with_len 0 vars) ≡ true
+    → length arcs ≤ 64 → IsFoundOnTokens n
+found_where_tested timed guard vars arcs n is placed used few =
+    worked_is_found timed guard vars arcs n is (and_from (list_all (λ (a : ℕ × ℕ). nat_lt a.0 2) arcs) (list_all (λ x. has_arc x arcs) (range_with_len 0 vars)) placed used) few

@@ -7,7 +7,8 @@ use Rattle.cpn_definitions.specs.Value.{PlainValue}
 use Rattle.cpn_definitions.specs.Order.{same_value}
 use Rattle.cpn_definitions.specs.Colour.{admits}
 use Rattle.cpn_definitions.specs.Marking.{PlainToken, Tokens, Marking, tokens_at}
-use Rattle.cpn_definitions.specs.Net.{PlainArc, PlainNet, variable_at, is_variable}
+use Rattle.cpn_definitions.specs.Net.{PlainArc, PlainNet, variable_at}
+use Rattle.cpn_definitions.specs.Lone.{is_variable}
 
 -- whether one of the tokens has the value
 abbrev pub has_value : PlainValue → Tokens → Bool

@@ -2,7 +2,7 @@
 use Rattle.std.specs.Prelude.{◌≡◌, true, nat_lt, length}
 use Rattle.std.specs.List.{list_all, list_any}
 use Rattle.cpn_definitions.specs.Marking.{Marking}
-use Rattle.cpn_definitions.specs.Net.{is_variable}
+use Rattle.cpn_definitions.specs.Lone.{is_variable}
 use Rattle.cpn_core.specs.declared.nets.Net.{Net}
 use Rattle.cpn_core.specs.declared.nets.Transition.{Transition}
 use Rattle.cpn_core.specs.Nets.{arc_view}

@@ -4,8 +4,8 @@ use Rattle.std.specs.Prelude.{◌≡◌, ℕ, ◌==◌, pos, negsuc, Bool, ◌&&
 use Rattle.std.specs.List.{list_all, list_any, range_with_len}
 use Rattle.cpn_definitions.specs.Value.{boolean, int}
 use Rattle.cpn_definitions.specs.Colour.{PlainColour, int_shape}
-use Rattle.cpn_definitions.specs.Net.{PlainExpr, literal, variable, one, PlainArc, PlainTransition, Coloured, PlainNet, transition_at}
-use Rattle.cpn_definitions.specs.Sound.{pattern_of}
+use Rattle.cpn_definitions.specs.Inscription.{PlainPattern, variable_pattern, literal_pattern, PlainExpr, literal, variable, one}
+use Rattle.cpn_definitions.specs.Net.{PlainArc, PlainTransition, Coloured, PlainNet, transition_at}
 
 -- the colour set of the whole numbers from -1,000 to 1,000,000
 abbrev pub numbers : Bool → PlainColour
@@ -15,9 +15,13 @@ numbers timed = record { shape = int_shape (negsuc 999) (pos 1000000); timed = t
 abbrev pub inscription_of : ℕ → ℕ → PlainExpr
 inscription_of vars x = if nat_lt x vars then variable x else literal (int (pos 7))
 
+-- the same as a pattern
+abbrev pub pattern_of : ℕ → ℕ → PlainPattern
+pattern_of vars x = if nat_lt x vars then variable_pattern x else literal_pattern (int (pos 7))
+
 -- the input arc of a place and the number of its inscription
 abbrev pub arc_of : Bool → ℕ → ℕ × ℕ → PlainArc
-arc_of timed vars a = record { place = a.0; colour = numbers timed; expr = one (inscription_of vars a.1); terms = record { count = 1; pattern = pattern_of (inscription_of vars a.1) } ∷ [] }
+arc_of timed vars a = record { place = a.0; colour = numbers timed; expr = one (inscription_of vars a.1); terms = record { count = 1; pattern = pattern_of vars a.1 } ∷ [] }
 
 -- whether an arc has the inscription of the number
 abbrev pub has_arc : ℕ → List (ℕ × ℕ) → Bool

@@ -2,10 +2,11 @@
 ghost use Rattle.std.specs.Prelude.{◌≡◌, ℕ, ◌+◌, ◌<◌, ◌++◌, nat_lt, true, [], ◌∷◌, length, map, Contains, OnOk, IfOk};
 ghost use Rattle.std.specs.List.{list_all, list_any, flat_map, AllByRecursion};
 ghost use Rattle.cpn_definitions.specs.Lists.{Rises};
-ghost use Rattle.cpn_definitions.specs.Net.{is_variable, transition_at};
+ghost use Rattle.cpn_definitions.specs.Net.{transition_at};
 ghost use Rattle.cpn_definitions.specs.Meaning.{PlainBinding};
 ghost use Rattle.cpn_definitions.specs.Occurrence.{binds, covered};
 ghost use Rattle.cpn_definitions.specs.Enabled.{binding_cmp};
+ghost use Rattle.cpn_definitions.specs.Lone.{is_variable, IsFoundOnTokens};
 ghost use Rattle.cpn_definitions.specs.Sound.{IsSound, IsMarking};
 ghost use Rattle.cpn_core.specs.Views.{value_view};
 ghost use Rattle.cpn_core.specs.Nets.{arc_view, net_view};
@@ -106,6 +107,7 @@ pub fn assignments(
     t: u32,
 ) -> Result<Vec<Binding>, Memory>
     requires sound { IsSound (net_view net.now) }
+    requires alone { IsFoundOnTokens (net_view net.now) }
     requires marking { IsMarking (net_view net.now).places marking.now }
     requires in_range { t < length net.now.transitions.items }
     ensures assigned { IfOk result (λ bindings. bindings.items ≡ assignments_of (net_view net.now) marking.now t) }

@@ -6,7 +6,7 @@ ghost use Rattle.std.specs.List.{list_all, list_any};
 ghost use Rattle.cpn_definitions.specs.Order.{value_cmp};
 ghost use Rattle.cpn_definitions.specs.Lists.{Rises};
 ghost use Rattle.cpn_definitions.specs.Marking.{AreSorted};
-ghost use Rattle.cpn_definitions.specs.Net.{is_variable};
+ghost use Rattle.cpn_definitions.specs.Lone.{is_variable};
 ghost use Rattle.cpn_search.specs.Candidates.{stands_at_each, first_place as first_place_of, is_candidate as is_candidate_value, candidates as candidate_values, values_passing};
 ghost use Rattle.cpn_search.specs.Stretches.{is_at_most, IsEndOf};
 ghost use Rattle.cpn_core.specs.Views.{value_view};

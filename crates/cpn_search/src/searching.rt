@@ -5,6 +5,7 @@ ghost use Rattle.cpn_definitions.specs.Lists.{Rises};
 ghost use Rattle.cpn_definitions.specs.Net.{transition_at};
 ghost use Rattle.cpn_definitions.specs.Occurrence.{binds};
 ghost use Rattle.cpn_definitions.specs.Enabled.{binding_cmp, EnabledOf, Enabled};
+ghost use Rattle.cpn_definitions.specs.Lone.{IsFoundOnTokens};
 ghost use Rattle.cpn_definitions.specs.Sound.{IsSound, IsMarking};
 ghost use Rattle.cpn_core.specs.Nets.{net_view};
 ghost use Rattle.cpn_core.specs.Elements.{entry_view};
@@ -50,14 +51,15 @@ fn enabled_among(
     Ok(found)
 }
 
-/// The enabled bindings of a transition of a sound net: each binding with which it is covered at some
-/// time, once, by the values of its variables in declaration order, with the least such time.
+/// The enabled bindings of a transition of a sound net in which each variable stands alone on an input arc: each binding
+/// with which it is covered at some time, once, by the values of its variables in declaration order, with the least such time.
 ///
 /// The search goes from the tokens: a variable takes only values that stand on the place of each input arc
 /// whose inscription it is, each of them once. `Memory` comes where memory is wanted, and leaves nothing behind.
 /// Source: Jensen and Kristensen, chapters 4 and 11; the order is our own choice.
 pub fn enabled_of(alloc: Global, net: &Net, marking: &PlainMarking, t: u32) -> Result<Found, Memory>
     requires sound { IsSound (net_view net.now) }
+    requires alone { IsFoundOnTokens (net_view net.now) }
     requires marking { IsMarking (net_view net.now).places marking.now }
     requires in_range { t < length net.now.transitions.items }
     ensures enabled { IfOk result (λ found. EnabledOf (net_view net.now) marking.now t (map found_view found.items)) }
@@ -88,7 +90,7 @@ fn push_entries(
     Ok(())
 }
 
-/// The enabled elements of a sound net: each binding element that is covered at some time not before the
+/// The enabled elements of a sound net in which each variable stands alone on an input arc: each binding element that is covered at some time not before the
 /// clock, once, by transition and then by binding, with the least such time. `Memory` comes where memory
 /// is wanted, and leaves nothing behind.
 /// Source: Jensen and Kristensen, chapter 11; the order is our own choice.
@@ -99,6 +101,7 @@ pub fn enabled(
     clock: u64,
 ) -> Result<Vec<Entry>, Memory>
     requires sound { IsSound (net_view net.now) }
+    requires alone { IsFoundOnTokens (net_view net.now) }
     requires marking { IsMarking (net_view net.now).places marking.now }
     ensures enabled { IfOk result (λ entries. Enabled (net_view net.now) marking.now clock (map entry_view entries.items)) }
 {

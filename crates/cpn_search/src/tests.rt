@@ -3,10 +3,12 @@
 ghost use Rattle.std.specs.Prelude.{◌≡◌, ◌<◌, ◌≤◌, nat_lt, true, [], length, map, IfOk, OnOk};
 ghost use Rattle.std.specs.List.{list_all, range_with_len};
 ghost use Rattle.cpn_definitions.specs.Marking.{Marking};
-ghost use Rattle.cpn_definitions.specs.Sound.{pattern_of, IsSound, IsMarking};
+ghost use Rattle.cpn_definitions.specs.Lone.{IsFoundOnTokens};
+ghost use Rattle.cpn_definitions.specs.Sound.{IsSound, IsMarking};
 ghost use Rattle.cpn_core.specs.Colours.{colour_view};
-ghost use Rattle.cpn_core.specs.Nets.{expr_view, pattern_view, arc_view, transition_view, net_view};
-ghost use Rattle.cpn_search.specs.Worked.{numbers as numbers_colour, inscription_of, arc_of, has_arc as some_arc, two_places, IsWorkedTransition, IsWorked};
+ghost use Rattle.cpn_core.specs.Inscriptions.{expr_view, pattern_view};
+ghost use Rattle.cpn_core.specs.Nets.{arc_view, transition_view, net_view};
+ghost use Rattle.cpn_search.specs.Worked.{numbers as numbers_colour, inscription_of, pattern_of, arc_of, has_arc as some_arc, two_places, IsWorkedTransition, IsWorked};
 
 use super::*;
 use cpn_core::{
@@ -19,7 +21,7 @@ use std::test::Fail;
 
 /// A net of the places A and B and one transition, and a marking: whether the places are timed, the guard, the number of
 /// variables, the input arcs, each by its place and the number of its inscription, and the tokens on A and on B, each
-/// by its number and its stamp; and what is found: the values of x and y, or 0, and the least time.
+/// by its number and its stamp.
 #[derive(Clone, Copy)]
 struct Worked<'a> {
     timed: bool,
@@ -28,7 +30,6 @@ struct Worked<'a> {
     arcs: &'a [(u32, u32)],
     first: &'a [(i64, u64)],
     second: &'a [(i64, u64)],
-    found: &'a [(i64, i64, u64)],
 }
 
 /// The colour set of the whole numbers from -1,000 to 1,000,000.
@@ -54,7 +55,7 @@ fn inscription(vars: u32, number: u32) -> Expr
 }
 
 fn pattern(vars: u32, number: u32) -> Pat
-    ensures { pattern_view result ≡ pattern_of (inscription_of vars number) }
+    ensures { pattern_view result ≡ pattern_of vars number }
 {
     if number < vars {
         Pat::Var(number)
@@ -219,6 +220,7 @@ fn sound_net(
     requires used { list_all (λ x. some_arc x arcs.now) (range_with_len 0 vars) ≡ true }
     requires few { length arcs.now ≤ 64 }
     ensures sound { IfOk result (λ net. IsSound (net_view net)) }
+    ensures alone { IfOk result (λ net. IsFoundOnTokens (net_view net)) }
     ensures places { IfOk result (λ net. (m : Marking) → IsMarking (two_places timed) m → IsMarking (net_view net).places m) }
     ensures transitions { IfOk result (λ net. length net.transitions.items ≡ 1) }
 {
@@ -307,167 +309,107 @@ fn number_at(found: &Found, index: usize, variable: usize) -> i64 {
     }
 }
 
+/// The parts of a row in front of its first bar and behind it.
+fn parted(row: &str) -> (&str, &str) {
+    match row.split_once(" |") {
+        Some(parts) => parts,
+        None => (row, ""),
+    }
+}
+
+/// The arcs of a row.
+fn arcs_in(alloc: Global, text: &str) -> Result<Vec<(u32, u32)>, Memory> {
+    let mut arcs = Vec::new(alloc);
+    for arc in text.split(' ') {
+        if let Some((place, number)) = arc.split_once(':') {
+            if let (Ok(place), Ok(number)) = (place.parse::<u32>(), number.parse::<u32>()) {
+                arcs.push((place, number))?;
+            }
+        }
+    }
+    Ok(arcs)
+}
+
+/// The tokens of a row.
+fn tokens_in(alloc: Global, text: &str) -> Result<Vec<(i64, u64)>, Memory> {
+    let mut tokens = Vec::new(alloc);
+    for token in text.split(' ') {
+        if let Some((number, stamp)) = token.split_once('@') {
+            if let (Ok(number), Ok(stamp)) = (number.parse::<i64>(), stamp.parse::<u64>()) {
+                tokens.push((number, stamp))?;
+            }
+        }
+    }
+    Ok(tokens)
+}
+
+/// The net and the marking of a row: `timed`, `untimed`, or `barred` with a guard that is not true, and the number of
+/// variables; the arcs; the tokens on A, and on B. Behind them, what is found.
+fn found_in(alloc: Global, row: &str) -> Result<(String, &str), Memory> {
+    let (kind, row) = parted(row);
+    let (arcs, row) = parted(row);
+    let (first, row) = parted(row);
+    let (second, wanted) = parted(row);
+    let mut vars = 0;
+    if let Some((_, count)) = kind.split_once(' ') {
+        vars = count.parse::<u32>().unwrap_or(0);
+    }
+    let arcs = arcs_in(alloc, arcs)?;
+    let first = tokens_in(alloc, first)?;
+    let second = tokens_in(alloc, second)?;
+    let net = Worked {
+        timed: !kind.starts_with("untimed"),
+        guard: !kind.starts_with("barred"),
+        vars,
+        arcs: &arcs,
+        first: &first,
+        second: &second,
+    };
+    Ok((told(alloc, &net)?, wanted))
+}
+
+/// What is found: the bindings, each by the values of x and y, or 0, and its least time; then the times of the elements
+/// at the clock 3.
+fn told(alloc: Global, net: &Worked) -> Result<String, Memory> {
+    let (found, entries) = search(alloc, net, 3)?;
+    let mut text = String::new(alloc);
+    for (index, one) in found.iter().enumerate() {
+        let x = number_at(&found, index, 0);
+        let y = number_at(&found, index, 1);
+        write!(text, " {x},{y}@{}", one.earliest)?;
+    }
+    write!(text, " |")?;
+    for entry in &entries {
+        write!(text, " {}", entry.earliest)?;
+    }
+    Ok(text)
+}
+
+/// Of two tokens of one value the sooner is enough for one arc, two arcs from one place need both, and later ones are
+/// not waited for; a guard that is not true; a value that stands on one place only is not tried; a literal waits
+/// for its token, and needs one; values in order, variable by variable; needs of several arcs on both places; without
+/// time the stamps are 0; no variable, and no arc; five variables, and the last time.
+const TABLE: &str = "timed 1 | 0:0 | 5@0 5@3 | | 5,0@0 | 3
+timed 1 | 0:0 0:0 | 5@0 5@3 | | 5,0@3 | 3
+timed 1 | 0:0 0:0 | 5@9 5@4 5@1 | | 5,0@4 | 4
+barred 1 | 0:0 | 5@0 | | |
+timed 1 | 0:0 1:0 | 1@0 2@0 | 2@5 3@0 | 2,0@5 | 5
+timed 1 | 0:0 1:1 | 1@2 | 7@6 | 1,0@6 | 6
+timed 1 | 0:0 1:1 | 1@2 | 8@6 | |
+timed 2 | 1:1 0:0 | 2@0 1@2 | 4@1 -3@0 | 1,-3@2 1,4@2 2,-3@0 2,4@1 | 3 3 3 3
+timed 2 | 0:0 0:0 1:0 1:1 1:2 | 3@2 1@0 3@8 | 7@1 3@4 1@9 3@5 | 3,1@9 3,3@8 | 9 8
+untimed 2 | 0:0 0:0 1:0 1:1 1:2 | 3@0 1@0 2@0 3@0 1@0 | 7@0 3@0 1@0 3@0 | 1,3@0 3,1@0 3,3@0 | 3 3 3
+untimed 2 | 0:0 0:0 1:0 1:1 1:2 | 3@0 1@0 2@0 3@0 1@0 | 3@0 1@0 3@0 | |
+untimed 2 | 0:0 0:0 1:0 1:1 1:2 | 7@0 7@0 | 7@0 7@0 7@0 0@0 | 7,0@0 7,7@0 | 3 3
+timed 0 | 0:0 | 7@3 | | 0,0@3 | 3
+timed 0 | | | | 0,0@0 | 3
+timed 5 | 0:0 0:1 1:2 1:3 1:4 | 1@0 1@2 | 2@0 2@18446744073709551615 2@3 | 1,1@18446744073709551615 | 18446744073709551615";
+
 #[test]
 fn the_enabled_bindings_are_those_of_the_table(rt: HostRuntime) -> Result<(), Fail> {
-    let alloc = rt.alloc();
-    let table = [
-        // Two tokens of one value: the sooner is enough for one arc.
-        Worked {
-            timed: true,
-            guard: true,
-            vars: 1,
-            arcs: &[(0, 0)],
-            first: &[(5, 0), (5, 3)],
-            second: &[],
-            found: &[(5, 0, 0)],
-        },
-        // Two arcs from one place need both.
-        Worked {
-            timed: true,
-            guard: true,
-            vars: 1,
-            arcs: &[(0, 0), (0, 0)],
-            first: &[(5, 0), (5, 3)],
-            second: &[],
-            found: &[(5, 0, 3)],
-        },
-        // The later tokens are not waited for.
-        Worked {
-            timed: true,
-            guard: true,
-            vars: 1,
-            arcs: &[(0, 0), (0, 0)],
-            first: &[(5, 9), (5, 4), (5, 1)],
-            second: &[],
-            found: &[(5, 0, 4)],
-        },
-        // A guard that is not true.
-        Worked {
-            timed: true,
-            guard: false,
-            vars: 1,
-            arcs: &[(0, 0)],
-            first: &[(5, 0)],
-            second: &[],
-            found: &[],
-        },
-        // A value that stands on one place only is not tried.
-        Worked {
-            timed: true,
-            guard: true,
-            vars: 1,
-            arcs: &[(0, 0), (1, 0)],
-            first: &[(1, 0), (2, 0)],
-            second: &[(2, 5), (3, 0)],
-            found: &[(2, 0, 5)],
-        },
-        // The literal waits for its token, and needs one.
-        Worked {
-            timed: true,
-            guard: true,
-            vars: 1,
-            arcs: &[(0, 0), (1, 1)],
-            first: &[(1, 2)],
-            second: &[(7, 6)],
-            found: &[(1, 0, 6)],
-        },
-        Worked {
-            timed: true,
-            guard: true,
-            vars: 1,
-            arcs: &[(0, 0), (1, 1)],
-            first: &[(1, 2)],
-            second: &[(8, 6)],
-            found: &[],
-        },
-        // Values in order, variable by variable.
-        Worked {
-            timed: true,
-            guard: true,
-            vars: 2,
-            arcs: &[(1, 1), (0, 0)],
-            first: &[(2, 0), (1, 2)],
-            second: &[(4, 1), (-3, 0)],
-            found: &[(1, -3, 2), (1, 4, 2), (2, -3, 0), (2, 4, 1)],
-        },
-        // Needs of several arcs on both places.
-        Worked {
-            timed: true,
-            guard: true,
-            vars: 2,
-            arcs: &[(0, 0), (0, 0), (1, 0), (1, 1), (1, 2)],
-            first: &[(3, 2), (1, 0), (3, 8)],
-            second: &[(7, 1), (3, 4), (1, 9), (3, 5)],
-            found: &[(3, 1, 9), (3, 3, 8)],
-        },
-        // Without time the stamps are 0.
-        Worked {
-            timed: false,
-            guard: true,
-            vars: 2,
-            arcs: &[(0, 0), (0, 0), (1, 0), (1, 1), (1, 2)],
-            first: &[(3, 0), (1, 0), (2, 0), (3, 0), (1, 0)],
-            second: &[(7, 0), (3, 0), (1, 0), (3, 0)],
-            found: &[(1, 3, 0), (3, 1, 0), (3, 3, 0)],
-        },
-        Worked {
-            timed: false,
-            guard: true,
-            vars: 2,
-            arcs: &[(0, 0), (0, 0), (1, 0), (1, 1), (1, 2)],
-            first: &[(3, 0), (1, 0), (2, 0), (3, 0), (1, 0)],
-            second: &[(3, 0), (1, 0), (3, 0)],
-            found: &[],
-        },
-        Worked {
-            timed: false,
-            guard: true,
-            vars: 2,
-            arcs: &[(0, 0), (0, 0), (1, 0), (1, 1), (1, 2)],
-            first: &[(7, 0), (7, 0)],
-            second: &[(7, 0), (7, 0), (7, 0), (0, 0)],
-            found: &[(7, 0, 0), (7, 7, 0)],
-        },
-        // No variable, and no arc.
-        Worked {
-            timed: true,
-            guard: true,
-            vars: 0,
-            arcs: &[(0, 0)],
-            first: &[(7, 3)],
-            second: &[],
-            found: &[(0, 0, 3)],
-        },
-        Worked {
-            timed: true,
-            guard: true,
-            vars: 0,
-            arcs: &[],
-            first: &[],
-            second: &[],
-            found: &[(0, 0, 0)],
-        },
-        // Five variables, and the last time.
-        Worked {
-            timed: true,
-            guard: true,
-            vars: 5,
-            arcs: &[(0, 0), (0, 1), (1, 2), (1, 3), (1, 4)],
-            first: &[(1, 0), (1, 2)],
-            second: &[(2, 0), (2, 18_446_744_073_709_551_615), (2, 3)],
-            found: &[(1, 1, 18_446_744_073_709_551_615)],
-        },
-    ];
-    for net in &table {
-        let (found, entries) = search(alloc, net, 3)?;
-        assert_eq!(rt; found.len(), net.found.len());
-        assert_eq!(rt; entries.len(), net.found.len());
-        for (i, (x, y, earliest)) in net.found.iter().enumerate() {
-            assert_eq!(rt; number_at(&found, i, 0), *x);
-            assert_eq!(rt; number_at(&found, i, 1), *y);
-            assert_eq!(rt; found[i].earliest, *earliest);
-            assert_eq!(rt; entries[i].earliest, 3.max(*earliest));
-        }
+    for row in TABLE.lines() {
+        let (told, wanted) = found_in(rt.alloc(), row)?;
+        assert_eq!(rt; told.as_str(), wanted, "{row}");
     }
     Ok(())
 }
@@ -475,6 +417,7 @@ fn the_enabled_bindings_are_those_of_the_table(rt: HostRuntime) -> Result<(), Fa
 /// The net without places, transitions and variables.
 fn empty_net(alloc: Global) -> Result<Net, Memory>
     ensures sound { IfOk result (λ net. IsSound (net_view net)) }
+    ensures alone { IfOk result (λ net. IsFoundOnTokens (net_view net)) }
     ensures places { IfOk result (λ net. net.places.items ≡ []) }
 {
     let functions = Vec::new(alloc);
@@ -523,7 +466,6 @@ fn count_found(
         arcs,
         first,
         second,
-        found: &[],
     };
     let (found, _entries) = search(alloc, &net, 0)?;
     Ok(found.len())

@@ -1,4 +1,7 @@
 pub mod Readings
-pub mod Refused
+pub mod RefusalCauses
 pub mod OneReport
-pub mod Printed
+pub mod WrittenReports
+pub mod PrintableReports
+pub mod OptionRows
+pub mod Rows

@@ -8,7 +8,7 @@ use Rattle.cpn_io.specs.Outside.{Rose, AppendsProperPrefix}
 use Rattle.std.specs.Io.KnownBytes.{Appends}
 use Rattle.cpn_sim.specs.Limits.{most_bytes}
 use Rattle.cpn_sim.specs.Options.{PlainOptions, options_from}
-use Rattle.cpn_sim.specs.Reported.{IsReport}
+use Rattle.cpn_sim.specs.Reported.{IsReported, IsReport}
 use Rattle.cpn_sim.specs.declared.statuses.Status.{Status}
 use Rattle.cpn_sim.specs.declared.statuses.Status.TheVariants as statuses
 
@@ -51,12 +51,16 @@ status_of (bad_document refusal) = statuses.BadDocument
 -- cause.
 abbrev pub IsToBeWritten : List (List ℕ) → Option (List ℕ) → ℕ → ℕ → List ℕ → Type 0
 IsToBeWritten words left before now text =
-    (GiveOptions words × IfSome left (λ bytes. (length bytes ≤ most_bytes) × IsReport bytes words text))
+    (GiveOptions words × IfSome left (λ bytes. (length bytes ≤ most_bytes) × ((status : Status) × IsReport bytes words status text)))
     ⊎ ((refusal : PlainRefusal) × HasCause refusal words left before now × (text ≡ error_line refusal))
 
 -- The status is the wanted one, but for want of memory and for faults of the source and of the sink.
 abbrev pub IsOrExcused : Status → Status → Type 0 → Type 0 → Type 0
 IsOrExcused status wanted read write = (status ≡ wanted) ⊎ ((status ≡ statuses.Memory) ⊎ (read ⊎ write))
+
+-- The status is that of a report, but for the same.
+abbrev pub IsReportedOrExcused : Status → Type 0 → Type 0 → Type 0
+IsReportedOrExcused status read write = IsReported status ⊎ ((status ≡ statuses.Memory) ⊎ (read ⊎ write))
 
 -- What a status tells after the line of a refusal was to be written to a sink, by what the sink holds before and after, and
 -- its counts of faults: the line was written; or memory was wanted, and the sink is as it was; or it had a fault, and holds a

@@ -1,33 +1,47 @@
--- The report that a run of a document gives.
-use Rattle.std.specs.Prelude.{◌≡◌, ℕ, List, Some}
-use Rattle.cpn_runs.specs.State.{PlainSetup}
+-- The report that a run of a document gives, and the status that it has. Source: own choice.
+use Rattle.std.specs.Prelude.{◌≡◌, ℕ, ◌⊎◌, List, Some}
+use Rattle.cpn_runs.specs.State.{PlainSetup, PlainEnd, dead, steps_made, fault_end}
 use Rattle.cpn_runs.specs.Run.{PlainFinished, IsRun}
 use Rattle.cpn_file.specs.Loading.{PlainLoaded}
 use Rattle.cpn_file.specs.Reading.{read}
 use Rattle.cpn_file.specs.Reads.{IsReadAs}
 use Rattle.cpn_report.specs.Report.{report_text}
 use Rattle.cpn_sim.specs.Options.{PlainOptions, options_from}
+use Rattle.cpn_sim.specs.declared.statuses.Status.{Status}
+use Rattle.cpn_sim.specs.declared.statuses.Status.TheVariants as statuses
 
 -- what the one run of a loaded net starts from: the initial marking at clock 0, with a seat for each worker
 abbrev pub setup_from : PlainLoaded → PlainOptions → PlainSetup
 setup_from loaded options = record { net = loaded.net; start = loaded.initial; clock = 0; limits = record { steps = options.steps; until = options.until; seats = options.workers }; seed = options.seed }
 
--- The text is the report of a run of the loaded net: the run's journal leads to a state that ends by the
--- cause, its occurrences are a legal occurrence sequence from the initial marking to the printed one, and
--- what is printed as ready and next, at the start and at the end, is that of the enabled elements.
-pub record IsReportOf (loaded : PlainLoaded) (options : PlainOptions) (report : List ℕ) : Type 0 where
+-- the status of a run that has ended by the cause
+abbrev pub status_after : PlainEnd → Status
+status_after dead = statuses.Done
+status_after steps_made = statuses.Done
+status_after (fault_end e fault) = statuses.RunFault
+
+-- the status is that of a report
+abbrev pub IsReported : Status → Type 0
+IsReported status = (status ≡ statuses.Done) ⊎ (status ≡ statuses.RunFault)
+
+-- The text is the report of a run of the loaded net, and the status is that of its end: the run's journal leads to a state
+-- that ends by the cause, its occurrences are a legal occurrence sequence from the initial marking to the printed one; where
+-- the cause is a fault, its element is covered at the printed marking and clock, and its outputs have the fault; and what is
+-- printed as ready and next, at the start and at the end, is that of the enabled elements.
+pub record IsReportOf (loaded : PlainLoaded) (options : PlainOptions) (status : Status) (report : List ℕ) : Type 0 where
   pub run : PlainFinished
   pub is_run : IsRun (setup_from loaded options) run
+  pub status_is : status ≡ status_after run.cause
   pub text_is : report ≡ report_text options.trace (setup_from loaded options) run
 
 -- The text is the report of a run of the net that the bytes are read as.
-pub record IsReportUnder (bytes : List ℕ) (options : PlainOptions) (report : List ℕ) : Type 0 where
+pub record IsReportUnder (bytes : List ℕ) (options : PlainOptions) (status : Status) (report : List ℕ) : Type 0 where
   pub loaded : PlainLoaded
   pub reads : IsReadAs bytes (read loaded)
-  pub is_report : IsReportOf loaded options report
+  pub is_report : IsReportOf loaded options status report
 
 -- The text is the report of a run of the net that the bytes are read as, under the options of the words.
-pub record IsReport (bytes : List ℕ) (words : List (List ℕ)) (report : List ℕ) : Type 0 where
+pub record IsReport (bytes : List ℕ) (words : List (List ℕ)) (status : Status) (report : List ℕ) : Type 0 where
   pub options : PlainOptions
   pub words_are : options_from words ≡ Some options
-  pub is_report : IsReportUnder bytes options report
+  pub is_report : IsReportUnder bytes options status report

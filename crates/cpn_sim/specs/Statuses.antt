@@ -8,6 +8,7 @@ exit_number statuses.Done = 0
 exit_number statuses.BadWords = 1
 exit_number statuses.ReadFault = 2
 exit_number statuses.BadDocument = 3
+exit_number statuses.RunFault = 6
 exit_number statuses.WriteFault = 7
 exit_number statuses.Memory = 8
 exit_number statuses.TooLong = 9

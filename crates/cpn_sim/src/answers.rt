@@ -6,26 +6,36 @@ ghost use Rattle.cpn_file.specs.WellLoaded.{IsWellLoaded};
 ghost use Rattle.cpn_sim.specs.Limits.{most_bytes};
 ghost use Rattle.cpn_sim.specs.Options.{PlainOptions, options_from};
 ghost use Rattle.cpn_sim.specs.OptionsView.{options_view};
-ghost use Rattle.cpn_sim.specs.Reported.{IsReport, IsReportOf};
+ghost use Rattle.cpn_runs.specs.Views.{end_view};
+ghost use Rattle.cpn_sim.specs.Reported.{status_after, IsReported, IsReport, IsReportOf};
 ghost use Rattle.cpn_sim.specs.Causes.{HasCause, GiveOptions};
 ghost use Rattle.cpn_sim.specs.RefusalViews.{refusal_view};
 
 use crate::no_options::NoOptions;
 use crate::options::Options;
 use crate::refusals::Refusal;
+use crate::statuses::Status;
 use crate::words::options_from;
 use cpn_book::Book;
 use cpn_core::Memory;
 use cpn_file::{DocError, Loaded, read_document};
 use cpn_io::{ReadError, Source, read_all};
 use cpn_report::report;
-use cpn_runs::{Limits, Setup};
+use cpn_runs::{End, Limits, Setup};
 use std::alloc::Global;
 use std::sync::Arc;
 
+/// A report, and the status of its run.
+#[derive(Drop)]
+pub struct Report {
+    pub text: String,
+    pub status: Status,
+}
+
 /// The report of a run of the document that the source gives, under the options of the words.
-pub fn answer<S: Source>(alloc: Global, words: &[String], source: &mut S) -> Result<String, Refusal>
-    ensures report { IfOk result (λ text. IfSome (S.left source.old) (λ bytes. (length bytes ≤ most_bytes) × IsReport bytes (map string_bytes words.now) (string_bytes text))) }
+pub fn answer<S: Source>(alloc: Global, words: &[String], source: &mut S) -> Result<Report, Refusal>
+    ensures report { IfOk result (λ report. IfSome (S.left source.old) (λ bytes. (length bytes ≤ most_bytes) × IsReport bytes (map string_bytes words.now) report.status (string_bytes report.text))) }
+    ensures status { IfOk result (λ report. IsReported report.status) }
     ensures end { OnOk result (IfSome (S.left source.old) (λ _. S.left source.new ≡ Some [])) }
     ensures options { OnOk result (GiveOptions (map string_bytes words.now)) }
     ensures one_worker { OnOk result ((options : PlainOptions) → options_from (map string_bytes words.now) ≡ Some options → options.workers ≡ 1) }
@@ -48,15 +58,16 @@ pub fn answer<S: Source>(alloc: Global, words: &[String], source: &mut S) -> Res
         Err(error) => return Err(Refusal::Document(error)),
     };
     match report_of(alloc, &options, loaded) {
-        Ok(text) => Ok(text),
+        Ok(report) => Ok(report),
         Err(Memory) => Err(Refusal::Memory),
     }
 }
 
 /// The report of the run of the loaded net under the options, from its initial marking at clock 0.
-fn report_of(alloc: Global, options: &Options, loaded: Loaded) -> Result<String, Memory>
+fn report_of(alloc: Global, options: &Options, loaded: Loaded) -> Result<Report, Memory>
     requires well_loaded { IsWellLoaded (loaded_view loaded) }
-    ensures report { IfOk result (λ text. IsReportOf (loaded_view loaded) (options_view options.now) (string_bytes text)) }
+    ensures report { IfOk result (λ report. IsReportOf (loaded_view loaded) (options_view options.now) report.status (string_bytes report.text)) }
+    ensures status { IfOk result (λ report. IsReported report.status) }
 {
     let setup = Setup {
         net: Arc::new(alloc, loaded.net)?,
@@ -69,8 +80,21 @@ fn report_of(alloc: Global, options: &Options, loaded: Loaded) -> Result<String,
         },
         seed: options.seed,
     };
-    let book = Book::start(alloc, setup)?;
+    let book = Book::start(alloc, setup);
     let finished = book.run_alone()?;
     let text = report(alloc, options.trace, &finished)?;
-    Ok(text)
+    let status = status_after(&finished.cause);
+    Ok(Report { text, status })
+}
+
+/// The status of a run that has ended by the cause.
+fn status_after(cause: &End) -> Status
+    ensures status { result ≡ status_after (end_view cause.now) }
+    ensures reported { IsReported result }
+{
+    match cause {
+        End::Fault(_, _) => Status::RunFault,
+        End::Steps => Status::Done,
+        End::Dead => Status::Done,
+    }
 }

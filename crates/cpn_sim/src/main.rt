@@ -11,8 +11,6 @@ mod options;
 mod refusals;
 mod simulation;
 mod statuses;
-#[cfg(test)]
-mod tests;
 mod words;
 
 use cpn_io::{Stdin, Stdout};

@@ -9,8 +9,8 @@ ghost use Rattle.cpn_file.specs.Refusals.{document_line};
 ghost use Rattle.cpn_io.specs.Outside.{Rose, AppendsProperPrefix};
 ghost use Rattle.cpn_sim.specs.Limits.{most_bytes};
 ghost use Rattle.cpn_sim.specs.Options.{PlainOptions, options_from};
-ghost use Rattle.cpn_sim.specs.Reported.{IsReport};
-ghost use Rattle.cpn_sim.specs.Causes.{bad_words, read_fault, too_long, GiveOptions, error_line, IsToBeWritten, IsOrExcused, IsRefused};
+ghost use Rattle.cpn_sim.specs.Reported.{IsReported, IsReport};
+ghost use Rattle.cpn_sim.specs.Causes.{bad_words, read_fault, too_long, GiveOptions, error_line, IsToBeWritten, IsOrExcused, IsReportedOrExcused, IsRefused};
 ghost use Rattle.cpn_sim.specs.RefusalViews.{refusal_view};
 
 use crate::answers::answer;
@@ -28,13 +28,16 @@ pub fn simulate<S: Source, K: Sink>(
     source: &mut S,
     sink: &mut K,
 ) -> Status
-    // The report was written: that of a legal run of the document, which was read to its end.
+    // The report was written: that of a legal run of the document, which was read to its end. The run ended by no fault,
+    // or by the fault of the outputs of an element that is covered at the printed marking and clock.
     ensures done { result ≡ Status.Done → IfSome (S.left source.old) (λ bytes. (length bytes ≤ most_bytes)
-        × ((report : List ℕ) × IsReport bytes (map string_bytes words.now) report × Appends (K.held sink.old) (K.held sink.new) report)) }
-    // No other report could have come: the bytes and the words have just this one.
-    ensures only { result ≡ Status.Done → IfSome (S.left source.old) (λ bytes.
-        (other : List ℕ) → IsReport bytes (map string_bytes words.now) other → Appends (K.held sink.old) (K.held sink.new) other) }
-    ensures read_to_end { result ≡ Status.Done → IfSome (S.left source.old) (λ _. S.left source.new ≡ Some []) }
+        × ((report : List ℕ) × IsReport bytes (map string_bytes words.now) Status.Done report × Appends (K.held sink.old) (K.held sink.new) report)) }
+    ensures run_fault { result ≡ Status.RunFault → IfSome (S.left source.old) (λ bytes. (length bytes ≤ most_bytes)
+        × ((report : List ℕ) × IsReport bytes (map string_bytes words.now) Status.RunFault report × Appends (K.held sink.old) (K.held sink.new) report)) }
+    // No other report could have come, and with no other status: the bytes and the words have just this one.
+    ensures only { IsReported result → IfSome (S.left source.old) (λ bytes. (status : Status) → (other : List ℕ)
+        → IsReport bytes (map string_bytes words.now) status other → (result ≡ status) × Appends (K.held sink.old) (K.held sink.new) other) }
+    ensures read_to_end { IsReported result → IfSome (S.left source.old) (λ _. S.left source.new ≡ Some []) }
 
     // Each other status has its cause; the causes are tried in order, so all but the first asks for options.
     ensures words { result ≡ Status.BadWords → options_from (map string_bytes words.now) ≡ None }
@@ -69,11 +72,11 @@ pub fn simulate<S: Source, K: Sink>(
     ensures complete { (options : PlainOptions) → options_from (map string_bytes words.now) ≡ Some options
         → (bytes : List ℕ) → S.left source.old ≡ Some bytes → length bytes ≤ most_bytes
         → (loaded : PlainLoaded) → IsReadAs bytes (read loaded)
-        → IsOrExcused result Status.Done (Rose (S.faults source.old) (S.faults source.new)) (Rose (K.faults sink.old) (K.faults sink.new)) }
+        → IsReportedOrExcused result (Rose (S.faults source.old) (S.faults source.new)) (Rose (K.faults sink.old) (K.faults sink.new)) }
 {
     match answer(alloc, words, source) {
-        Ok(text) => match write_all(sink, text.as_bytes()) {
-            Ok(()) => Status::Done,
+        Ok(report) => match write_all(sink, report.text.as_bytes()) {
+            Ok(()) => report.status,
             Err(_) => Status::WriteFault,
         },
         Err(refusal) => match line_of(alloc, &refusal) {

@@ -9,7 +9,7 @@ use std::process::ExitCode;
 /// How a call of the program ends; its number is the exit status.
 #[derive(Clone, Copy, Debug, PartialEq, Eq)]
 pub enum Status {
-    /// The whole report was written.
+    /// The whole report was written, and its run ended by no fault.
     Done = 0,
     /// The words are not of the form that is read.
     BadWords = 1,
@@ -17,6 +17,8 @@ pub enum Status {
     ReadFault = 2,
     /// The document is no JSON value, or none that is served yet.
     BadDocument = 3,
+    /// The whole report was written, and its run ended by the fault of an element's outputs.
+    RunFault = 6,
     /// The sink had a fault.
     WriteFault = 7,
     /// Memory ran out.

@@ -1,3 +1,4 @@
+-- The ready entries are those counted so far and those that follow.
 use Rattle.std.proofs.Common.{◌≡◌, ◌+◌, ◌≤◌, drop, map, length}
 use Rattle.cpn_definitions.specs.Enabled.{ready}
 use Rattle.cpn_core.specs.Elements.{entry_view}

@@ -8,7 +8,9 @@ use Rattle.cpn_core.proofs.Shapes.{view_union}
 use Rattle.cpn_core.proofs.colours.+admits.Goals as goal
 
 pub has_shape-returns-in-Union : goal.has_shape-returns-in-Union
-has_shape-returns-in-Union t c =
-    c.is_constructed.ensures c.in-Union.field-0
-    ∙ ap₂ has_shape (sym (ap value_view c.in-Con.is ∙ view_con c.in-Con.position c.in-Con.argument))
-    (ap (λ cs. union_shape c.in-Union.field-0 (constructors_view cs)) c.as_slice.ensures.value ∙ sym (ap shape_view c.in-Union.is ∙ view_union c.in-Union.field-0 c.in-Union.constructors))
+has_shape-returns-in-Union t c = record {
+  exact =
+      c.is_constructed.ensures.exact c.in-Union.field-0
+      ∙ ap₂ has_shape (sym (ap value_view c.in-Con.is ∙ view_con c.in-Con.position c.in-Con.argument))
+      (ap (λ cs. union_shape c.in-Union.field-0 (constructors_view cs)) c.as_slice.ensures.value ∙ sym (ap shape_view c.in-Union.is ∙ view_union c.in-Union.field-0 c.in-Union.constructors));
+}

@@ -7,21 +7,26 @@ use Rattle.cpn_core.proofs.StampRanks.{no_stamp_past, stamp_of_token}
 use Rattle.cpn_core.proofs.stamps.stamp_among.Goals as goal
 
 pub returns-then-tokens-first : goal.returns-then-tokens-first
-returns-then-tokens-first c =
-    sym (no_stamp_past (value_view c.args.value.now) c.args.tokens.now c.start_of_value-first.result c.args.rank c.requires.sorted c.start_of_value-first.ensures.within c.start_of_value-first.ensures.start (omega arith))
+returns-then-tokens-first c = record {
+  stamp = sym (no_stamp_past (value_view c.args.value.now) c.args.tokens.now c.start_of_value-first.result c.args.rank c.requires.sorted c.start_of_value-first.ensures.within c.start_of_value-first.ensures.start (omega arith));
+}
 
 pub returns-then-has_value : goal.returns-then-has_value
 returns-then-has_value c =
     let value = value_view c.args.value.now in
     let token = c.index-tokens-first.result in
-    sym
-    (stamp_of_token value c.args.tokens.now c.start_of_value-first.result c.args.rank c.requires.sorted c.start_of_value-first.ensures.within c.start_of_value-first.ensures.start token (omega arith) c.index-tokens-first.is
-    ∙ cond-true (same_value value (value_view token.value)) (Some token.stamp) None (sym c.has_value.ensures ∙ c.if-has_value.true))
+    record {
+      stamp = sym
+          (stamp_of_token value c.args.tokens.now c.start_of_value-first.result c.args.rank c.requires.sorted c.start_of_value-first.ensures.within c.start_of_value-first.ensures.start token (omega arith) c.index-tokens-first.is
+          ∙ cond-true (same_value value (value_view token.value)) (Some token.stamp) None (sym c.has_value.ensures.exact ∙ c.if-has_value.true));
+    }
 
 pub returns-else-has_value : goal.returns-else-has_value
 returns-else-has_value c =
     let value = value_view c.args.value.now in
     let token = c.index-tokens-first.result in
-    sym
-    (stamp_of_token value c.args.tokens.now c.start_of_value-first.result c.args.rank c.requires.sorted c.start_of_value-first.ensures.within c.start_of_value-first.ensures.start token (omega arith) c.index-tokens-first.is
-    ∙ cond-false (same_value value (value_view token.value)) (Some token.stamp) None (sym c.has_value.ensures ∙ c.if-has_value.false))
+    record {
+      stamp = sym
+          (stamp_of_token value c.args.tokens.now c.start_of_value-first.result c.args.rank c.requires.sorted c.start_of_value-first.ensures.within c.start_of_value-first.ensures.start token (omega arith) c.index-tokens-first.is
+          ∙ cond-false (same_value value (value_view token.value)) (Some token.stamp) None (sym c.has_value.ensures.exact ∙ c.if-has_value.false));
+    }

@@ -12,5 +12,7 @@ sum_is_all vs i sum done small h =
     omega arith
 
 pub nodes_in_all-returns : goal.nodes_in_all-returns
-nodes_in_all-returns t c =
-    rw (← c.deref-value-items.ensures.value) (sum_is_all c.deref-value-items.result.now c.loop-value.value-index c.loop-value.sum (omega arith) c.loop-value.invariant.small c.loop-value.invariant.total)
+nodes_in_all-returns t c = record {
+  count =
+      rw (← c.deref-value-items.ensures.value) (sum_is_all c.deref-value-items.result.now c.loop-value.value-index c.loop-value.sum (omega arith) c.loop-value.invariant.small c.loop-value.invariant.total);
+}

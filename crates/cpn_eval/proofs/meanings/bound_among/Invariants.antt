@@ -1,3 +1,4 @@
+-- What the pairs bind the variable to is what those from here on bind it to.
 use Rattle.std.proofs.Common.{◌≡◌, drop}
 use Rattle.cpn_definitions.specs.Meaning.{bound_value}
 use Rattle.cpn_core.specs.Pairs.{pairs_view}

@@ -1,7 +1,8 @@
 -- The conjuncts so far are true; those that are left have a meaning.
 use Rattle.std.proofs.Common.{◌≡◌, drop, map}
 use Rattle.cpn_definitions.specs.Occurrence.{guard_holds}
-use Rattle.cpn_core.specs.Nets.{expr_view, net_view}
+use Rattle.cpn_core.specs.Inscriptions.{expr_view}
+use Rattle.cpn_core.specs.Nets.{net_view}
 use Rattle.cpn_eval.specs.Guards.{GuardHasMeaning}
 use Rattle.cpn_eval.proofs.meanings.guard_holds.Given as goal
 

@@ -6,7 +6,7 @@ use Rattle.cpn_definitions.specs.Occurrence.{needed_cmp}
 use Rattle.cpn_eval.specs.Terms.{term_view, terms_view}
 use Rattle.cpn_eval.specs.Summed.{tokens_of}
 use Rattle.cpn_eval.specs.Needs.{needed_of}
-use Rattle.cpn_eval.proofs.Gathered.{term_more}
+use Rattle.cpn_eval.proofs.GatheredTerms.{term_more}
 use Rattle.cpn_eval.proofs.needs.add_needs.Goals as goal
 
 pub loop-term-preserved : goal.loop-term-preserved
@@ -15,7 +15,7 @@ loop-term-preserved c =
     record {
       left = omega (arith, next.1, c.loop-term.invariant.left, ap length next.0);
       added =
-          ap (with_items needed_cmp (tokens_of (needed_of c.args.arc.now.place) (terms_view (into_iter_items c.next.new.self)))) c.in_ok-add_needed.ensures
+          ap (with_items needed_cmp (tokens_of (needed_of c.args.arc.now.place) (terms_view (into_iter_items c.next.new.self)))) c.in_ok-add_needed.ensures.added
           ∙ sym (term_more needed_cmp (needed_of c.args.arc.now.place) (term_view c.in-Some.term) (terms_view (into_iter_items c.next.new.self)) c.loop-term.needs)
           ∙ ap (λ terms. with_items needed_cmp (tokens_of (needed_of c.args.arc.now.place) (terms_view terms)) c.loop-term.needs) (sym next.0)
           ∙ c.loop-term.invariant.added;

@@ -1,8 +1,8 @@
 -- The needs so far with those of the arcs that are left are those of all arcs.
 use Rattle.std.proofs.Common.{◌≡◌, [], drop}
-use Rattle.cpn_definitions.specs.Meaning.{gather}
-use Rattle.cpn_definitions.specs.Occurrence.{needed_cmp, needed_by}
-use Rattle.cpn_core.specs.Nets.{arcs_view, funs_view}
+use Rattle.cpn_definitions.specs.Occurrence.{gather, needed_cmp, needed_by}
+use Rattle.cpn_core.specs.Inscriptions.{funs_view}
+use Rattle.cpn_core.specs.Nets.{arcs_view}
 use Rattle.cpn_eval.specs.Summed.{and_these}
 use Rattle.cpn_eval.proofs.needs.needs_among.Given as goal
 

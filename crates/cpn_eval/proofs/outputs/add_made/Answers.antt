@@ -3,7 +3,7 @@ use Rattle.std.proofs.Common.{◌≡◌, ap, ◌∙◌, arith}
 use Rattle.cpn_definitions.specs.Lists.{with_item}
 use Rattle.cpn_definitions.specs.Occurrence.{Made, made_cmp}
 use Rattle.cpn_core.specs.Views.{value_view}
-use Rattle.cpn_eval.proofs.Gathered.{one_of}
+use Rattle.cpn_eval.proofs.GatheredTerms.{one_of}
 use Rattle.cpn_eval.proofs.outputs.add_made.Goals as goal
 
 pub loop-token-preserved : goal.loop-token-preserved

@@ -2,7 +2,7 @@
 use Rattle.std.proofs.Common.{◌≡◌, ◌+◌, length}
 use Rattle.std.specs.Vec.Iter.{into_iter_items, into_iter_len}
 use Rattle.cpn_definitions.specs.Lists.{with_items}
-use Rattle.cpn_definitions.specs.Meaning.{PlainTerm}
+use Rattle.cpn_definitions.specs.Terms.{PlainTerm}
 use Rattle.cpn_definitions.specs.Occurrence.{made_cmp, stamp_on}
 use Rattle.cpn_core.specs.Nets.{net_view}
 use Rattle.cpn_eval.specs.Terms.{terms_view}

@@ -1,7 +1,6 @@
 -- The outputs so far with those of the arcs that are left are those of all arcs.
 use Rattle.std.proofs.Common.{◌≡◌, [], drop}
-use Rattle.cpn_definitions.specs.Meaning.{gather}
-use Rattle.cpn_definitions.specs.Occurrence.{made_cmp, made_by}
+use Rattle.cpn_definitions.specs.Occurrence.{gather, made_cmp, made_by}
 use Rattle.cpn_core.specs.Nets.{arcs_view, net_view}
 use Rattle.cpn_eval.specs.Summed.{and_these}
 use Rattle.cpn_eval.proofs.outputs.outputs_among.Given as goal

@@ -12,19 +12,25 @@ use Rattle.cpn_file.proofs.DeclaredVariables.{no_variable, no_room, declared_twi
 use Rattle.cpn_file.proofs.declarations.declared.Goals as goal
 
 pub returns-then-len-ge-MOST_VARIABLES : goal.returns-then-len-ge-MOST_VARIABLES
-returns-then-len-ge-MOST_VARIABLES c =
-    refuses_same (refusal_of c.from.result) not_served (variables_behind [] (texts_of c.args.texts.now)) c.from.ensures
-    (sym c.loop-text.invariant.same ∙ no_room c.args.texts.now c.loop-text.text-index (record { ref_ptr = (0, 0); now = [] }) c.loop-text-test.true c.loop-text.names c.in-Some.name.now (sym c.in-Some.ensures) (omega (arith, c.len.ensures.number, c.if-len-ge-MOST_VARIABLES.true)))
+returns-then-len-ge-MOST_VARIABLES c = record {
+  reads =
+      refuses_same (refusal_of c.from.result) not_served (variables_behind [] (texts_of c.args.texts.now)) c.from.ensures
+      (sym c.loop-text.invariant.same ∙ no_room c.args.texts.now c.loop-text.text-index (record { ref_ptr = (0, 0); now = [] }) c.loop-text-test.true c.loop-text.names c.in-Some.name.now (sym c.in-Some.ensures.exact) (omega (arith, c.len.ensures.number, c.if-len-ge-MOST_VARIABLES.true)));
+}
 
 pub returns-then-not-branch : goal.returns-then-not-branch
-returns-then-not-branch c =
-    refuses_same (refusal_of c.from-then-not-branch.result) not_served (variables_behind [] (texts_of c.args.texts.now)) c.from-then-not-branch.ensures
-    (sym c.loop-text.invariant.same ∙ declared_twice c.args.texts.now c.loop-text.text-index (record { ref_ptr = (0, 0); now = [] }) c.loop-text-test.true c.loop-text.names c.in-Some.name.now (sym c.in-Some.ensures) (omega (arith, c.len.ensures.number, c.if-len-ge-MOST_VARIABLES.false)) (not_false _ (sym c.in_ok-add-in-Some.ensures.added ∙ c.if-not-branch.true)))
+returns-then-not-branch c = record {
+  reads =
+      refuses_same (refusal_of c.from-then-not-branch.result) not_served (variables_behind [] (texts_of c.args.texts.now)) c.from-then-not-branch.ensures
+      (sym c.loop-text.invariant.same ∙ declared_twice c.args.texts.now c.loop-text.text-index (record { ref_ptr = (0, 0); now = [] }) c.loop-text-test.true c.loop-text.names c.in-Some.name.now (sym c.in-Some.ensures.exact) (omega (arith, c.len.ensures.number, c.if-len-ge-MOST_VARIABLES.false)) (not_false _ (sym c.in_ok-add-in-Some.ensures.added ∙ c.if-not-branch.true)));
+}
 
 pub returns-in-None : goal.returns-in-None
-returns-in-None c =
-    refuses_same (refusal_of c.from-in-None.result) not_served (variables_behind [] (texts_of c.args.texts.now)) c.from-in-None.ensures
-    (sym c.loop-text.invariant.same ∙ no_variable c.args.texts.now c.loop-text.text-index (record { ref_ptr = (0, 0); now = [] }) c.loop-text-test.true c.loop-text.names (sym c.in-None.ensures))
+returns-in-None c = record {
+  reads =
+      refuses_same (refusal_of c.from-in-None.result) not_served (variables_behind [] (texts_of c.args.texts.now)) c.from-in-None.ensures
+      (sym c.loop-text.invariant.same ∙ no_variable c.args.texts.now c.loop-text.text-index (record { ref_ptr = (0, 0); now = [] }) c.loop-text-test.true c.loop-text.names (sym c.in-None.ensures.exact));
+}
 
 pub loop-text-preserved : goal.loop-text-preserved
 loop-text-preserved c =
@@ -33,8 +39,8 @@ loop-text-preserved c =
     let e : c.add.new.self ≡ c.loop-text.names ++ c.in-Some.name.now ∷ [] = c.in_ok-add-in-Some.ensures.names ∙ rw c.if-not-branch.false refl in
     record {
       few = rw (e, length-append) (omega (arith, few));
-      same = rw e (one_more c.args.texts.now c.loop-text.text-index (record { ref_ptr = (0, 0); now = [] }) c.loop-text-test.true c.loop-text.names c.in-Some.name.now (sym c.in-Some.ensures) few fresh) ∙ c.loop-text.invariant.same;
+      same = rw e (one_more c.args.texts.now c.loop-text.text-index (record { ref_ptr = (0, 0); now = [] }) c.loop-text-test.true c.loop-text.names c.in-Some.name.now (sym c.in-Some.ensures.exact) few fresh) ∙ c.loop-text.invariant.same;
     }
 
 pub returns : goal.returns
-returns c = sym c.loop-text.invariant.same ∙ all_declared c.args.texts.now c.loop-text.text-index c.loop-text.names (omega arith)
+returns c = record { reads = sym c.loop-text.invariant.same ∙ all_declared c.args.texts.now c.loop-text.text-index c.loop-text.names (omega arith) }

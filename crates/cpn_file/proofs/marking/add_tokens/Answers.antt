@@ -9,4 +9,4 @@ loop-token-init c = none_added c.args.marking.now c.args.place (token_at (int c.
 
 pub loop-token-preserved : goal.loop-token-preserved
 loop-token-preserved c =
-    rw (c.in_ok-add.ensures.added, c.value_of.ensures, c.loop-token.invariant) (one_added c.args.marking.now c.args.place (token_at (int c.args.written.value) 0) c.loop-token._token c.requires.in_range)
+    rw (c.in_ok-add.ensures.added, c.value_of.ensures.made, c.loop-token.invariant) (one_added c.args.marking.now c.args.place (token_at (int c.args.written.value) 0) c.loop-token._token c.requires.in_range)

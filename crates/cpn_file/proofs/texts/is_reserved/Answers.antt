@@ -4,4 +4,4 @@ use Rattle.cpn_file.proofs.texts.is_reserved.Goals as goal
 
 pub returns : goal.returns
 unfolding is_reserved
-returns c = c.contains.ensures.value
+returns c = record { exact = c.contains.ensures.value }

@@ -5,4 +5,4 @@ use Rattle.cpn_file.proofs.texts.written_of.Goals as goal
 
 pub returns-in-None : goal.returns-in-None
 unfolding initial_in number_in
-returns-in-None c = rw c.in-None.ensures refl
+returns-in-None c = record { exact = rw c.in-None.ensures.exact refl }

@@ -19,21 +19,23 @@ abbrev no_transition : TransitionTexts
 no_transition = record { name = record { ref_ptr = (0, 0); now = [] } }
 
 pub returns-in_err-transition_with : goal.returns-in_err-transition_with
-returns-in_err-transition_with c = λ arcs h.
-    let p = err_from_is_err_and c.from_residual-in_err-transition_with.result c.from_residual-in_err-transition_with.ensures.1 in
-    let own : c.as_slice.result.now ≡ arcs_of arcs c.loop-number.number = c.as_slice.ensures.value ∙ ap (λ v. v.items) c.index-groups-number.is ∙ h.each c.loop-number.number c.index-groups-number.result (omega arith) in
-    let name : string_bytes c.in_ok-name.name ≡ flattened c.args.top.now ((get_or c.args.written.now c.loop-number.number no_transition).name.now) = c.in_ok-name.ensures in
-    rw (p.1, p.2) (refuses_through (refusal_of c.in_err-transition_with.field-0.0) (transition_with c.args.count (flattened c.args.top.now ((get_or c.args.written.now c.loop-number.number no_transition).name.now)) (arcs_of arcs c.loop-number.number)) (transitions_from c.args.count c.args.top.now arcs 0 (transition_names (written_views c.args.written.now)))
-    (λ refusal none. sym (c.loop-number.invariant arcs h) ∙ made_none c.args.count c.args.top.now arcs c.args.written.now c.loop-number.number no_transition (omega arith) (map transition_view c.loop-number.transitions.items) refusal none)
-    (rw (← name, ← own) c.in_err-transition_with.ensures))
+returns-in_err-transition_with c = record {
+  reads = (λ arcs h.
+      let p = err_from_is_err_and c.from_residual-in_err-transition_with.result c.from_residual-in_err-transition_with.ensures.1 in
+      let own : c.as_slice.result.now ≡ arcs_of arcs c.loop-number.number = c.as_slice.ensures.value ∙ ap (λ v. v.items) c.index-groups-number.is ∙ h.each c.loop-number.number c.index-groups-number.result (omega arith) in
+      let name : string_bytes c.in_ok-name.name ≡ flattened c.args.top.now ((get_or c.args.written.now c.loop-number.number no_transition).name.now) = c.in_ok-name.ensures.text in
+      rw (p.1, p.2) (refuses_through (refusal_of c.in_err-transition_with.field-0.0) (transition_with c.args.count (flattened c.args.top.now ((get_or c.args.written.now c.loop-number.number no_transition).name.now)) (arcs_of arcs c.loop-number.number)) (transitions_from c.args.count c.args.top.now arcs 0 (transition_names (written_views c.args.written.now)))
+      (λ refusal none. sym (c.loop-number.invariant arcs h) ∙ made_none c.args.count c.args.top.now arcs c.args.written.now c.loop-number.number no_transition (omega arith) (map transition_view c.loop-number.transitions.items) refusal none)
+      (rw (← name, ← own) c.in_err-transition_with.ensures.reads)));
+}
 
 pub loop-number-preserved : goal.loop-number-preserved
 loop-number-preserved c = λ arcs h.
     let own : c.as_slice.result.now ≡ arcs_of arcs c.loop-number.number = c.as_slice.ensures.value ∙ ap (λ v. v.items) c.index-groups-number.is ∙ h.each c.loop-number.number c.index-groups-number.result (omega arith) in
-    let name : string_bytes c.in_ok-name.name ≡ flattened c.args.top.now ((get_or c.args.written.now c.loop-number.number no_transition).name.now) = c.in_ok-name.ensures in
-    let made : transition_with c.args.count (flattened c.args.top.now ((get_or c.args.written.now c.loop-number.number no_transition).name.now)) (arcs_of arcs c.loop-number.number) ≡ read (transition_view c.in_ok-transition_with.field-0) = rw (← name, ← own) c.in_ok-transition_with.ensures in
+    let name : string_bytes c.in_ok-name.name ≡ flattened c.args.top.now ((get_or c.args.written.now c.loop-number.number no_transition).name.now) = c.in_ok-name.ensures.text in
+    let made : transition_with c.args.count (flattened c.args.top.now ((get_or c.args.written.now c.loop-number.number no_transition).name.now)) (arcs_of arcs c.loop-number.number) ≡ read (transition_view c.in_ok-transition_with.field-0) = rw (← name, ← own) c.in_ok-transition_with.ensures.reads in
     rw (c.in_ok-push.ensures.items, map-append transition_view c.loop-number.transitions.items (c.in_ok-transition_with.field-0 ∷ []))
     (made_more c.args.count c.args.top.now arcs c.args.written.now c.loop-number.number no_transition (omega arith) (map transition_view c.loop-number.transitions.items) (transition_view c.in_ok-transition_with.field-0) made ∙ c.loop-number.invariant arcs h)
 
 pub returns : goal.returns
-returns c = λ arcs h. sym (c.loop-number.invariant arcs h) ∙ made_all c.args.count c.args.top.now arcs c.args.written.now c.loop-number.number (map transition_view c.loop-number.transitions.items) (omega arith)
+returns c = record { reads = (λ arcs h. sym (c.loop-number.invariant arcs h) ∙ made_all c.args.count c.args.top.now arcs c.args.written.now c.loop-number.number (map transition_view c.loop-number.transitions.items) (omega arith)) }

@@ -11,11 +11,13 @@ use Rattle.cpn_file.proofs.transitions.variables_on.Goals.{then-stands_on+in_ok-
 
 pub returns-then-stands_on-2 : goal.returns-then-stands_on-2
 unfolding variables_on
-returns-then-stands_on-2 c =
-    let h : stands_on (arcs_view c.args.inputs.now) c.loop-variable.variable ≡ false = cc in
-    let k : stands_on (arcs_view c.args.outputs.now) c.loop-variable.variable ≡ true = cc in
-    refuses_same (refusal_of c.from.result) not_served (variables_on c.args.count (arcs_view c.args.inputs.now) (arcs_view c.args.outputs.now)) c.from.ensures
-    (sym c.loop-variable.invariant ∙ unbound (arcs_view c.args.inputs.now) (arcs_view c.args.outputs.now) c.args.count c.loop-variable.variable (omega arith) c.loop-variable.vars.items h k)
+returns-then-stands_on-2 c = record {
+  reads = (
+      let h : stands_on (arcs_view c.args.inputs.now) c.loop-variable.variable ≡ false = cc in
+      let k : stands_on (arcs_view c.args.outputs.now) c.loop-variable.variable ≡ true = cc in
+      refuses_same (refusal_of c.from.result) not_served (variables_on c.args.count (arcs_view c.args.inputs.now) (arcs_view c.args.outputs.now)) c.from.ensures
+      (sym c.loop-variable.invariant ∙ unbound (arcs_view c.args.inputs.now) (arcs_view c.args.outputs.now) c.args.count c.loop-variable.variable (omega arith) c.loop-variable.vars.items h k));
+}
 
 pub loop-variable-preserved : goal.loop-variable-preserved
 loop-variable-preserved c =

@@ -2,7 +2,7 @@
 use Rattle.std.proofs.Common.{map}
 use Rattle.cpn_search.specs.Candidates.{candidates}
 use Rattle.cpn_core.specs.Nets.{arc_view, net_view}
-use Rattle.cpn_search.proofs.AssignedSoFar.{one_bound, passes_after}
+use Rattle.cpn_search.proofs.VariablesLeft.{one_bound, passes_after}
 use Rattle.cpn_search.proofs.assignments.all_assigned.Goals as goal
 
 pub loop-variable-preserved : goal.loop-variable-preserved

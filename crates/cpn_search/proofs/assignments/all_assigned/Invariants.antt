@@ -1,7 +1,7 @@
 -- The bindings so far, with each candidate for each of the variables that are left, are all; they are in order.
 use Rattle.std.proofs.Common.{◌≡◌, true, nat_lt, [], ◌∷◌, length, map, drop}
 use Rattle.std.specs.List.{list_all, list_any}
-use Rattle.cpn_definitions.specs.Net.{is_variable}
+use Rattle.cpn_definitions.specs.Lone.{is_variable}
 use Rattle.cpn_search.specs.Candidates.{candidates}
 use Rattle.cpn_search.specs.Assignments.{assignments, AreInOrder}
 use Rattle.cpn_core.specs.Nets.{arc_view, net_view}

@@ -1,5 +1,5 @@
 -- The run that was made can be printed.
-use Rattle.std.proofs.Common.{◌≡◌, sym, ◌∙◌, subst, refl}
+use Rattle.std.proofs.Common.{◌≡◌, sym, ◌∙◌, subst}
 use Rattle.cpn_definitions.specs.Named.{IsNamed}
 use Rattle.cpn_definitions.specs.Sound.{IsSound, IsMarking}
 use Rattle.cpn_runs.specs.State.{PlainSetup}
@@ -9,7 +9,7 @@ use Rattle.cpn_core.specs.declared.nets.Net.{Net}
 use Rattle.cpn_core.specs.Nets.{net_view}
 use Rattle.std.specs.Arc.{arc_value}
 use Rattle.cpn_file.specs.Loads.{loaded_view}
-use Rattle.cpn_sim.proofs.Printed.{is_printable}
+use Rattle.cpn_sim.proofs.PrintableReports.{is_printable}
 use Rattle.cpn_sim.proofs.answers.report_of.Goals as goal
 
 pub report-requires : goal.report-requires
@@ -20,6 +20,6 @@ report-requires c =
     let Starts : PlainSetup → Type 0 = λ s. IsSound s.net × IsNamed s.net × IsMarking s.net.places s.start in
     let OfNet : Net → Type 0 = λ n. IsSound (net_view n) × IsNamed (net_view n) × IsMarking (net_view n).places (loaded_view c.args.loaded).initial in
     let Runs : PlainSetup → Type 0 = λ s. IsRun s (finished_view run) in
-    let at : setup_view run.setup ≡ _ = c.in_ok-finished.ensures.setup ∙ c.in_ok-book.ensures.setup in
+    let at : setup_view run.setup ≡ _ = c.in_ok-finished.ensures.setup ∙ c.start-book.ensures.setup in
     let start : Starts (setup_view run.setup) = subst Starts (sym at) (subst OfNet (sym same) (loaded.sound, loaded.named, loaded.marking)) in
-    record { printable = is_printable (setup_view run.setup) (finished_view run) run.cause start.0 start.1 start.2 (subst Runs (sym c.in_ok-finished.ensures.setup) c.in_ok-finished.ensures.run) refl }
+    record { printable = is_printable (setup_view run.setup) (finished_view run) start.0 start.1 start.2 (subst Runs (sym c.in_ok-finished.ensures.setup) c.in_ok-finished.ensures.run) }

@@ -1,3 +1,4 @@
+-- The pairs so far are the first ones.
 use Rattle.std.proofs.Common.{◌≡◌, take}
 use Rattle.cpn_core.specs.Pairs.{pairs_view}
 use Rattle.cpn_core.proofs.bindings.Binding.copy.Given as goal

@@ -5,7 +5,7 @@ use Rattle.cpn_definitions.specs.Lists.{IsInOrder}
 use Rattle.cpn_definitions.specs.Occurrence as plain
 use Rattle.cpn_definitions.specs.Occurrence.{needed_cmp, threshold, are_covered}
 use Rattle.cpn_core.specs.NeedsViews.{needed_view, needed_views}
-use Rattle.cpn_core.proofs.Earliest.{AreCoveredFrom, first_within, met, unmet}
+use Rattle.cpn_core.proofs.EarliestTimes.{AreCoveredFrom, first_within, met, unmet}
 use Rattle.cpn_core.proofs.NeedPlaces.{need_there}
 use Rattle.cpn_core.proofs.markings.PlainMarking.earliest.Goals as goal
 
@@ -25,7 +25,7 @@ returns-in_err-stamp c =
       earliest = λ time.
           subst (λ (ns : List plain.Needed). are_covered (threshold time) c.args.self.now ns ≡ false) c.tokens-tokens.ensures.items
           (unmet c.args.self.now (needed_views needs) ordered c.loop-index.index (needed_view c.index-tokens-index.result) (need_there needs c.loop-index.index c.index-tokens-index.result (omega arith) c.index-tokens-index.is)
-          c.start_of_need.result c.start_of_need.ensures.start (sym c.stamp.ensures ∙ c.in_err-stamp.was) time);
+          c.start_of_need.result c.start_of_need.ensures.start (sym c.stamp.ensures.stamp ∙ c.in_err-stamp.was) time);
     })
 
 pub loop-index-preserved : goal.loop-index-preserved
@@ -35,4 +35,4 @@ loop-index-preserved c =
     let latest : max c.loop-index.least (c.in_ok-stamp.stamp - c.index-tokens-index.result.offset) ≡ c.max-least.result = omega arith in
     subst (AreCoveredFrom c.args.self.now (take (c.loop-index.index + 1) (needed_views needs))) latest
     (met c.args.self.now (needed_views needs) ordered c.loop-index.index (needed_view c.index-tokens-index.result) (need_there needs c.loop-index.index c.index-tokens-index.result (omega arith) c.index-tokens-index.is)
-    c.start_of_need.result c.start_of_need.ensures.start c.loop-index.least c.in_ok-stamp.stamp c.loop-index.invariant (sym c.stamp.ensures ∙ c.in_ok-stamp.was))
+    c.start_of_need.result c.start_of_need.ensures.start c.loop-index.least c.in_ok-stamp.stamp c.loop-index.invariant (sym c.stamp.ensures.stamp ∙ c.in_ok-stamp.was))

@@ -7,4 +7,4 @@ use Rattle.cpn_core.proofs.StampRanks.{held_where_stamped}
 use Rattle.cpn_core.proofs.markings.PlainMarking.holds.Goals as goal
 
 pub returns : goal.returns
-returns c = record { held = c.is_some.ensures ∙ ap is_some c.stamp.ensures ∙ held_where_stamped (value_view c.args.value.now) (tokens_at c.args.self.now c.args.place) }
+returns c = record { held = c.is_some.ensures ∙ ap is_some c.stamp.ensures.stamp ∙ held_where_stamped (value_view c.args.value.now) (tokens_at c.args.self.now c.args.place) }

@@ -1,6 +1,6 @@
 -- The stamps that are left, by the laws of the timed subtraction.
 use Rattle.cpn_core.specs.Views.{value_view}
-use Rattle.cpn_core.proofs.Taking.{stamps_taken}
+use Rattle.cpn_core.proofs.TakenStamps.{stamps_taken}
 use Rattle.cpn_core.proofs.markings.PlainMarking.take.Goals as goal
 
 pub returns-clause-stamps : goal.returns-clause-stamps

@@ -1,0 +1,39 @@
+-- What each part counts is small, the constructors' values grow by those of the next one, and the empty list is alone.
+use Rattle.std.proofs.Common.{rules, ◌≡◌, ◌++◌, ◌-◌, [], ◌∷◌, map, Some, None, IfOk, refl, sym, ap, ◌∙◌, subst, arith}
+use Rattle.cpn_definitions.specs.Value.{bare, applied}
+use Rattle.cpn_core.specs.declared.colours.Shape.{the_lemmas}
+use Rattle.cpn_core.specs.Views.{value_view, rows_view}
+use Rattle.cpn_core.specs.Colours.{shapes_view}
+use Rattle.cpn_core.proofs.Levels.{view_con}
+use Rattle.cpn_core.proofs.ListedValues.{pushed}
+use Rattle.cpn_core.proofs.ListedParts.{no_rows, few_of_each, few_of_constructor, constructed_grows, alone}
+use Rattle.cpn_core.proofs.small.+list.Goals as goal
+use Rattle.cpn_core.proofs.small.+list.Goals.{constructed-in-None+in_ok-push-in-None, constructed-in-Some+in_ok-values_in-in-Some+in_ok-push_applied-in-Some}
+
+pub constructed-values_in-requires : goal.constructed-values_in-requires
+constructed-values_in-requires t c =
+    (search (rules, the_lemmas), few_of_constructor c.args.constructors.now.items c.loop-place.place c.index.result.now c.in-Some.shape 256 (omega arith) c.index.ensures c.in-Some.is c.requires.few)
+
+pub constructed-loop-place-preserved : goal.constructed-loop-place-preserved
+constructed-loop-place-preserved t c =
+    let before = map value_view c.loop-place.values.items in
+    elim c.match-index.branch [
+      | constructed-in-None+in_ok-push-in-None w ↦
+          constructed_grows c.args.constructors.now.items c.loop-place.place c.index.result.now None before (map value_view c.match-index.values.items) _ (omega arith) c.index.ensures w.in-None.is
+          (ap (λ vs. map value_view vs.items) w.values-is ∙ pushed c.loop-place.values.items _ _ before (before ++ bare c.loop-place.place ∷ []) (bare c.loop-place.place) w.in_ok-push-in-None.ensures.items (view_con c.loop-place.place None) refl refl)
+          c.loop-place.invariant
+      | constructed-in-Some+in_ok-values_in-in-Some+in_ok-push_applied-in-Some w ↦
+          constructed_grows c.args.constructors.now.items c.loop-place.place c.index.result.now (Some w.in-Some.shape) before (map value_view c.match-index.values.items) _ (omega arith) c.index.ensures w.in-Some.is
+          (ap (λ vs. map value_view vs.items) w.values-is ∙ w.in_ok-push_applied-in-Some.ensures ∙ ap (λ vs. before ++ map (applied c.loop-place.place) vs) w.in_ok-values_in-in-Some.ensures)
+          c.loop-place.invariant
+    ]
+
+pub rows_in-returns-then-count_rows-eq0 : goal.rows_in-returns-then-count_rows-eq0
+rows_in-returns-then-count_rows-eq0 t c = ap (λ rows. rows_view rows) c.new.ensures.items ∙ sym (no_rows (shapes_view c.args.shapes.now.items) (omega arith))
+
+pub rows_in-values_in-requires : goal.rows_in-values_in-requires
+rows_in-values_in-requires t c =
+    (search (rules, the_lemmas), few_of_each c.args.shapes.now.items (c.len.result - 1 - c.loop-done.done) c.index.result.now 256 (omega arith) c.index.ensures c.requires.few (omega arith))
+
+pub values_in-returns-in-List : goal.values_in-returns-in-List
+values_in-returns-in-List t c = subst (λ vs. IfOk c.empty_list.result (λ values. map value_view values.items ≡ vs)) (alone c.args.shape.now c.in-List.field-0 c.in-List.is c.requires.few) c.empty_list.ensures

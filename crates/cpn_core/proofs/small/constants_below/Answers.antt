@@ -1,0 +1,8 @@
+-- The constant that is pushed is the next one.
+use Rattle.cpn_core.proofs.NumberedItems.{constants_more}
+use Rattle.cpn_core.proofs.Levels.{view_enum}
+use Rattle.cpn_core.proofs.ListedValues.{pushed}
+use Rattle.cpn_core.proofs.small.constants_below.Goals as goal
+
+pub loop-k-preserved : goal.loop-k-preserved
+loop-k-preserved c = pushed _ _ _ _ _ _ c.in_ok-push.ensures.items (view_enum _) (constants_more c.loop-k.k) c.loop-k.invariant

@@ -1,0 +1,5 @@
+pub mod Inscriptions
+pub mod Answers
+pub mod Operands
+pub mod Frames
+pub mod Terms

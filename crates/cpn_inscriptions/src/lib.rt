@@ -1,0 +1,29 @@
+//! The inscriptions of the whole language as data, and their evaluation on a small stack: what is begun and not done is kept
+//! in a list of frames.
+//!
+//! An answer is the meaning of the inscription, or want of memory. The crate knows nothing of nets or markings.
+#![tactic(auto)]
+
+mod amounts;
+mod arithmetic;
+mod comparisons;
+mod frames;
+mod inscriptions;
+mod kinds;
+mod lists;
+mod locals;
+mod lone_terms;
+mod machine;
+mod matching;
+mod operations;
+mod refusals;
+mod running;
+mod term;
+
+pub use inscriptions::{
+    ArcExpr, Arm, BindingTerm, Expr, Exprs, Function, Funs, Guard, MArm, MExpr, MExprs, Op, Pat,
+    Pats,
+};
+pub use refusals::Refused;
+pub use running::eval;
+pub use term::Term;

@@ -1,0 +1,160 @@
+-- What follows from a refusal that has its cause, and from what was written of it.
+use Rattle.std.proofs.Common.{◌≡◌, ℕ, ◌<◌, ◌≤◌, ◌⊎◌, List, length, Option, Some, None, IfSome, refl, sym, ap, ◌∙◌, subst, inl, inr, ⊎_elim, arith}
+use Rattle.std.specs.Option.{MatchOption}
+use Rattle.std.specs.Io.KnownBytes.{Appends}
+use Rattle.cpn_file.specs.Loading.{PlainLoaded}
+use Rattle.cpn_file.specs.Reading.{Refusal, read, refused}
+use Rattle.cpn_file.specs.Reads.{IsReadAs}
+use Rattle.cpn_file.specs.Refusals.{document_line}
+use Rattle.cpn_io.specs.Outside.{Rose}
+use Rattle.cpn_sim.specs.Limits.{most_bytes}
+use Rattle.cpn_sim.specs.Options.{PlainOptions, options_from}
+use Rattle.cpn_sim.specs.Causes.{PlainRefusal, bad_words, read_fault, too_long, bad_document, HasCause, error_line, status_of, IsOrExcused, IsReportedOrExcused, IsRefused}
+use Rattle.cpn_sim.specs.Reported.{IsReported}
+use Rattle.cpn_sim.specs.declared.refusals.Refusal.{Refusal as TheRefusal}
+use Rattle.cpn_sim.specs.declared.refusals.Refusal.TheVariants as refusals
+use Rattle.cpn_sim.specs.declared.statuses.Status.{Status}
+use Rattle.cpn_sim.specs.declared.statuses.Status.TheVariants as statuses
+use Rattle.cpn_sim.proofs.OneReport.{read_not_refused}
+
+-- ---- the causes exclude each other
+
+not_both : (o : Option PlainOptions) (options : PlainOptions) → o ≡ None → o ≡ Some options → ⊥
+not_both o options none some = cc
+
+given_left : (P : List ℕ → Type 0) (left : Option (List ℕ)) (bytes : List ℕ) → left ≡ Some bytes → IfSome left P → P bytes
+given_left P left bytes is holds = let Q : Option (List ℕ) → Type 0 = λ o. IfSome o P in subst Q is holds
+
+-- where the words give no options they are refused
+pub cause_of_words : (refusal : PlainRefusal) (words : List (List ℕ)) (left : Option (List ℕ)) (before now : ℕ) → HasCause refusal words left before now → options_from words ≡ None → refusal ≡ bad_words
+cause_of_words bad_words words left before now cause none = refl
+cause_of_words read_fault words left before now cause none = absurd (not_both (options_from words) cause.0.0 none cause.0.1)
+cause_of_words too_long words left before now cause none = absurd (not_both (options_from words) cause.0.0 none cause.0.1)
+cause_of_words (bad_document r) words left before now cause none = absurd (not_both (options_from words) cause.0.0 none cause.0.1)
+
+-- where they give options, and more bytes are left than a document may have, the refusal is for that, but for a fault
+pub cause_of_length : (refusal : PlainRefusal) (words : List (List ℕ)) (left : Option (List ℕ)) (before now : ℕ) → HasCause refusal words left before now
+    → (options : PlainOptions) → options_from words ≡ Some options → (bytes : List ℕ) → left ≡ Some bytes → most_bytes < length bytes
+    → (refusal ≡ too_long) ⊎ Rose before now
+cause_of_length bad_words words left before now cause options some bytes is long = absurd (not_both (options_from words) options cause some)
+cause_of_length read_fault words left before now cause options some bytes is long = inr cause.1
+cause_of_length too_long words left before now cause options some bytes is long = inl refl
+cause_of_length (bad_document r) words left before now cause options some bytes is long =
+    let short : length bytes ≤ most_bytes = (given_left (λ b. (length b ≤ most_bytes) × IsReadAs b (refused r)) left bytes is cause.1).0 in
+    absurd (omega arith)
+
+-- where no more are left, the refusal is of the document, but for a fault
+pub cause_of_document : (refusal : PlainRefusal) (words : List (List ℕ)) (left : Option (List ℕ)) (before now : ℕ) → HasCause refusal words left before now
+    → (options : PlainOptions) → options_from words ≡ Some options → (bytes : List ℕ) → left ≡ Some bytes → length bytes ≤ most_bytes
+    → ((r : Refusal) × (refusal ≡ bad_document r) × IsReadAs bytes (refused r)) ⊎ Rose before now
+cause_of_document bad_words words left before now cause options some bytes is short = absurd (not_both (options_from words) options cause some)
+cause_of_document read_fault words left before now cause options some bytes is short = inr cause.1
+cause_of_document too_long words left before now cause options some bytes is short =
+    let long : most_bytes < length bytes = given_left (λ b. most_bytes < length b) left bytes is cause.1 in
+    absurd (omega arith)
+cause_of_document (bad_document r) words left before now cause options some bytes is short =
+    inl (r, refl, (given_left (λ b. (length b ≤ most_bytes) × IsReadAs b (refused r)) left bytes is cause.1).1)
+
+-- ---- statuses
+
+-- the refusal of a status
+of_words : (refusal : PlainRefusal) → status_of refusal ≡ statuses.BadWords → refusal ≡ bad_words
+of_words bad_words is = refl
+of_words read_fault is = absurd cc
+of_words too_long is = absurd cc
+of_words (bad_document r) is = absurd cc
+
+of_read : (refusal : PlainRefusal) → status_of refusal ≡ statuses.ReadFault → refusal ≡ read_fault
+of_read bad_words is = absurd cc
+of_read read_fault is = refl
+of_read too_long is = absurd cc
+of_read (bad_document r) is = absurd cc
+
+of_length : (refusal : PlainRefusal) → status_of refusal ≡ statuses.TooLong → refusal ≡ too_long
+of_length bad_words is = absurd cc
+of_length read_fault is = absurd cc
+of_length too_long is = refl
+of_length (bad_document r) is = absurd cc
+
+of_document : (refusal : PlainRefusal) → status_of refusal ≡ statuses.BadDocument → (r : Refusal) × (refusal ≡ bad_document r)
+of_document bad_words is = absurd cc
+of_document read_fault is = absurd cc
+of_document too_long is = absurd cc
+of_document (bad_document r) is = (r, refl)
+
+is_no_report : (refusal : PlainRefusal) → IsReported (status_of refusal) → ⊥
+is_no_report bad_words (inl is) = cc
+is_no_report bad_words (inr is) = cc
+is_no_report read_fault (inl is) = cc
+is_no_report read_fault (inr is) = cc
+is_no_report too_long (inl is) = cc
+is_no_report too_long (inr is) = cc
+is_no_report (bad_document r) (inl is) = cc
+is_no_report (bad_document r) (inr is) = cc
+
+-- the status of a report is no other
+pub is_reported : (status other : Status) → IsReported status → status ≡ other → (IsReported other → ⊥) → ⊥
+is_reported status other reported same not = not (subst IsReported same reported)
+
+-- a refusal that is not for want of memory is a plain one
+pub plain_of : {C W : PlainRefusal → Type 0} (refusal : TheRefusal) (view : Option PlainRefusal) → MatchOption view (refusal ≡ refusals.Memory) C → IfSome view W → (refusal ≡ refusals.Memory → ⊥) → (plain : PlainRefusal) × C plain × W plain
+plain_of refusal None memory written not_memory = absurd (not_memory memory)
+plain_of refusal (Some plain) cause written not_memory = (plain, cause, written)
+
+-- the status of the refusal, or an excuse
+excused : (refusal : PlainRefusal) (status wanted : Status) (old new : Option (List ℕ)) (faults now : ℕ) (fault : Type 0) → IsRefused refusal status old new faults now → status_of refusal ≡ wanted → IsOrExcused status wanted fault (Rose faults now)
+excused refusal status wanted old new faults now fault written is =
+    ⊎_elim (λ same. inl (same ∙ is)) (λ other. ⊎_elim (λ memory. inr (inl memory)) (λ write. inr (inr (inr (written.fault write)))) other) written.outcome
+
+module _ (refusal : PlainRefusal) (words : List (List ℕ)) (left : Option (List ℕ)) (before after : ℕ) (status : Status) (old new : Option (List ℕ)) (faults now : ℕ) (cause : HasCause refusal words left before after) (written : IsRefused refusal status old new faults now) where
+  -- a status that tells of no want of memory and of no fault of the sink is that of the refusal
+  told : (s : Status) → (s ≡ statuses.Memory → ⊥) → (s ≡ statuses.WriteFault → ⊥) → status ≡ s → status_of refusal ≡ s
+  told s not_memory not_write is =
+      ⊎_elim (λ same. sym same ∙ is) (λ other. ⊎_elim (λ memory. absurd (not_memory (sym is ∙ memory))) (λ write. absurd (not_write (sym is ∙ write))) other) written.outcome
+
+  -- what holds where the status is the given one
+  having : (s : Status) (r : PlainRefusal) → status ≡ s → status_of refusal ≡ s → refusal ≡ r → HasCause r words left before after × Appends old new (error_line r)
+  having s r is same which =
+      let Caused : PlainRefusal → Type 0 = λ q. HasCause q words left before after in
+      let Told : PlainRefusal → Type 0 = λ q. Appends old new (error_line q) in
+      (subst Caused which cause, subst Told which (written.line (is ∙ sym same)))
+
+  pub no_report : IsReported status → ⊥
+  no_report (inl is) = is_no_report refusal (inl (told statuses.Done (λ e. cc) (λ e. cc) is))
+  no_report (inr is) = is_no_report refusal (inr (told statuses.RunFault (λ e. cc) (λ e. cc) is))
+
+  pub words_told : status ≡ statuses.BadWords → HasCause bad_words words left before after × Appends old new (error_line bad_words)
+  words_told is = let same = told statuses.BadWords (λ e. cc) (λ e. cc) is in having statuses.BadWords bad_words is same (of_words refusal same)
+
+  pub read_told : status ≡ statuses.ReadFault → HasCause read_fault words left before after × Appends old new (error_line read_fault)
+  read_told is = let same = told statuses.ReadFault (λ e. cc) (λ e. cc) is in having statuses.ReadFault read_fault is same (of_read refusal same)
+
+  pub long_told : status ≡ statuses.TooLong → HasCause too_long words left before after × Appends old new (error_line too_long)
+  long_told is = let same = told statuses.TooLong (λ e. cc) (λ e. cc) is in having statuses.TooLong too_long is same (of_length refusal same)
+
+  pub document_told : status ≡ statuses.BadDocument → (r : Refusal) × HasCause (bad_document r) words left before after × Appends old new (document_line r)
+  document_told is =
+      let same = told statuses.BadDocument (λ e. cc) (λ e. cc) is in
+      let which = of_document refusal same in
+      let both = having statuses.BadDocument (bad_document which.0) is same which.1 in
+      (which.0, both.0, both.1)
+
+  pub refused_words : options_from words ≡ None → (status ≡ statuses.BadWords) ⊎ ((status ≡ statuses.Memory) ⊎ Rose faults now)
+  refused_words none =
+      let which : refusal ≡ bad_words = cause_of_words refusal words left before after cause none in
+      ⊎_elim (λ same. inl (same ∙ ap status_of which)) (λ other. ⊎_elim (λ memory. inr (inl memory)) (λ write. inr (inr (written.fault write))) other) written.outcome
+
+  pub refused_long : (options : PlainOptions) → options_from words ≡ Some options → (bytes : List ℕ) → left ≡ Some bytes → most_bytes < length bytes → IsOrExcused status statuses.TooLong (Rose before after) (Rose faults now)
+  refused_long options some bytes is long =
+      ⊎_elim (λ which. excused refusal status statuses.TooLong old new faults now (Rose before after) written (ap status_of which)) (λ rose. inr (inr (inl rose)))
+      (cause_of_length refusal words left before after cause options some bytes is long)
+
+  pub refused_document : (options : PlainOptions) → options_from words ≡ Some options → (bytes : List ℕ) → left ≡ Some bytes → length bytes ≤ most_bytes → IsOrExcused status statuses.BadDocument (Rose before after) (Rose faults now)
+  refused_document options some bytes is short =
+      ⊎_elim (λ which. excused refusal status statuses.BadDocument old new faults now (Rose before after) written (ap status_of which.1)) (λ rose. inr (inr (inl rose)))
+      (cause_of_document refusal words left before after cause options some bytes is short)
+
+  pub refused_complete : (options : PlainOptions) → options_from words ≡ Some options → (bytes : List ℕ) → left ≡ Some bytes → length bytes ≤ most_bytes → (loaded : PlainLoaded) → IsReadAs bytes (read loaded) → IsReportedOrExcused status (Rose before after) (Rose faults now)
+  refused_complete options some bytes is short loaded reads =
+      ⊎_elim (λ which. absurd (read_not_refused bytes loaded which.0 reads which.2)) (λ rose. inr (inr (inl rose)))
+      (cause_of_document refusal words left before after cause options some bytes is short)

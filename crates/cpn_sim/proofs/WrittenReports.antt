@@ -1,0 +1,61 @@
+-- What a report that was written gives: its clauses, and that its status is no other.
+use Rattle.std.proofs.Common.{◌≡◌, ℕ, ◌<◌, ◌≤◌, Bool, true, false, List, length, Some, None, Option, IfSome, sym, ap, ◌∙◌, subst, inl, inr, arith}
+use Rattle.std.specs.Io.KnownBytes.{Appends}
+use Rattle.cpn_file.specs.Reading.{Refusal, refused}
+use Rattle.cpn_file.specs.Reads.{IsReadAs}
+use Rattle.cpn_sim.specs.Limits.{most_bytes}
+use Rattle.cpn_sim.specs.Options.{options_from}
+use Rattle.cpn_sim.specs.Causes.{GiveOptions}
+use Rattle.cpn_sim.specs.Reported.{IsReported, IsReport}
+use Rattle.cpn_sim.specs.declared.statuses.Status.{Status}
+use Rattle.cpn_sim.specs.declared.statuses.Status.TheVariants as statuses
+use Rattle.cpn_sim.proofs.OneReport.{read_not_refused}
+
+-- whether a status is that of a report
+abbrev pub is_of_report : Status → Bool
+is_of_report statuses.Done = true
+is_of_report statuses.BadWords = false
+is_of_report statuses.ReadFault = false
+is_of_report statuses.BadDocument = false
+is_of_report statuses.RunFault = true
+is_of_report statuses.WriteFault = false
+is_of_report statuses.Memory = false
+is_of_report statuses.TooLong = false
+
+of_report : (status : Status) → IsReported status → is_of_report status ≡ true
+of_report status (inl is) = ap is_of_report is
+of_report status (inr is) = ap is_of_report is
+
+-- the status of a report is none of the others
+pub no_other : {A : Type 0} (status other : Status) → IsReported status → is_of_report other ≡ false → status ≡ other → A
+no_other status other reported none is = let e : true ≡ false = sym (of_report status reported) ∙ ap is_of_report is ∙ none in absurd cc
+
+-- the report was written, under its status
+pub written : (words : List (List ℕ)) (left : Option (List ℕ)) (status given : Status) (report : List ℕ) (old new : Option (List ℕ))
+    → IfSome left (λ bytes. (length bytes ≤ most_bytes) × IsReport bytes words given report) → given ≡ status → Appends old new report
+    → IfSome left (λ bytes. (length bytes ≤ most_bytes) × ((text : List ℕ) × IsReport bytes words status text × Appends old new text))
+written words None status given report old new is same appended = tt
+written words (Some bytes) status given report old new is same appended = (is.0, (report, subst (λ s. IsReport bytes words s report) same is.1, appended))
+
+-- and what a part of it is a part of was to be written
+pub to_be_written : (words : List (List ℕ)) (left : Option (List ℕ)) (status : Status) (report : List ℕ)
+    → IfSome left (λ bytes. (length bytes ≤ most_bytes) × IsReport bytes words status report)
+    → IfSome left (λ bytes. (length bytes ≤ most_bytes) × ((s : Status) × IsReport bytes words s report))
+to_be_written words None status report is = tt
+to_be_written words (Some bytes) status report is = (is.0, (status, is.1))
+
+-- where there is a report, the words give options
+pub not_refused_words : (words : List (List ℕ)) → GiveOptions words → options_from words ≡ None → ⊥
+not_refused_words words given none = let e : Some given.0 ≡ None = sym given.1 ∙ none in cc
+
+module _ (words : List (List ℕ)) (left : Option (List ℕ)) (status : Status) (report bytes : List ℕ) (is : left ≡ Some bytes) (reported : IfSome left (λ b. (length b ≤ most_bytes) × IsReport b words status report)) where
+  of_these : (length bytes ≤ most_bytes) × IsReport bytes words status report
+  of_these = subst (λ (o : Option (List ℕ)). IfSome o (λ b. (length b ≤ most_bytes) × IsReport b words status report)) is reported
+
+  -- no more bytes are left than a document may have
+  pub not_too_long : most_bytes < length bytes → ⊥
+  not_too_long long = let short : length bytes ≤ most_bytes = of_these.0 in omega arith
+
+  -- and they are not refused
+  pub not_refused : (r : Refusal) → IsReadAs bytes (refused r) → ⊥
+  not_refused r refused_so = let is_report = of_these.1.is_report in read_not_refused bytes is_report.loaded r is_report.reads refused_so

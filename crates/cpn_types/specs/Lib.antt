@@ -1,0 +1,16 @@
+pub mod Types
+pub mod Names
+pub mod Places
+pub mod PatternRules
+pub mod Rules
+pub mod Expressions
+pub mod TypedValues
+pub mod Law
+pub mod ColourSets
+pub mod Declarations
+pub mod Multisets
+pub mod InscriptionVariables
+pub mod GuardsAndDelays
+pub mod BindableRule
+pub mod Closure
+pub mod AcceptedTransitions
