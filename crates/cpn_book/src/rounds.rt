@@ -15,7 +15,7 @@ ghost use Rattle.cpn_book.specs.Progress.{IsRunning, HasEnded};
 use crate::outlooks::ready_count;
 use crate::run_progress::Progress;
 use cpn_core::{Element, Entry, Memory, Needs, Net};
-use cpn_eval::{Refused, needs_of, outputs_of};
+use cpn_elements::{Refused, needs_of, outputs_of};
 use cpn_runs::{End, Event, Occurrence, Setup};
 use std::alloc::Global;
 

@@ -1,25 +1,147 @@
-//! Inscriptions, once they are typed: of guards and delays, and of arcs.
+//! Inscriptions, once they are typed: of guards and delays, and of arcs and initial markings.
+//!
+//! Locals are numbered from 0, from the outermost binder inwards, those of one binder from left to right; the
+//! parameters of a function come first. Source: our own profile of CPN ML.
 
 use crate::colours::Colour;
 use crate::values::Value;
 
-/// An inscription.
-///
-/// Source: our own profile of CPN ML.
+/// What is done with the values of operands.
+#[derive(Clone, Copy, Debug, PartialEq, Eq)]
+pub enum Op {
+    /// The sum of two integers, `+`.
+    Add,
+    /// The difference of two integers, `-`.
+    Sub,
+    /// The product of two integers, `*`.
+    Mul,
+    /// The quotient of two integers, rounded towards minus infinity, `div`.
+    Div,
+    /// What is left of that quotient, with the divisor's sign, `mod`.
+    Mod,
+    /// An integer with the other sign, `~`.
+    Neg,
+    /// Two strings as one, `^`.
+    Cat,
+    /// Whether two values are the same, `=`.
+    Eq,
+    /// Whether two values differ, `<>`.
+    Ne,
+    /// Whether the first of two integers or strings comes before the second, `<`.
+    Lt,
+    /// Whether the second does not come before the first, `<=`.
+    Le,
+    /// Whether the second comes before the first, `>`.
+    Gt,
+    /// Whether the first does not come before the second, `>=`.
+    Ge,
+    /// The other truth value, `not`.
+    Not,
+    /// A list with an item before it, `::`.
+    Cons,
+    /// Two lists as one, `^^`.
+    Append,
+    /// The first item of a list, `hd`.
+    Head,
+    /// A list without its first item, `tl`.
+    Tail,
+    /// How many items a list has, `length`.
+    Length,
+    /// A list backwards, `rev`.
+    Rev,
+    /// Whether a list has an item, `mem`.
+    Mem,
+    /// How many bytes a string has, `size`.
+    Size,
+    /// The component of a tuple at a position from 1, `#k`.
+    Nth(u32),
+}
+
+/// Several patterns, one after another.
+pub type Pats = Vec<Pat>;
+
+/// A pattern of an arm of a `case`, or of a binding term.
 #[derive(Drop)]
+pub enum Pat {
+    /// Fits each value.
+    Any,
+    /// Fits each value, and binds it: in a binding term to the variable of this number, in an arm as the local of this
+    /// number.
+    Var(u32),
+    /// Fits the value itself.
+    Lit(Value),
+    /// Fits a tuple whose components fit, one for one.
+    Tuple(Pats),
+    /// Fits a list whose items fit, one for one.
+    List(Pats),
+    /// Fits a list whose first item and whose rest fit.
+    Cons(Box<Pat>, Box<Pat>),
+    /// Fits the constructor of a position without its argument, or with one that fits.
+    Con(u32, Option<Box<Pat>>),
+}
+
+/// Several inscriptions, one after another.
+pub type Exprs = Vec<Expr>;
+
+/// An inscription whose meaning is a value.
+#[derive(Drop)]
+#[cycle(expr)]
 pub enum Expr {
     /// A literal, which means itself.
     Lit(Value),
     /// The variable of a number, which means the value that it is bound to.
     Var(u32),
+    /// The local of a number.
+    Local(u32),
+    /// The time, `time`: the clock at which an element occurs.
+    Time,
+    /// An operation on the values of its operands.
+    Op(Op, Exprs),
+    /// `andalso`: the second is evaluated only where the first is true.
+    And(Box<Expr>, Box<Expr>),
+    /// `orelse`: the second is evaluated only where the first is false.
+    Or(Box<Expr>, Box<Expr>),
+    /// `if`: the condition, and what is evaluated where it is true and where it is false.
+    If(Box<Expr>, Box<Expr>, Box<Expr>),
+    /// `case`: the first arm whose pattern fits the value of the first part.
+    Case(Box<Expr>, Vec<Arm>),
+    /// `let`: the value of the first part is the next local of the second.
+    Let(Box<Expr>, Box<Expr>),
+    /// `foldl`: for each item of a list, from left to right.
+    Fold {
+        /// The list.
+        list: Box<Expr>,
+        /// What is made before the first item.
+        start: Box<Expr>,
+        /// What is made at an item; the next two locals are the item and what was made before it.
+        body: Box<Expr>,
+    },
+    /// A tuple of the values of its parts.
+    Tuple(Exprs),
+    /// A list of the values of its parts.
+    List(Exprs),
+    /// The constructor of a position, without its argument or with it.
+    Con(u32, Option<Box<Expr>>),
+    /// A call of the function of a number.
+    Call(u32, Exprs),
 }
 
-/// A function that inscriptions may call.
+/// An arm of a `case`.
+#[derive(Drop)]
+#[cycle(expr)]
+pub struct Arm {
+    /// What the value has to fit.
+    pub pat: Pat,
+    /// What is evaluated where it does; the next locals are the values that the pattern binds, from left to right.
+    pub result: Expr,
+}
+
+/// A function that inscriptions may call; a `val` is one without parameters.
 #[derive(Drop)]
 pub struct Function {
     /// How many parameters it has.
     pub parameters: u32,
-    /// Its body.
+    /// Its body, in which it may call the functions before it.
     pub body: Expr,
 }
 
@@ -30,20 +152,48 @@ pub struct Funs {
     pub functions: Vec<Function>,
 }
 
-/// An inscription of an arc, whose value is a multiset of tokens.
+/// The guard of a transition: each conjunct means true. A missing guard has no conjunct.
 #[derive(Drop)]
-pub enum MExpr {
-    /// One token of the value of an inscription.
-    One(Expr),
+pub struct Guard {
+    /// The conjuncts.
+    pub conjuncts: Exprs,
 }
 
-/// The pattern of a binding term.
+/// Several inscriptions of an arc, one after another.
+pub type MExprs = Vec<MExpr>;
+
+/// An inscription of an arc or an initial marking, whose value is a multiset of tokens.
 #[derive(Drop)]
-pub enum Pat {
-    /// Fits the value itself.
-    Lit(Value),
-    /// Fits each value, and binds the variable of this number to it.
-    Var(u32),
+#[cycle(tokens)]
+pub enum MExpr {
+    /// `empty`: no token.
+    Empty,
+    /// One token of a value.
+    One(Expr),
+    /// A coefficient, a backtick and a value: so many tokens.
+    Times(Expr, Expr),
+    /// A sum of its parts.
+    Sum(MExprs),
+    /// `@+`: tokens with a delay.
+    Later(Box<MExpr>, Expr),
+    /// `@`: tokens with a time stamp, in an initial marking.
+    At(Box<MExpr>, i64),
+    /// `if`: the condition, and the tokens where it is true and where it is false.
+    If(Expr, Box<MExpr>, Box<MExpr>),
+    /// `case`: the first arm whose pattern fits the value of the first part.
+    Case(Expr, Vec<MArm>),
+    /// `let`: the value of the first part is the next local of the second.
+    Let(Expr, Box<MExpr>),
+}
+
+/// An arm of a `case` over tokens.
+#[derive(Drop)]
+#[cycle(tokens)]
+pub struct MArm {
+    /// What the value has to fit.
+    pub pat: Pat,
+    /// The tokens where it does; the next locals are the values that the pattern binds, from left to right.
+    pub result: MExpr,
 }
 
 /// A binding term of an input arc: so many tokens that a pattern fits.
@@ -64,11 +214,4 @@ pub struct ArcExpr {
     pub expr: MExpr,
     /// The binding terms of the inscription, where the arc is an input arc.
     pub terms: Vec<BindingTerm>,
-}
-
-/// The guard of a transition: each conjunct means true. A missing guard has no conjunct.
-#[derive(Drop)]
-pub struct Guard {
-    /// The conjuncts.
-    pub conjuncts: Vec<Expr>,
 }

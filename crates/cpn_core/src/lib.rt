@@ -27,7 +27,10 @@ pub use colours::{Colour, Shape};
 pub use cpn_memory::{Memory, Text};
 pub use entries::{Entry, Found, FoundBinding};
 pub use faults::EvalFault;
-pub use inscriptions::{ArcExpr, BindingTerm, Expr, Function, Funs, Guard, MExpr, Pat};
+pub use inscriptions::{
+    ArcExpr, Arm, BindingTerm, Expr, Exprs, Function, Funs, Guard, MArm, MExpr, MExprs, Op, Pat,
+    Pats,
+};
 pub use markings::PlainMarking;
 pub use needed::Needed;
 pub use needs::Needs;

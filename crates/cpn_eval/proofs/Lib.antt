@@ -1,2 +1,11 @@
-pub mod GatheredTerms
-pub mod WorkedMeanings
+pub mod Division
+pub mod Fronts
+pub mod ValueLists
+pub mod Operands
+pub mod Binds
+pub mod Calling
+pub mod Levels
+pub mod Turns
+pub mod TermAmounts
+pub mod TokenLevels
+pub mod TokenTerms

@@ -1,8 +1,4 @@
 pub mod Answers
-pub mod Guards
+pub mod Operands
+pub mod Frames
 pub mod Terms
-pub mod Summed
-pub mod Needs
-pub mod Outputs
-pub mod Delays
-pub mod Worked

@@ -1,23 +1,23 @@
-//! What the inscriptions of a net mean under a binding: values, guards, the tokens that an element needs and
-//! the tokens that it makes, or the fault of an inscription that has no value.
+//! What the inscriptions of the language mean, evaluated on a small stack: what is begun and not done is kept in a list of frames.
 //!
-//! The crate reads nets and bindings. It knows nothing of markings, of what is enabled, or of runs.
+//! An answer is the meaning of the inscription, or want of memory. The crate knows nothing of nets or markings.
 #![tactic(auto)]
 
-mod meanings;
-mod needs;
-mod outputs;
-mod places;
-mod refused;
+mod amounts;
+mod arithmetic;
+mod comparisons;
+mod frames;
+mod kinds;
+mod lists;
+mod locals;
+mod lone_terms;
+mod machine;
+mod matching;
+mod operations;
+mod refusals;
+mod running;
 mod term;
-mod terms;
-#[cfg(test)]
-mod tests;
 
-pub use meanings::{guard_holds, value_of};
-pub use needs::needs_of;
-pub use outputs::outputs_of;
-pub use places::is_timed;
-pub use refused::Refused;
+pub use refusals::Refused;
+pub use running::eval;
 pub use term::Term;
-pub use terms::terms_of;

@@ -15,7 +15,7 @@ use Rattle.cpn_core.specs.declared.nets.PlaceArc.{PlaceArc}
 use Rattle.cpn_core.specs.declared.nets.Transition.{Transition}
 use Rattle.cpn_core.specs.Nets.{arc_view, transition_view, net_view}
 use Rattle.cpn_search.specs.Known.{IsKnown}
-use Rattle.cpn_eval.specs.Guards.{GuardHasMeaning}
+use Rattle.cpn_elements.specs.Guards.{GuardHasMeaning}
 use Rattle.cpn_search.specs.Found.{element_of, IsNeverCovered}
 use Rattle.cpn_search.proofs.Completeness.{sound_transition, lone_transition}
 use Rattle.cpn_search.proofs.Needs.{needs_mean}

@@ -7,7 +7,7 @@ ghost use Rattle.cpn_core.specs.Nets.{net_view};
 ghost use Rattle.cpn_search.specs.Found.{element_of, IsNeverCovered, IsLeastTime};
 
 use cpn_core::{Binding, Memory, Net, PlainMarking};
-use cpn_eval::{Refused, guard_holds, needs_of};
+use cpn_elements::{Refused, guard_holds, needs_of};
 use std::alloc::Global;
 
 /// The least time at which an element of a sound net is covered; `None` where it is covered at no time: its guard is

@@ -1,0 +1,2 @@
+pub mod GatheredTerms
+pub mod WorkedMeanings

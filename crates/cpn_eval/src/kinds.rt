@@ -1,0 +1,120 @@
+//! What kind of value an operand is.
+
+ghost use Rattle.std.specs.Prelude.{◌≡◌, map};
+ghost use Rattle.cpn_definitions.specs.Operations.{integer_in, truth_in, string_in, items_in, components_in, sized};
+ghost use Rattle.cpn_core.specs.Views.{value_view};
+ghost use Rattle.cpn_eval.specs.Answers.{Tells};
+
+use crate::refusals::NoValue;
+use cpn_core::{EvalFault, Text, Value, Values};
+
+/// The most nodes that a value may have.
+pub const MOST_NODES: u64 = 65_536;
+
+/// The integer that the value is.
+pub fn integer_in(value: &Value) -> Result<i64, NoValue>
+    ensures integer { Tells (λ z. z) result (integer_in (value_view value.now)) }
+{
+    match value {
+        Value::Unit => Err(NoValue::Untyped),
+        Value::Bool(_) => Err(NoValue::Untyped),
+        Value::Int(number) => Ok(*number),
+        Value::Enum(_) => Err(NoValue::Untyped),
+        Value::Text(_) => Err(NoValue::Untyped),
+        Value::Tuple(_) => Err(NoValue::Untyped),
+        Value::Con(_, argument) => match argument {
+            None => Err(NoValue::Untyped),
+            Some(_) => Err(NoValue::Untyped),
+        },
+        Value::List(_) => Err(NoValue::Untyped),
+    }
+}
+
+/// The truth value that the value is.
+pub fn truth_in(value: &Value) -> Result<bool, NoValue>
+    ensures truth { Tells (λ b. b) result (truth_in (value_view value.now)) }
+{
+    match value {
+        Value::Unit => Err(NoValue::Untyped),
+        Value::Bool(truth) => Ok(*truth),
+        Value::Int(_) => Err(NoValue::Untyped),
+        Value::Enum(_) => Err(NoValue::Untyped),
+        Value::Text(_) => Err(NoValue::Untyped),
+        Value::Tuple(_) => Err(NoValue::Untyped),
+        Value::Con(_, argument) => match argument {
+            None => Err(NoValue::Untyped),
+            Some(_) => Err(NoValue::Untyped),
+        },
+        Value::List(_) => Err(NoValue::Untyped),
+    }
+}
+
+/// The string that the value is.
+pub fn string_in(value: Value) -> Result<Text, NoValue>
+    ensures string { Tells (λ bytes. bytes) result (string_in (value_view value)) }
+{
+    match value {
+        Value::Unit => Err(NoValue::Untyped),
+        Value::Bool(_) => Err(NoValue::Untyped),
+        Value::Int(_) => Err(NoValue::Untyped),
+        Value::Enum(_) => Err(NoValue::Untyped),
+        Value::Text(text) => Ok(text),
+        Value::Tuple(_) => Err(NoValue::Untyped),
+        Value::Con(_, argument) => match argument {
+            None => Err(NoValue::Untyped),
+            Some(_) => Err(NoValue::Untyped),
+        },
+        Value::List(_) => Err(NoValue::Untyped),
+    }
+}
+
+/// The items of the list that the value is.
+#[tactic(auto, using(crate::proofs::ValueLists::items_in_list))]
+pub fn items_in(value: Value) -> Result<Values, NoValue>
+    ensures items { Tells (λ vs. map value_view vs.items) result (items_in (value_view value)) }
+{
+    match value {
+        Value::Unit => Err(NoValue::Untyped),
+        Value::Bool(_) => Err(NoValue::Untyped),
+        Value::Int(_) => Err(NoValue::Untyped),
+        Value::Enum(_) => Err(NoValue::Untyped),
+        Value::Text(_) => Err(NoValue::Untyped),
+        Value::Tuple(_) => Err(NoValue::Untyped),
+        Value::Con(_, argument) => match argument {
+            None => Err(NoValue::Untyped),
+            Some(_) => Err(NoValue::Untyped),
+        },
+        Value::List(items) => Ok(items),
+    }
+}
+
+/// The components of the tuple that the value is.
+#[tactic(auto, using(crate::proofs::ValueLists::components_in_tuple))]
+pub fn components_in(value: Value) -> Result<Values, NoValue>
+    ensures components { Tells (λ vs. map value_view vs.items) result (components_in (value_view value)) }
+{
+    match value {
+        Value::Unit => Err(NoValue::Untyped),
+        Value::Bool(_) => Err(NoValue::Untyped),
+        Value::Int(_) => Err(NoValue::Untyped),
+        Value::Enum(_) => Err(NoValue::Untyped),
+        Value::Text(_) => Err(NoValue::Untyped),
+        Value::Tuple(items) => Ok(items),
+        Value::Con(_, argument) => match argument {
+            None => Err(NoValue::Untyped),
+            Some(_) => Err(NoValue::Untyped),
+        },
+        Value::List(_) => Err(NoValue::Untyped),
+    }
+}
+
+/// The value, if it is not too large.
+pub fn sized(value: Value) -> Result<Value, NoValue>
+    ensures sized { Tells value_view result (sized (value_view value)) }
+{
+    if value.nodes() <= MOST_NODES {
+        Ok(value)
+    } else {
+        Err(NoValue::Fault(EvalFault::TooLarge))
+    }
+}

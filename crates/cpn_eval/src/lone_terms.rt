@@ -1,0 +1,129 @@
+//! Terms of their own: a value with its coefficient, and a delay behind it.
+
+ghost use Rattle.std.specs.Prelude.{◌≡◌, ◌≤◌, [], IfOk};
+ghost use Rattle.cpn_definitions.specs.Inscription.{times};
+ghost use Rattle.cpn_definitions.specs.Times.{last_time};
+ghost use Rattle.cpn_definitions.specs.Terms.{term_of, lone_term, is_lone, then_delayed};
+ghost use Rattle.cpn_core.specs.Colours.{colour_view};
+ghost use Rattle.cpn_core.specs.Inscriptions.{expr_view, multiset_view};
+ghost use Rattle.cpn_eval.specs.Answers.{Tells};
+ghost use Rattle.cpn_eval.specs.Frames.{Kept, locals_of, setting_in};
+ghost use Rattle.cpn_eval.specs.Terms.{items_view};
+
+use crate::amounts::{all_delayed, coefficient_of, written_delay};
+use crate::frames::{Machine, World};
+use crate::refusals::NoValue;
+use crate::term::Term;
+use cpn_core::{Colour, EvalFault, Expr, MExpr};
+
+/// Where the inscription of an arc is evaluated.
+#[derive(Clone, Copy)]
+pub struct Arc<'w> {
+    /// The functions, the binding and the time.
+    pub world: World<'w>,
+    /// The colour set of the place.
+    pub colour: &'w Colour,
+}
+
+/// Whether the inscription is a lone term.
+pub fn is_lone(expr: &MExpr) -> bool
+    ensures lone { result ≡ is_lone (multiset_view expr.now) }
+{
+    match expr {
+        MExpr::One(_) => true,
+        MExpr::Times(_, _) => true,
+        MExpr::Empty => false,
+        MExpr::Sum(_) => false,
+        MExpr::Later(_, _) => false,
+        MExpr::At(_, _) => false,
+        MExpr::If(_, _, _) => false,
+        MExpr::Case(_, _) => false,
+        MExpr::Let(_, _) => false,
+    }
+}
+
+impl<'w> Arc<'w> {
+    /// So many tokens of the inscription's value, if the colour set has it.
+    fn term_of(
+        &self,
+        machine: &mut Machine<'w>,
+        expr: &'w Expr,
+        count: u64,
+    ) -> Result<Vec<Term>, NoValue>
+        requires time { self.now.world.time ≤ last_time }
+        requires idle { machine.old.frames.items ≡ [] }
+        ensures terms { Tells items_view result (term_of (expr_view expr.now) (colour_view self.now.colour.now) (setting_in self.now.world machine.old.visible) (locals_of machine.old) count) }
+        ensures kept { IfOk result (λ _. Kept machine.old machine.new) }
+    {
+        let value = machine.value_of(&self.world, expr)?;
+        if !self.colour.admits(&value) {
+            return Err(NoValue::Fault(EvalFault::NotInColour));
+        }
+        let mut terms = Vec::new(machine.alloc);
+        terms.push(Term {
+            value,
+            count,
+            delay: 0,
+        })?;
+        Ok(terms)
+    }
+
+    /// The tokens of a coefficient and a value.
+    fn times(
+        &self,
+        machine: &mut Machine<'w>,
+        coefficient: &'w Expr,
+        expr: &'w Expr,
+    ) -> Result<Vec<Term>, NoValue>
+        requires time { self.now.world.time ≤ last_time }
+        requires idle { machine.old.frames.items ≡ [] }
+        ensures terms { Tells items_view result (lone_term (times (expr_view coefficient.now) (expr_view expr.now)) (colour_view self.now.colour.now) (setting_in self.now.world machine.old.visible) (locals_of machine.old)) }
+        ensures kept { IfOk result (λ _. Kept machine.old machine.new) }
+    {
+        let value = machine.value_of(&self.world, coefficient)?;
+        let count = coefficient_of(&value)?;
+        self.term_of(machine, expr, count)
+    }
+
+    /// The tokens of a lone term.
+    pub fn lone_term(
+        &self,
+        machine: &mut Machine<'w>,
+        expr: &'w MExpr,
+    ) -> Result<Vec<Term>, NoValue>
+        requires time { self.now.world.time ≤ last_time }
+        requires idle { machine.old.frames.items ≡ [] }
+        ensures terms { Tells items_view result (lone_term (multiset_view expr.now) (colour_view self.now.colour.now) (setting_in self.now.world machine.old.visible) (locals_of machine.old)) }
+        ensures kept { IfOk result (λ _. Kept machine.old machine.new) }
+    {
+        match expr {
+            MExpr::One(value) => self.term_of(machine, value, 1),
+            MExpr::Times(coefficient, value) => self.times(machine, coefficient, value),
+            MExpr::Empty => Err(NoValue::Untyped),
+            MExpr::Sum(_) => Err(NoValue::Untyped),
+            MExpr::Later(_, _) => Err(NoValue::Untyped),
+            MExpr::At(_, _) => Err(NoValue::Untyped),
+            MExpr::If(_, _, _) => Err(NoValue::Untyped),
+            MExpr::Case(_, _) => Err(NoValue::Untyped),
+            MExpr::Let(_, _) => Err(NoValue::Untyped),
+        }
+    }
+
+    /// Terms with the delay that is written behind them, evaluated once.
+    pub fn then_delayed(
+        &self,
+        machine: &mut Machine<'w>,
+        delay: &'w Expr,
+        terms: Vec<Term>,
+    ) -> Result<Vec<Term>, NoValue>
+        requires time { self.now.world.time ≤ last_time }
+        requires idle { machine.old.frames.items ≡ [] }
+        ensures terms { Tells items_view result (then_delayed (expr_view delay.now) (setting_in self.now.world machine.old.visible) (locals_of machine.old) (items_view terms)) }
+        ensures kept { IfOk result (λ _. Kept machine.old machine.new) }
+    {
+        let value = machine.value_of(&self.world, delay)?;
+        let number = written_delay(&value)?;
+        let delayed = all_delayed(machine.alloc, terms, number)?;
+        Ok(delayed)
+    }
+}

@@ -1,0 +1,252 @@
+//! The turns of an evaluation.
+
+ghost use Rattle.std.specs.Prelude.{◌≡◌, ◌≤◌, ◌<◌, ◌^◌, ℕ, List, [], ◌∷◌, ◌++◌, map, length};
+ghost use Rattle.cpn_definitions.specs.Inscription.{arms_from};
+ghost use Rattle.cpn_definitions.specs.Meaning.{meant_among, done_with};
+ghost use Rattle.cpn_definitions.specs.Times.{last_time};
+ghost use Rattle.cpn_core.specs.Views.{value_view};
+ghost use Rattle.cpn_core.specs.Inscriptions.{op_view, expr_view, exprs_view, arm_view};
+ghost use Rattle.cpn_eval.specs.Frames.{rest_of, folded, one, through, at, after_outcome, after_value, after_frame, after_waiting, locals_of, calls_in, setting_in, meant_at, chosen_by, ahead, Goes, Turned, head_view, frame_view};
+
+use crate::frames::{Frame, Head, Machine, Now, Turn, World};
+use crate::kinds::{items_in, sized, truth_in};
+use crate::locals::{local, variable};
+use crate::matching::matches;
+use crate::operations::operate;
+use crate::refusals::NoValue;
+use cpn_core::{Arm, EvalFault, Expr, Value, Values};
+use std::collections::VecDeque;
+use std::mem;
+
+impl<'w> Machine<'w> {
+    /// Does what is at hand.
+    pub fn turn(&mut self, world: &World<'w>, now: Now<'w>) -> Result<Turn<'w>, NoValue>
+        requires { world.now.time ≤ last_time }
+        ensures { Turned world.now self.new result (ahead world.now self.old now.entry) }
+    {
+        match now {
+            Now::Open(expr) => Ok(Turn::On(self.open(world, expr)?)),
+            Now::Given(value) => match self.frames.pop() {
+                None => Ok(Turn::End(value)),
+                Some(frame) => match self.go_on(world, frame, value) {
+                    Ok(next) => Ok(Turn::On(next)),
+                    Err(reason) => Err(reason),
+                },
+            },
+        }
+    }
+
+    /// Begins an inscription.
+    fn open(&mut self, world: &World<'w>, expr: &'w Expr) -> Result<Now<'w>, NoValue>
+        requires { world.now.time ≤ last_time }
+        ensures { Goes world.now self.new result (after_outcome world.now self.old (meant_at world.now self.old.visible (locals_of self.old) (expr_view expr.now))) }
+    {
+        match expr {
+            Expr::Lit(value) => Ok(Now::Given(value.copy()?)),
+            Expr::Var(number) => Ok(Now::Given(variable(world.binding, *number)?)),
+            Expr::Local(number) => Ok(Now::Given(local(&self.locals, *number)?)),
+            Expr::Time => Ok(Now::Given(Value::Int(world.time as i64))),
+            Expr::Op(op, parts) => self.parts(world, Head::Op(*op), Vec::new(self.alloc), parts),
+            Expr::Tuple(parts) => self.parts(world, Head::Tuple, Vec::new(self.alloc), parts),
+            Expr::List(parts) => self.parts(world, Head::List, Vec::new(self.alloc), parts),
+            Expr::Call(function, parts) => {
+                self.parts(world, Head::Call(*function), Vec::new(self.alloc), parts)
+            }
+            Expr::Con(position, argument) => match argument {
+                None => Ok(Now::Given(Value::Con(*position, None))),
+                Some(inner) => self.wait(world, Frame::Argument(*position), inner),
+            },
+            Expr::And(first, second) => self.wait(world, Frame::Also(second), first),
+            Expr::Or(first, second) => self.wait(world, Frame::Otherwise(second), first),
+            Expr::If(condition, yes, no) => self.wait(world, Frame::Branches(yes, no), condition),
+            Expr::Case(subject, arms) => self.wait(world, Frame::Arms(arms), subject),
+            Expr::Let(bound, body) => self.wait(world, Frame::Body(body), bound),
+            Expr::Fold { list, start, body } => self.wait(world, Frame::Start(start, body), list),
+        }
+    }
+
+    /// Begins an inscription whose value a frame waits for.
+    fn wait(
+        &mut self,
+        world: &World<'w>,
+        frame: Frame<'w>,
+        expr: &'w Expr,
+    ) -> Result<Now<'w>, NoValue>
+        ensures { Goes world.now self.new result (after_waiting world.now self.old (frame_view frame.entry) (meant_at world.now self.old.visible (locals_of self.old) (expr_view expr.now))) }
+    {
+        self.frames.push(frame)?;
+        Ok(Now::Open(expr))
+    }
+
+    /// Begins the first of the parts that are left, or does what their head does.
+    fn parts(
+        &mut self,
+        world: &World<'w>,
+        head: Head,
+        done: Values,
+        rest: &'w [Expr],
+    ) -> Result<Now<'w>, NoValue>
+        ensures { Goes world.now self.new result (after_outcome world.now self.old (rest_of world.now self.old.visible (locals_of self.old) (head_view head) (map value_view done.items) (exprs_view rest.now))) }
+    {
+        match rest {
+            [] => self.finish(world, head, done),
+            [next, rest @ ..] => self.wait(world, Frame::Parts(head, done, rest), next),
+        }
+    }
+
+    /// Does what the head does with the values of all its parts.
+    fn finish(&mut self, world: &World<'w>, head: Head, done: Values) -> Result<Now<'w>, NoValue>
+        ensures { Goes world.now self.new result (after_outcome world.now self.old (done_with (head_view head) (calls_in world.now self.old.visible) (map value_view done.items))) }
+    {
+        match head {
+            Head::Op(op) => Ok(Now::Given(operate(op, done)?)),
+            Head::Tuple => Ok(Now::Given(sized(Value::Tuple(done))?)),
+            Head::List => Ok(Now::Given(sized(Value::List(done))?)),
+            Head::Call(function) => self.enter(world, function as usize, done),
+        }
+    }
+
+    /// Begins the body of a function.
+    fn enter(
+        &mut self,
+        world: &World<'w>,
+        function: usize,
+        arguments: Values,
+    ) -> Result<Now<'w>, NoValue>
+        ensures { Goes world.now self.new result (after_outcome world.now self.old (calls_in world.now self.old.visible function (map value_view arguments.items))) }
+    {
+        if function >= self.visible {
+            return Err(NoValue::Untyped);
+        }
+        match world.funs.functions.get(function) {
+            None => Err(NoValue::Untyped),
+            Some(called) => {
+                if arguments.len() != called.parameters as usize {
+                    return Err(NoValue::Untyped);
+                }
+                let locals = mem::replace(&mut self.locals, arguments);
+                self.frames.push(Frame::Caller(self.visible, locals))?;
+                self.visible = function;
+                Ok(Now::Open(&called.body))
+            }
+        }
+    }
+
+    /// Does what a frame does with the value that it waits for.
+    fn go_on(
+        &mut self,
+        world: &World<'w>,
+        frame: Frame<'w>,
+        value: Value,
+    ) -> Result<Now<'w>, NoValue>
+        ensures { Goes world.now self.new result (after_frame world.now self.old (frame_view frame.entry) (value_view value)) }
+    {
+        match frame {
+            Frame::Parts(head, done, rest) => {
+                let mut done = done;
+                done.push(value)?;
+                self.parts(world, head, done, rest)
+            }
+            Frame::Argument(position) => {
+                let argument = Box::new(self.alloc, value)?;
+                Ok(Now::Given(sized(Value::Con(position, Some(argument)))?))
+            }
+            Frame::Also(second) => {
+                if truth_in(&value)? {
+                    Ok(Now::Open(second))
+                } else {
+                    Ok(Now::Given(Value::Bool(false)))
+                }
+            }
+            Frame::Otherwise(second) => {
+                if truth_in(&value)? {
+                    Ok(Now::Given(Value::Bool(true)))
+                } else {
+                    Ok(Now::Open(second))
+                }
+            }
+            Frame::Branches(yes, no) => {
+                if truth_in(&value)? {
+                    Ok(Now::Open(yes))
+                } else {
+                    Ok(Now::Open(no))
+                }
+            }
+            Frame::Body(body) => self.go_into(world, body, value),
+            Frame::Forget(count) => {
+                self.locals.truncate(count);
+                Ok(Now::Given(value))
+            }
+            Frame::Arms(arms) => self.choose(world, arms, &value),
+            Frame::Start(start, body) => {
+                let items = VecDeque::from(items_in(value)?);
+                self.wait(world, Frame::Items(items, body), start)
+            }
+            Frame::Items(items, body) => self.step(world, items, body, value),
+            Frame::Caller(visible, locals) => {
+                self.visible = visible;
+                self.locals = locals;
+                Ok(Now::Given(value))
+            }
+        }
+    }
+
+    /// Begins a body that has the value as its next local.
+    fn go_into(
+        &mut self,
+        world: &World<'w>,
+        body: &'w Expr,
+        value: Value,
+    ) -> Result<Now<'w>, NoValue>
+        ensures { Goes world.now self.new result (after_outcome world.now self.old (meant_at world.now self.old.visible (locals_of self.old ++ value_view value ∷ []) (expr_view body.now))) }
+    {
+        let count = self.locals.len();
+        self.locals.push(value)?;
+        self.frames.push(Frame::Forget(count))?;
+        Ok(Now::Open(body))
+    }
+
+    /// Begins the first arm that matches.
+    fn choose(
+        &mut self,
+        world: &World<'w>,
+        arms: &'w [Arm],
+        value: &Value,
+    ) -> Result<Now<'w>, NoValue>
+        ensures { Goes world.now self.new result (after_outcome world.now self.old (meant_among (arms_from (map arm_view arms.now)) (value_view value.now) (setting_in world.now self.old.visible) (locals_of self.old))) }
+    {
+        for arm in arms {
+            let mut bound = Vec::new(self.alloc);
+            if matches(&arm.pat, value, &mut bound)? {
+                self.frames.push(Frame::Forget(self.locals.len()))?;
+                self.locals.append(&mut bound)?;
+                return Ok(Now::Open(&arm.result));
+            }
+        }
+        Err(NoValue::Fault(EvalFault::NoCase))
+    }
+
+    /// Begins the body of a fold for the next item, or ends the fold.
+    fn step(
+        &mut self,
+        world: &World<'w>,
+        items: VecDeque<Value>,
+        body: &'w Expr,
+        value: Value,
+    ) -> Result<Now<'w>, NoValue>
+        ensures { Goes world.now self.new result (after_outcome world.now self.old (folded world.now self.old.visible (locals_of self.old) (expr_view body.now) (map value_view items.items) (value_view value))) }
+    {
+        let mut items = items;
+        match items.pop_front() {
+            None => Ok(Now::Given(value)),
+            Some(item) => {
+                let count = self.locals.len();
+                self.locals.push(item)?;
+                self.locals.push(value)?;
+                self.frames.push(Frame::Items(items, body))?;
+                self.frames.push(Frame::Forget(count))?;
+                Ok(Now::Open(body))
+            }
+        }
+    }
+}

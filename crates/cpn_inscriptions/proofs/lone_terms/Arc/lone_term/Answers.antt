@@ -1,6 +1,0 @@
--- A lone term is the definition's.
-use Rattle.cpn_inscriptions.proofs.TokenLevels.{tokens_times}
-use Rattle.cpn_inscriptions.proofs.lone_terms.Arc.lone_term.Goals as goal
-
-pub returns-in-Times-clause-terms : goal.returns-in-Times-clause-terms
-returns-in-Times-clause-terms c = rw (c.in-Times.is, tokens_times c.in-Times.coefficient c.in-Times.value) c.times.ensures.terms

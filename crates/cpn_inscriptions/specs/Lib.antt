@@ -1,5 +1,0 @@
-pub mod Inscriptions
-pub mod Answers
-pub mod Operands
-pub mod Frames
-pub mod Terms
