@@ -37,3 +37,4 @@ pub mod Patterns
 pub mod TokenCounts
 pub mod OwnVariables
 pub mod FewerItems
+pub mod SoundElements

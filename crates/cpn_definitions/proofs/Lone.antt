@@ -1,12 +1,12 @@
 -- A variable that stands alone on an input arc is bindable.
-use Rattle.std.proofs.Common.{◌≡◌, ℕ, ◌==◌, Bool, true, false, List, [], ◌∷◌, refl, sym, ap, subst, inl, arith, Contains}
-use Rattle.std.specs.List.{list_all, list_any, AllByRecursion}
+use Rattle.std.proofs.Common.{◌≡◌, ℕ, ◌==◌, true, [], ◌∷◌, refl, sym, ap, subst, inl, arith, Contains}
+use Rattle.std.specs.List.{list_all}
 use Rattle.std.proofs.lemmas.Bool.Decides.{nat_tests}
 use Rattle.cpn_definitions.specs.Inscription.{literal, variable, local, the_time, apply, conjunction, disjunction, choose, select, bind, accumulate, variable_pattern, ArcInscription, no_token, one, times, sum_of, later, stamped, chosen, selected, bound}
-use Rattle.cpn_definitions.specs.Net.{BindingTerm, PlainArc, PlainTransition, PlainNet, no_transition, transition_at}
-use Rattle.cpn_definitions.specs.Bindable.{binding_terms, pattern_variables, IsInTerm, IsBindable, by_term}
+use Rattle.cpn_definitions.specs.Net.{BindingTerm, PlainArc, PlainTransition, PlainNet}
+use Rattle.cpn_definitions.specs.Bindable.{binding_terms, IsBindable, by_term}
 use Rattle.cpn_definitions.specs.Lone.{is_variable, stands_alone}
-use Rattle.cpn_definitions.proofs.RisingLists.{IsIn, contains_from_in, in_from_contains, one_that_passes, passes_at}
+use Rattle.cpn_definitions.proofs.RisingLists.{contains_from_in, in_from_contains, one_that_passes, passes_at}
 
 number_same : (x y : ℕ) → (x == y) ≡ true → x ≡ y
 number_same x y h = grind (arith, nat_tests)

@@ -1,6 +1,6 @@
--- What follows from an outcome that gives a value.
+-- What follows from an outcome that gives a value, and from one that has a meaning.
 use Rattle.std.proofs.Common.{◌≡◌, Bool, true, refl, ap, ◌∙◌}
-use Rattle.cpn_definitions.specs.Outcome.{Outcome, gives, faults, no_meaning, ◌>>=◌, gives_and}
+use Rattle.cpn_definitions.specs.Outcome.{Fault, Outcome, gives, faults, no_meaning, HasMeaning, ◌>>=◌, gives_and}
 use Rattle.cpn_definitions.specs.Sound.{Gives}
 
 -- two values that are given are the same
@@ -22,3 +22,25 @@ gives_and_parts no_meaning test h = cc
 -- where an outcome gives, and what follows gives at each value, both together give
 pub gives_then : {A B : Type 0} (o : Outcome A) (f : A → Outcome B) → Gives o → ((x : A) → Gives (f x)) → Gives (o >>= f)
 gives_then o f first second = let next = second first.0 in (next.0, ap (λ p. p >>= f) first.1 ∙ next.1)
+
+-- ---- meanings
+
+-- a value is a meaning, and so is a fault
+pub value_means : {A : Type 0} (x : A) → HasMeaning (gives x)
+value_means x none = cc
+
+pub fault_means : (A : Type 0) (fault : Fault) → HasMeaning {A = A} (faults fault)
+fault_means A fault none = cc
+
+-- where an outcome has a meaning, and what follows has one at each value, both together have one
+pub then_means : {A B : Type 0} (o : Outcome A) (f : A → Outcome B) → HasMeaning o → ((x : A) → HasMeaning (f x)) → HasMeaning (o >>= f)
+then_means (gives x) f first second = second x
+then_means {A} {B} (faults fault) f first second = fault_means B fault
+then_means no_meaning f first second = absurd (first refl)
+
+-- what has a meaning has one for its first part, and for its second part at the value of the first
+pub first_means : {A B : Type 0} (o : Outcome A) (f : A → Outcome B) → HasMeaning (o >>= f) → HasMeaning o
+first_means o f means none = means (ap (λ p. p >>= f) none)
+
+pub second_means : {A B : Type 0} (o : Outcome A) (f : A → Outcome B) (x : A) → o ≡ gives x → HasMeaning (o >>= f) → HasMeaning (f x)
+second_means o f x is means none = means (ap (λ p. p >>= f) is ∙ none)

@@ -1,22 +1,17 @@
--- What an inscription means depends on the values of its own variables alone, where no function reads one.
+-- What an inscription means depends on the values of its own variables alone, where the functions are closed.
 use Rattle.std.proofs.Common.{◌≡◌, ℕ, zero, suc, ◌==◌, Bool, true, false, cond, List, [], ◌∷◌, ◌++◌, length, slice_get, Option, Some, None, refl, ap, ◌∙◌, subst, inl, pos}
-use Rattle.std.specs.List.{AllByRecursion}
 use Rattle.cpn_definitions.specs.Value.{PlainValue, boolean, int}
 use Rattle.cpn_definitions.specs.Outcome.{Outcome, gives, faults, no_meaning, ◌>>=◌, given}
 use Rattle.cpn_definitions.specs.Inscription.{Head, operation, tupling, listing, constructing, calling, PlainExpr, literal, variable, local, the_time, apply, conjunction, disjunction, choose, select, bind, accumulate, PlainExprs, no_exprs, more_exprs, PlainArms, no_arms, more_arms, PlainFunction, Functions}
 use Rattle.cpn_definitions.specs.Matching.{matched}
 use Rattle.cpn_definitions.specs.Operations.{truth_in, items_in}
 use Rattle.cpn_definitions.specs.Meaning.{PlainBinding, bound_value, Calls, Setting, done_with, with_first, arm_or, accumulated, meant, meant_each, meant_among, called, calls_below, setting_below, meaning}
-use Rattle.cpn_definitions.specs.Bindable.{variables_of, variables_of_each, variables_of_arms}
+use Rattle.cpn_definitions.specs.Bindable.{variables_of, variables_of_each, variables_of_arms, AreClosed}
 use Rattle.cpn_definitions.proofs.RisingLists.{IsIn, in_append_left, in_append_right}
 
 -- two bindings agree on variables
 abbrev pub Agree : PlainBinding → PlainBinding → List ℕ → Type 0
 Agree b c xs = (x : ℕ) → IsIn x xs → bound_value x b ≡ bound_value x c
-
--- no function reads a variable
-abbrev pub AreClosed : Functions → Type 0
-AreClosed funs = AllByRecursion (λ f. variables_of f.body ≡ []) funs
 
 abbrev SameCalls : Calls → Calls → Type 0
 SameCalls calls others = (k : ℕ) (vs : List PlainValue) → calls k vs ≡ others k vs

@@ -1,12 +1,13 @@
 -- Which variables of a transition can be found from tokens, from its guard, or by trying all values: those that are
 -- bindable. Source: our own profile of CPN ML.
 use Rattle.std.specs.Prelude.{◌≡◌, ◌⊎◌, ◌↔◌, ℕ, suc, pos, ◌≤◌, true, List, [], ◌∷◌, ◌++◌, length, Option, Some, None, Contains}
+use Rattle.std.specs.List.{AllByRecursion}
 use Rattle.std.specs.Option.{option_map, option_and_then}
 use Rattle.cpn_definitions.specs.Value.{PlainValue, int}
 use Rattle.cpn_definitions.specs.Order.{value_cmp}
 use Rattle.cpn_definitions.specs.Colour.{PlainColour, admits}
 use Rattle.cpn_definitions.specs.Lists.{Rises}
-use Rattle.cpn_definitions.specs.Inscription.{operation, equality, cons, tupling, listing, constructing, PlainPattern, any_pattern, variable_pattern, literal_pattern, tuple_pattern, list_pattern, cons_pattern, bare_pattern, applied_pattern, PlainPatterns, no_patterns, more_patterns, PlainExpr, literal, variable, local, the_time, apply, conjunction, disjunction, choose, select, bind, accumulate, PlainExprs, no_exprs, more_exprs, PlainArms, no_arms, more_arms, ArcInscription, one, times, sum_of, ArcInscriptions, no_inscriptions, more_inscriptions}
+use Rattle.cpn_definitions.specs.Inscription.{operation, equality, cons, tupling, listing, constructing, PlainPattern, any_pattern, variable_pattern, literal_pattern, tuple_pattern, list_pattern, cons_pattern, bare_pattern, applied_pattern, PlainPatterns, no_patterns, more_patterns, PlainExpr, literal, variable, local, the_time, apply, conjunction, disjunction, choose, select, bind, accumulate, PlainExprs, no_exprs, more_exprs, PlainArms, no_arms, more_arms, ArcInscription, one, times, sum_of, ArcInscriptions, no_inscriptions, more_inscriptions, Functions}
 use Rattle.cpn_definitions.specs.Net.{BindingTerm, PlainArc, PlainTransition, PlainNet, variable_at}
 
 -- ---- binding terms
@@ -108,6 +109,10 @@ abbrev mutual
   pub variables_of_arms : PlainArms → List ℕ
   variables_of_arms no_arms = []
   variables_of_arms (more_arms p e arms) = variables_of e ++ variables_of_arms arms
+
+-- Closed: no body of a function has a variable, so that a call means the same under each binding.
+abbrev pub AreClosed : Functions → Type 0
+AreClosed funs = AllByRecursion (λ f. variables_of f.body ≡ []) funs
 
 -- the conjuncts of an inscription: split where `andalso` stands at its root
 abbrev pub conjuncts_of : PlainExpr → List PlainExpr

@@ -1,7 +1,7 @@
 -- Variables that stand alone on an input arc: those whose values are found on the tokens of one place. Source: own choice.
 use Rattle.std.specs.Prelude.{◌≡◌, ℕ, ◌==◌, Bool, true, false}
 use Rattle.std.specs.List.{list_all, list_any, AllByRecursion}
-use Rattle.cpn_definitions.specs.Inscription.{literal, variable, ArcInscription, one}
+use Rattle.cpn_definitions.specs.Inscription.{variable, ArcInscription, one}
 use Rattle.cpn_definitions.specs.Net.{PlainTransition, PlainNet}
 
 -- whether an inscription of an arc is one token of the value of a variable

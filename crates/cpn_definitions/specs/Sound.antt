@@ -9,7 +9,7 @@ use Rattle.cpn_definitions.specs.Outcome.{Outcome, gives, HasMeaning}
 use Rattle.cpn_definitions.specs.Net.{PlainArc, PlainTransition, Coloured, PlainNet, place_at, is_timed}
 use Rattle.cpn_definitions.specs.Meaning.{PlainBinding, meaning}
 use Rattle.cpn_definitions.specs.Terms.{terms_of}
-use Rattle.cpn_definitions.specs.Bindable.{binding_terms, IsBindable}
+use Rattle.cpn_definitions.specs.Bindable.{binding_terms, AreClosed, IsBindable}
 use Rattle.cpn_definitions.specs.Occurrence.{PlainElement, binds, covered, transition_delay, outputs_of}
 use Rattle.cpn_definitions.specs.Times.{last_time}
 
@@ -37,9 +37,11 @@ pub record IsSoundTransition (n : PlainNet) (t : PlainTransition) : Type 0 where
   pub inputs_sound : AllByRecursion (IsSoundInput n t) t.inputs
   pub outputs_sound : AllByRecursion (IsSoundArc n t) t.outputs
 
--- Sound: each transition is sound; and places, transitions and variables each have a number of 32 bits.
+-- Sound: each transition is sound; the functions are closed; and places, transitions and variables each have a number of
+-- 32 bits.
 pub record IsSound (n : PlainNet) : Type 0 where
   pub transitions_sound : AllByRecursion (IsSoundTransition n) n.transitions
+  pub functions_closed : AreClosed n.functions
   pub few_places : length n.places < 2 ^ 32
   pub few_transitions : length n.transitions < 2 ^ 32
   pub few_variables : length n.variables < 2 ^ 32
