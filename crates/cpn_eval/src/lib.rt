@@ -13,11 +13,13 @@ mod locals;
 mod lone_terms;
 mod machine;
 mod matching;
+mod multisets;
 mod operations;
 mod refusals;
 mod running;
 mod term;
 
+pub use multisets::eval_mset;
 pub use refusals::Refused;
 pub use running::eval;
-pub use term::Term;
+pub use term::{Term, Terms};

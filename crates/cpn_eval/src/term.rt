@@ -16,3 +16,6 @@ pub struct Term {
     pub delay: u64,
     ghost within_range: { delay ≤ last_time },
 }
+
+/// Several terms, one after another.
+pub type Terms = Vec<Term>;
