@@ -5,15 +5,8 @@ use Rattle.cpn_definitions.specs.Net.{PlainArc}
 use Rattle.cpn_definitions.specs.Outcome.{Outcome, gives, faults, no_meaning, Fault, HasMeaning, ◌>>=◌}
 use Rattle.cpn_definitions.specs.Terms.{PlainTerm}
 use Rattle.cpn_definitions.specs.Occurrence.{gather}
+use Rattle.cpn_definitions.proofs.Outcomes.{first_means}
 use Rattle.cpn_elements.specs.Summed.{and_these, tokens_of}
-
--- what has a meaning has one for its first part
-pub first_means : {A B : Type 0} (o : Outcome A) (f : A → Outcome B) → HasMeaning (o >>= f) → HasMeaning o
-first_means o f means none = means (ap (λ p. p >>= f) none)
-
--- and for its second part, at the value of the first
-pub second_means : {A B : Type 0} (o : Outcome A) (f : A → Outcome B) (x : A) → o ≡ gives x → HasMeaning (o >>= f) → HasMeaning (f x)
-second_means o f x is means none = means (ap (λ p. p >>= f) is ∙ none)
 
 pub with_items_append : {X : Type 0} (c : X → X → Ordering) (xs ys zs : List X) → with_items c (xs ++ ys) zs ≡ with_items c ys (with_items c xs zs)
 with_items_append c [] ys zs = refl

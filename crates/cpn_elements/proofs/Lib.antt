@@ -1,2 +1,3 @@
 pub mod GatheredTerms
+pub mod ItemsLeft
 pub mod WorkedMeanings

@@ -1,34 +1,21 @@
 -- What is asked of the transition of the tests has a meaning.
-use Rattle.std.proofs.Common.{ℕ, ℤ, pos, negsuc, ◌+◌, Bool, true, false, nat_le, List, [], ◌∷◌, Option, replicate, refl, sym, subst}
-use Rattle.std.specs.List.{AllByRecursion, flat_map}
+use Rattle.std.proofs.Common.{ℕ, ℤ, pos, negsuc, ◌+◌, Bool, true, false, nat_le, List, Option, replicate, sym, subst}
+use Rattle.std.specs.List.{flat_map}
 use Rattle.std.proofs.lemmas.Bool.{cond_both}
 use Rattle.cpn_definitions.specs.Value.{PlainValue, int, boolean}
 use Rattle.cpn_definitions.specs.Colour.{PlainColour, admits}
 use Rattle.cpn_definitions.specs.Inscription.{PlainExpr, literal, variable, one, Functions}
 use Rattle.cpn_definitions.specs.Net.{PlainArc, PlainTransition, PlainNet, transition_at}
-use Rattle.cpn_definitions.specs.Outcome.{Outcome, gives, faults, no_meaning, Fault, HasMeaning, ◌>>=◌, not_in_colour, bad_delay, given}
+use Rattle.cpn_definitions.specs.Outcome.{gives, faults, HasMeaning, ◌>>=◌, not_in_colour, bad_delay, given}
 use Rattle.cpn_definitions.specs.Meaning.{PlainBinding, bound_value, meaning}
 use Rattle.cpn_definitions.specs.Terms.{in_colour, PlainTerm, terms_of, delay_of}
 use Rattle.cpn_definitions.specs.Occurrence.{gather, needed_by, needs_of, transition_delay, stamp_on, made_by, outputs_of}
 use Rattle.cpn_definitions.specs.Times.{last_time}
+use Rattle.cpn_definitions.proofs.Outcomes.{value_means, fault_means, then_means}
+use Rattle.cpn_definitions.proofs.SoundElements.{gather_means}
 use Rattle.cpn_definitions.proofs.Terms.{one_token}
 use Rattle.cpn_elements.specs.Guards.{GuardHasMeaning}
 use Rattle.cpn_elements.specs.Worked.{IsWorked, IsFive, digits, plain_arc, worked_inputs, worked_outputs}
-
-value_means : {A : Type 0} (x : A) → HasMeaning (gives x)
-value_means x none = cc
-
-fault_means : (A : Type 0) (fault : Fault) → HasMeaning {A = A} (faults fault)
-fault_means A fault none = cc
-
-then_means : {A B : Type 0} (o : Outcome A) (f : A → Outcome B) → HasMeaning o → ((x : A) → HasMeaning (f x)) → HasMeaning (o >>= f)
-then_means (gives x) f first second = second x
-then_means {A} {B} (faults fault) f first second = fault_means B fault
-then_means no_meaning f first second = absurd (first refl)
-
-gather_means : {A : Type 0} (f : PlainArc → Outcome (List A)) (arcs : List PlainArc) → AllByRecursion (λ arc. HasMeaning (f arc)) arcs → HasMeaning (gather f arcs)
-gather_means f [] all = value_means []
-gather_means f (arc ∷ arcs) all = then_means (f arc) _ all.0 (λ xs. then_means (gather f arcs) _ (gather_means f arcs all.1) (λ ys. value_means _))
 
 in_colour_means : (colour : PlainColour) (v : PlainValue) → HasMeaning (in_colour colour v)
 in_colour_means colour v = cond_both (admits colour v) (gives v) (faults not_in_colour) HasMeaning (λ _. value_means v) (λ _. fault_means PlainValue not_in_colour)

@@ -1,8 +1,5 @@
-pub mod Answers
 pub mod Guards
-pub mod Terms
 pub mod Summed
 pub mod Needs
 pub mod Outputs
-pub mod Delays
 pub mod Worked

@@ -1,23 +1,17 @@
-//! What the inscriptions of a net mean under a binding: values, guards, the tokens that an element needs and
+//! What the inscriptions of a transition mean under a binding: whether its guard holds, the tokens that an element needs and
 //! the tokens that it makes, or the fault of an inscription that has no value.
 //!
 //! The crate reads nets and bindings. It knows nothing of markings, of what is enabled, or of runs.
 #![tactic(auto)]
 
-mod meanings;
+mod guards;
 mod needs;
 mod outputs;
 mod places;
-mod refused;
-mod term;
-mod terms;
 #[cfg(test)]
 mod tests;
 
-pub use meanings::{guard_holds, value_of};
+pub use guards::guard_holds;
 pub use needs::needs_of;
 pub use outputs::outputs_of;
 pub use places::is_timed;
-pub use refused::Refused;
-pub use term::Term;
-pub use terms::terms_of;

@@ -6,15 +6,13 @@ ghost use Rattle.cpn_definitions.specs.Outcome.{HasMeaning};
 ghost use Rattle.cpn_definitions.specs.Occurrence.{gather, needed_cmp, needed_by, needs_of};
 ghost use Rattle.cpn_core.specs.Inscriptions.{funs_view};
 ghost use Rattle.cpn_core.specs.Nets.{arc_view, arcs_view, net_view};
-ghost use Rattle.cpn_elements.specs.Answers.{Answers};
-ghost use Rattle.cpn_elements.specs.Terms.{term_view, terms_view};
+ghost use Rattle.cpn_eval.specs.Answers.{Answers};
+ghost use Rattle.cpn_eval.specs.Terms.{term_view, terms_view};
 ghost use Rattle.cpn_elements.specs.Summed.{and_these, tokens_of};
 ghost use Rattle.cpn_elements.specs.Needs.{needed_of};
 
-use crate::refused::Refused;
-use crate::term::Term;
-use crate::terms::terms_of;
 use cpn_core::{Binding, Funs, Memory, Needed, Needs, Net, PlaceArc};
+use cpn_eval::{Refused, Term, eval_mset};
 use std::alloc::Global;
 
 /// The tokens that the input arcs of the transition need under the binding, summed over the arcs;
@@ -65,7 +63,7 @@ fn add_needs(
     requires meaning { HasMeaning (needed_by (funs_view funs.now) binding.now (arc_view arc.now)) }
     ensures added { Answers (λ _. needs.new) result (and_these needed_cmp needs.old (needed_by (funs_view funs.now) binding.now (arc_view arc.now))) }
 {
-    let terms = terms_of(alloc, funs, &arc.inscription, binding, 0)?;
+    let terms = eval_mset(alloc, funs, &arc.inscription, binding, 0)?;
     for term in terms {
         add_needed(needs, arc.place, term)?;
     }

@@ -10,21 +10,16 @@ ghost use Rattle.cpn_core.specs.Elements.{element_view};
 ghost use Rattle.cpn_core.specs.Inscriptions.{expr_view, funs_view};
 ghost use Rattle.cpn_core.specs.Nets.{arc_view, arcs_view, net_view};
 ghost use Rattle.cpn_core.specs.Views.{value_view};
-ghost use Rattle.cpn_core.specs.Faults.{fault_view};
-ghost use Rattle.cpn_elements.specs.Answers.{Answers};
-ghost use Rattle.cpn_elements.specs.Delays.{DelayAnswers};
-ghost use Rattle.cpn_elements.specs.Terms.{term_view};
+ghost use Rattle.cpn_eval.specs.Answers.{Answers};
+ghost use Rattle.cpn_eval.specs.Terms.{term_view};
 ghost use Rattle.cpn_elements.specs.Summed.{and_these};
 ghost use Rattle.cpn_elements.specs.Outputs.{made_of};
 
-use crate::meanings::value_of;
 use crate::places::is_timed;
-use crate::refused::Refused;
-use crate::term::Term;
-use crate::terms::terms_of;
 use cpn_core::{
     Binding, Element, EvalFault, Expr, Funs, Made, Memory, Net, Outputs, PlaceArc, Value,
 };
+use cpn_eval::{Refused, Term, eval, eval_mset};
 use std::alloc::Global;
 
 /// The tokens that the element makes when it occurs at the time, summed over the output arcs;
@@ -47,7 +42,7 @@ pub fn outputs_of(
         None => Ok(Outputs::new(alloc)),
         Some(transition) => {
             let binding = &element.binding;
-            let delay = transition_delay(&net.funs, &transition.delay, binding, time)?;
+            let delay = transition_delay(alloc, &net.funs, &transition.delay, binding, time)?;
             outputs_among(alloc, net, &transition.outputs, binding, time, delay)
         }
     }
@@ -55,11 +50,13 @@ pub fn outputs_of(
 
 // The delay of a transition under the binding at the time; a missing one is 0.
 fn transition_delay(
+    alloc: Global,
     funs: &Funs,
     delay: &Option<Expr>,
     binding: &Binding,
     time: u64,
 ) -> Result<u64, Refused>
+    requires time { time ≤ last_time }
     requires meaning { HasMeaning (transition_delay (funs_view funs.now) (option_map expr_view delay.now) binding.now time) }
     ensures delay { Answers (λ delay. delay) result (transition_delay (funs_view funs.now) (option_map expr_view delay.now) binding.now time) }
     ensures bound { IfOk result (λ delay. delay ≤ last_time) }
@@ -67,7 +64,7 @@ fn transition_delay(
     match delay {
         None => Ok(0),
         Some(expr) => {
-            let value = value_of(funs, expr, binding, time)?;
+            let value = eval(alloc, funs, expr, binding, time)?;
             let delay = delay_of(&value)?;
             Ok(delay)
         }
@@ -75,16 +72,16 @@ fn transition_delay(
 }
 
 // The delay that the value is: a whole number from 0 to 2^62.
-fn delay_of(value: &Value) -> Result<u64, EvalFault>
+fn delay_of(value: &Value) -> Result<u64, Refused>
     requires meaning { HasMeaning (delay_of (value_view value.now)) }
-    ensures delay { DelayAnswers result (delay_of (value_view value.now)) }
+    ensures delay { Answers (λ delay. delay) result (delay_of (value_view value.now)) }
     ensures bound { IfOk result (λ delay. delay ≤ last_time) }
 {
     let Value::Int(number) = value else {
         unreachable!()
     };
     if *number < 0 || *number > 1 << 62 {
-        return Err(EvalFault::BadDelay);
+        return Err(Refused::Fault(EvalFault::BadDelay));
     }
     Ok(*number as u64)
 }
@@ -124,7 +121,7 @@ fn add_outputs(
     requires meaning { HasMeaning (made_by (net_view net.now) binding.now time delay (arc_view arc.now)) }
     ensures added { Answers (λ _. outputs.new) result (and_these made_cmp outputs.old (made_by (net_view net.now) binding.now time delay (arc_view arc.now))) }
 {
-    let terms = terms_of(alloc, &net.funs, &arc.inscription, binding, time)?;
+    let terms = eval_mset(alloc, &net.funs, &arc.inscription, binding, time)?;
     for term in terms {
         let stamp = stamp_from(net, arc.place, time + delay, term.delay);
         add_made(outputs, arc.place, term, stamp)?;

@@ -12,6 +12,7 @@ use cpn_core::{
     ArcExpr, Binding, Colour, Element, Expr, Funs, Guard, MExpr, Memory, Needs, Net, Outputs,
     Place, PlaceArc, Shape, Transition, Value,
 };
+use cpn_eval::Refused;
 use std::alloc::Global;
 use std::sync::Arc;
 use std::test::Fail;
@@ -158,7 +159,8 @@ fn told(alloc: Global, net: &Net, values: [i64; 4], truth: bool) -> Result<Strin
     let binding = binding(alloc, values, truth)?;
     let mut text = String::new(alloc);
     if let Some(transition) = net.transitions.first() {
-        write!(text, "{}", guard_holds(net, transition, &binding))?;
+        let holds = guard_holds(alloc, net, transition, &binding)?;
+        write!(text, "{holds}")?;
     }
     push_needs(&mut text, needs_of(alloc, net, 0, &binding))?;
     let element = Element {

@@ -11,11 +11,21 @@ use thiserror::Error;
 #[derive(Clone, Copy, Debug, PartialEq, Eq, Error)]
 pub enum Refused {
     /// The inscription's meaning is a fault.
-    #[error("a fault of an inscription")]
+    #[error("a fault: {0:?}")]
     Fault(EvalFault),
     /// Want of memory.
     #[error("want of memory")]
     Memory,
+}
+
+impl From<NoMemory> for Refused {
+    ghost use Rattle.cpn_eval.specs.declared.refusals.Refused.TheVariants as refused;
+
+    ghost from_gives = { λ _ e. e ≡ refused.Memory };
+
+    fn from(_error: NoMemory) -> Refused {
+        Refused::Memory
+    }
 }
 
 /// Why an inscription, typed or not, has no value.

@@ -3,7 +3,7 @@ use Rattle.std.proofs.Common.{length, sym, ap, ◌∙◌, arith}
 use Rattle.std.specs.Vec.Iter.{into_iter_items}
 use Rattle.cpn_definitions.specs.Lists.{with_items}
 use Rattle.cpn_definitions.specs.Occurrence.{needed_cmp}
-use Rattle.cpn_elements.specs.Terms.{term_view, terms_view}
+use Rattle.cpn_eval.specs.Terms.{term_view, terms_view}
 use Rattle.cpn_elements.specs.Summed.{tokens_of}
 use Rattle.cpn_elements.specs.Needs.{needed_of}
 use Rattle.cpn_elements.proofs.GatheredTerms.{term_more}

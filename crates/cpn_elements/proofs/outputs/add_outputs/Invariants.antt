@@ -5,7 +5,7 @@ use Rattle.cpn_definitions.specs.Lists.{with_items}
 use Rattle.cpn_definitions.specs.Terms.{PlainTerm}
 use Rattle.cpn_definitions.specs.Occurrence.{made_cmp, stamp_on}
 use Rattle.cpn_core.specs.Nets.{net_view}
-use Rattle.cpn_elements.specs.Terms.{terms_view}
+use Rattle.cpn_eval.specs.Terms.{terms_view}
 use Rattle.cpn_elements.specs.Summed.{tokens_of}
 use Rattle.cpn_elements.specs.Outputs.{made_of}
 use Rattle.cpn_elements.proofs.outputs.add_outputs.Given as goal

@@ -4,7 +4,7 @@ use Rattle.cpn_definitions.specs.Occurrence.{guard_holds}
 use Rattle.cpn_core.specs.Inscriptions.{expr_view}
 use Rattle.cpn_core.specs.Nets.{net_view}
 use Rattle.cpn_elements.specs.Guards.{GuardHasMeaning}
-use Rattle.cpn_elements.proofs.meanings.guard_holds.Given as goal
+use Rattle.cpn_elements.proofs.guards.guard_holds.Given as goal
 
 abbrev pub invariant-loop-conjunct : goal.invariant-loop-conjunct
 invariant-loop-conjunct l = record {
