@@ -39,6 +39,7 @@ burst_sound name = record {
 is_sound : IsSound worked
 is_sound = record {
   transitions_sound = (move_sound _, (burst_sound _, tt));
+  functions_closed = tt;
   few_places = omega arith;
   few_transitions = omega arith;
   few_variables = omega arith;

@@ -15,7 +15,8 @@ ghost use Rattle.cpn_book.specs.Progress.{IsRunning, HasEnded};
 use crate::outlooks::ready_count;
 use crate::run_progress::Progress;
 use cpn_core::{Element, Entry, Memory, Needs, Net};
-use cpn_elements::{Refused, needs_of, outputs_of};
+use cpn_elements::{needs_of, outputs_of};
+use cpn_eval::Refused;
 use cpn_runs::{End, Event, Occurrence, Setup};
 use std::alloc::Global;
 

@@ -1,13 +1,13 @@
 -- Completeness: each binding with which a sound transition is covered at some time is among the assignments of the
 -- transition.
-use Rattle.std.proofs.Common.{◌≡◌, ℕ, zero, suc, ◌==◌, true, false, ◌&&◌, nat_lt, List, [], ◌∷◌, length, slice_index_or, Some, refl, sym, ap, ◌∙◌, subst, inl, inr, arith, Contains, Less, nat_cmp}
+use Rattle.std.proofs.Common.{◌≡◌, ℕ, ◌==◌, true, false, ◌&&◌, nat_lt, List, [], ◌∷◌, length, Some, refl, sym, ap, ◌∙◌, subst, inl, inr, arith, Contains, Less, nat_cmp}
 use Rattle.std.proofs.lemmas.Bool.{and_parts}
 use Rattle.std.proofs.lemmas.Bool.Decides.{nat_tests}
 use Rattle.cpn_definitions.specs.Value.{PlainValue}
 use Rattle.cpn_definitions.specs.Colour.{admits}
 use Rattle.cpn_definitions.specs.Lists.{Rises}
 use Rattle.cpn_definitions.specs.Marking.{Marking, tokens_at}
-use Rattle.cpn_definitions.specs.Net.{PlainArc, PlainTransition, PlainNet, no_transition, variable_at, transition_at}
+use Rattle.cpn_definitions.specs.Net.{PlainArc, PlainTransition, PlainNet, variable_at, transition_at}
 use Rattle.cpn_definitions.specs.Lone.{is_variable, stands_alone, HasLoneVariables, IsFoundOnTokens}
 use Rattle.cpn_definitions.specs.Outcome.{gives_and}
 use Rattle.cpn_definitions.specs.Meaning.{PlainBinding, bound_value}
@@ -15,6 +15,7 @@ use Rattle.cpn_definitions.specs.Occurrence.{needs_of, are_covered, threshold_in
 use Rattle.cpn_definitions.specs.Sound.{IsSound, IsSoundTransition}
 use Rattle.cpn_definitions.proofs.Outcomes.{gives_and_parts}
 use Rattle.cpn_definitions.proofs.RisingLists.{IsIn, contains_from_in, passes_at, of_one_in}
+use Rattle.cpn_definitions.proofs.SoundElements.{transition_in, sound_transition}
 use Rattle.cpn_search.specs.Candidates.{has_value, candidates}
 use Rattle.cpn_search.specs.Assignments.{assignments_of}
 use Rattle.cpn_search.specs.Found.{element_of}
@@ -39,21 +40,6 @@ covered_parts n m time t b is =
     let may = and_parts (nat_lt t (length n.transitions) && binds n (transition_at n t).vars b) (guard_holds n.functions (transition_at n t).guard b) all.0 in
     let front = and_parts (nat_lt t (length n.transitions)) (binds n (transition_at n t).vars b) may.0 in
     record { in_range = front.0; binds_them = front.1; guarded = may.1; needs_covered = all.1 }
-
-transition_in : (ts : List PlainTransition) (t : ℕ) → nat_lt t (length ts) ≡ true → IsIn (slice_index_or ts t no_transition) ts
-transition_in [] t lt = absurd (below t lt)
-  where
-    below : (t : ℕ) → nat_lt t 0 ≡ true → ⊥
-    below t lt = grind (arith, nat_tests)
-transition_in (x ∷ ts) zero lt = inl refl
-transition_in (x ∷ ts) (suc t) lt = inr (transition_in ts t (shorter t (length ts) lt))
-  where
-    shorter : (t k : ℕ) → nat_lt (suc t) (suc k) ≡ true → nat_lt t k ≡ true
-    shorter t k lt = grind (arith, nat_tests)
-
--- a transition of a sound net is sound
-pub sound_transition : (n : PlainNet) (t : ℕ) → IsSound n → nat_lt t (length n.transitions) ≡ true → IsSoundTransition n (transition_at n t)
-sound_transition n t sound lt = of_one_in (IsSoundTransition n) n.transitions (transition_at n t) sound.transitions_sound (transition_in n.transitions t lt)
 
 -- the variables of a transition stand alone where those of each do
 pub lone_transition : (n : PlainNet) (t : ℕ) → IsFoundOnTokens n → nat_lt t (length n.transitions) ≡ true → HasLoneVariables (transition_at n t)

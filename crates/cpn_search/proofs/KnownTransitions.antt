@@ -10,6 +10,7 @@ use Rattle.cpn_definitions.specs.Meaning.{PlainBinding}
 use Rattle.cpn_definitions.specs.Occurrence.{binds, guard_holds, may_occur, needs_of}
 use Rattle.cpn_definitions.specs.Sound.{IsSound, IsSoundTransition, IsSoundInput, IsMarking}
 use Rattle.cpn_definitions.proofs.Markings.{marking_length}
+use Rattle.cpn_definitions.proofs.SoundElements.{sound_transition, needs_mean}
 use Rattle.cpn_core.specs.declared.nets.Net.{Net}
 use Rattle.cpn_core.specs.declared.nets.PlaceArc.{PlaceArc}
 use Rattle.cpn_core.specs.declared.nets.Transition.{Transition}
@@ -17,8 +18,7 @@ use Rattle.cpn_core.specs.Nets.{arc_view, transition_view, net_view}
 use Rattle.cpn_search.specs.Known.{IsKnown}
 use Rattle.cpn_elements.specs.Guards.{GuardHasMeaning}
 use Rattle.cpn_search.specs.Found.{element_of, IsNeverCovered}
-use Rattle.cpn_search.proofs.Completeness.{sound_transition, lone_transition}
-use Rattle.cpn_search.proofs.Needs.{needs_mean}
+use Rattle.cpn_search.proofs.Completeness.{lone_transition}
 use Rattle.cpn_search.proofs.LeastTimes.{never_by_guard}
 
 pub length_map : {A B : Type 0} (f : A → B) (xs : List A) → length (map f xs) ≡ length xs
@@ -91,7 +91,7 @@ pub needs_have_meaning
     : (n : Net) (t : ℕ) (b : PlainBinding)
     → IsSound (net_view n) → t < length n.transitions.items → binds (net_view n) (transition_at (net_view n) t).vars b ≡ true
     → HasMeaning (needs_of (net_view n) (element_of t b))
-needs_have_meaning n t b sound lt bound = needs_mean (net_view n) t b (sound_transition (net_view n) t sound (in_range n t lt)).inputs_sound bound
+needs_have_meaning n t b sound lt bound = needs_mean (net_view n) (element_of t b) sound (rw (in_range n t lt, bound) refl)
 
 -- an element of a transition of the net whose guard is true may occur
 pub may

@@ -1,8 +1,7 @@
--- The needs of an element: there are some, or a fault, where its binding binds the variables of a sound transition; each arc
--- whose inscription is a variable needs a token of the variable's value; and the value of each need that is covered stands
--- on its place.
+-- The needs of an element: each arc whose inscription is a variable needs a token of the variable's value; and the value of
+-- each need that is covered stands on its place.
 use Rattle.std.proofs.Common.{◌≡◌, ℕ, ◌==◌, Bool, true, false, cond, ◌||◌, List, [], ◌∷◌, ◌++◌, map, replicate, Some, refl, sym, ap, ◌∙◌, subst, inl, inr, arith, Ordering, nat_cmp, is_lt}
-use Rattle.std.specs.List.{filter, flat_map, AllByRecursion}
+use Rattle.std.specs.List.{filter, flat_map}
 use Rattle.std.proofs.lemmas.Bool.{cond_both}
 use Rattle.std.proofs.lemmas.Bool.Decides.{nat_tests}
 use Rattle.cpn_definitions.specs.Value.{PlainValue}
@@ -11,18 +10,17 @@ use Rattle.cpn_definitions.specs.ValueOrder.{same_value_refl}
 use Rattle.cpn_definitions.specs.Colour.{PlainColour, admits}
 use Rattle.cpn_definitions.specs.Lists.{with_item, with_items, in_order}
 use Rattle.cpn_definitions.specs.Marking.{Tokens, Marking, tokens_at, stamps, covers}
-use Rattle.cpn_definitions.specs.Inscription.{PlainExpr, literal, variable, Functions, ArcInscription, one}
-use Rattle.cpn_definitions.specs.Net.{PlainArc, PlainTransition, PlainNet, transition_at}
+use Rattle.cpn_definitions.specs.Inscription.{PlainExpr, variable, Functions, ArcInscription, one}
+use Rattle.cpn_definitions.specs.Net.{PlainArc, PlainNet, transition_at}
 use Rattle.cpn_definitions.specs.Lone.{is_variable}
 use Rattle.cpn_definitions.proofs.Lone.{variable_alone}
 use Rattle.cpn_definitions.proofs.Terms.{one_token}
-use Rattle.cpn_definitions.specs.Outcome.{Outcome, gives, faults, no_meaning, not_in_colour, HasMeaning, given, ◌>>=◌}
+use Rattle.cpn_definitions.specs.Outcome.{Outcome, gives, faults, not_in_colour, given}
 use Rattle.cpn_definitions.specs.Meaning.{PlainBinding, bound_value, meaning}
 use Rattle.cpn_definitions.specs.Terms.{in_colour, PlainTerm, terms_of}
-use Rattle.cpn_definitions.specs.Occurrence.{gather, Needed, needed_cmp, binds, needed_by, needs_of, same_need, thresholds, are_covered}
-use Rattle.cpn_definitions.specs.Sound.{IsSoundInput}
+use Rattle.cpn_definitions.specs.Occurrence.{gather, Needed, needed_cmp, needed_by, needs_of, same_need, thresholds, are_covered}
 use Rattle.cpn_definitions.proofs.Outcomes.{same_given, bound_parts}
-use Rattle.cpn_definitions.proofs.RisingLists.{IsIn, in_append_left, in_append_right, in_map, in_filter, passes_at, each_implied}
+use Rattle.cpn_definitions.proofs.RisingLists.{IsIn, in_append_left, in_append_right, in_map, in_filter, passes_at}
 use Rattle.cpn_search.specs.Candidates.{has_value}
 use Rattle.cpn_search.specs.Found.{element_of}
 
@@ -133,30 +131,3 @@ needed_stands latest m needs need all h =
     value_stands need.value (tokens_at m need.place) (latest need) (thresholds latest need needs)
     (passes_at (λ need. covers (stamps need.value (tokens_at m need.place)) (thresholds latest need needs)) needs need all h)
     (in_in_order nat_cmp (latest need) (map latest (filter (same_need need) needs)) (in_map latest (filter (same_need need) needs) need (in_filter (same_need need) needs need h (need_itself need))))
-
--- ---- there is a meaning
-
-then_means : {A B : Type 0} (o : Outcome A) (f : A → Outcome B) → HasMeaning o → ((x : A) → HasMeaning (f x)) → HasMeaning (o >>= f)
-then_means (gives x) f is each = each x
-then_means (faults fault) f is each = λ e. cc
-then_means no_meaning f is each = absurd (is refl)
-
-value_means : {A : Type 0} (x : A) → HasMeaning (gives x)
-value_means x = λ e. cc
-
-gather_means : {A : Type 0} (f : PlainArc → Outcome (List A)) (arcs : List PlainArc) → AllByRecursion (λ arc. HasMeaning (f arc)) arcs → HasMeaning (gather f arcs)
-gather_means f [] each = value_means []
-gather_means f (arc ∷ arcs) each =
-    then_means (f arc) (λ xs. gather f arcs >>= (λ ys. gives (xs ++ ys))) each.0
-    (λ xs. then_means (gather f arcs) (λ ys. gives (xs ++ ys)) (gather_means f arcs each.1) (λ ys. value_means (xs ++ ys)))
-
--- the needs of an element whose binding binds the variables have a meaning
-pub needs_mean : (n : PlainNet) (t : ℕ) (b : PlainBinding) → AllByRecursion (IsSoundInput n (transition_at n t)) (transition_at n t).inputs → binds n (transition_at n t).vars b ≡ true → HasMeaning (needs_of n (element_of t b))
-unfolding needs_of
-needs_mean n t b sound is =
-    let tr : PlainTransition = transition_at n t in
-    then_means (gather (needed_by n.functions b) tr.inputs) (λ needs. gives (in_order needed_cmp needs))
-    (gather_means (needed_by n.functions b) tr.inputs (each_implied (IsSoundInput n tr) (λ arc. HasMeaning (needed_by n.functions b arc)) tr.inputs
-    (λ arc ok. then_means (terms_of n.functions arc.expr arc.colour b 0) (λ terms. gives (flat_map (λ (term : PlainTerm). replicate term.count (record { place = arc.place; value = term.value; offset = term.delay })) terms)) (ok.sound.means b 0 is (omega arith))
-    (λ terms. value_means _)) sound))
-    (λ needs. value_means (in_order needed_cmp needs))

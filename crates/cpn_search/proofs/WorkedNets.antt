@@ -10,7 +10,7 @@ use Rattle.cpn_definitions.specs.Lists.{Rises}
 use Rattle.cpn_definitions.specs.Marking.{Marking, token_at, add_token}
 use Rattle.cpn_definitions.specs.Inscription.{PlainExpr, literal, variable, variable_pattern, literal_pattern, Functions, one}
 use Rattle.cpn_definitions.specs.Net.{PlainArc, PlainTransition, Coloured, PlainNet, no_transition, nothing, place_at, transition_at, variable_at}
-use Rattle.cpn_definitions.specs.Bindable.{binding_terms}
+use Rattle.cpn_definitions.specs.Bindable.{binding_terms, AreClosed}
 use Rattle.cpn_definitions.specs.Lone.{is_variable, stands_alone, HasLoneVariables, IsFoundOnTokens}
 use Rattle.cpn_definitions.specs.Outcome.{gives, faults, not_in_colour, HasMeaning, given, ◌>>=◌}
 use Rattle.cpn_definitions.specs.Meaning.{PlainBinding, bound_value, meaning}
@@ -168,6 +168,7 @@ module _ (timed guard : Bool) (vars : ℕ) (arcs : List (ℕ × ℕ)) (n : Plain
   pub worked_is_sound : vars < 2 ^ 32 → IsSound n
   worked_is_sound narrow = record {
     transitions_sound = only_one (IsSoundTransition n) n.transitions is.transitions transition_sound;
+    functions_closed = subst AreClosed (sym is.no_functions) tt;
     few_places = omega (arith, two);
     few_transitions = omega (arith, is.transitions);
     few_variables = omega (arith, is.variables);

@@ -43,9 +43,10 @@ pub record IsWorkedTransition (timed guard : Bool) (vars : ℕ) (arcs : List (�
   pub outputs : t.outputs ≡ []
   pub listed : t.vars ≡ range_with_len 0 vars
 
--- The net has two places of whole numbers, so many variables, and one such transition.
+-- The net has two places of whole numbers, so many variables, no function, and one such transition.
 pub record IsWorked (timed guard : Bool) (vars : ℕ) (arcs : List (ℕ × ℕ)) (n : PlainNet) : Type 0 where
   pub colours : map (λ p. p.colour) n.places ≡ numbers timed ∷ numbers timed ∷ []
   pub variables : length n.variables ≡ vars
+  pub no_functions : n.functions ≡ []
   pub transitions : length n.transitions ≡ 1
   pub worked : IsWorkedTransition timed guard vars arcs (transition_at n 0)

@@ -13,19 +13,9 @@ ghost use Rattle.cpn_core.specs.Views.{value_view};
 ghost use Rattle.cpn_core.specs.Nets.{arc_view, net_view};
 ghost use Rattle.cpn_core.specs.Tokens.{tokens_view};
 
-use cpn_core::{Expr, MExpr, Memory, Net, PlaceArc, PlainMarking, Token, Value};
+use crate::lone::is_inscription;
+use cpn_core::{Memory, Net, PlaceArc, PlainMarking, Token, Value};
 use std::alloc::Global;
-
-/// Whether the variable is the inscription of the arc.
-fn is_inscription(arc: &PlaceArc, variable: u32) -> bool
-    ensures exact { result ≡ is_variable variable (arc_view arc.now).expr }
-{
-    let MExpr::One(expr) = &arc.inscription.expr;
-    match expr {
-        Expr::Lit(_) => false,
-        Expr::Var(other) => variable == *other,
-    }
-}
 
 /// The place of the first input arc whose inscription is the variable; 0 where there is none.
 fn first_place(arcs: &[PlaceArc], variable: u32) -> u32

@@ -7,7 +7,8 @@ ghost use Rattle.cpn_core.specs.Nets.{net_view};
 ghost use Rattle.cpn_search.specs.Found.{element_of, IsNeverCovered, IsLeastTime};
 
 use cpn_core::{Binding, Memory, Net, PlainMarking};
-use cpn_elements::{Refused, guard_holds, needs_of};
+use cpn_elements::{guard_holds, needs_of};
+use cpn_eval::Refused;
 use std::alloc::Global;
 
 /// The least time at which an element of a sound net is covered; `None` where it is covered at no time: its guard is
@@ -25,7 +26,9 @@ pub fn earliest_of(
     requires bound { binds (net_view net.now) (transition_at (net_view net.now) t).vars binding.now ≡ true }
     ensures least { IfOk result (λ earliest. MatchOption earliest (IsNeverCovered (net_view net.now) marking.now (element_of t binding.now)) (IsLeastTime (net_view net.now) marking.now (element_of t binding.now))) }
 {
-    if !guard_holds(net, &net.transitions[t as usize], binding) {
+    let transition = &net.transitions[t as usize];
+    let holds = guard_holds(alloc, net, transition, binding)?;
+    if !holds {
         return Ok(None);
     }
     match needs_of(alloc, net, t, binding) {

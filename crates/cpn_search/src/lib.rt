@@ -8,6 +8,7 @@
 mod assignments;
 mod candidates;
 mod earliest;
+mod lone;
 mod searching;
 #[cfg(test)]
 mod tests;

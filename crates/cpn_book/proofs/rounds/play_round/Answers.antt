@@ -6,6 +6,8 @@ use Rattle.cpn_definitions.specs.Net.{PlainNet}
 use Rattle.cpn_definitions.specs.Occurrence.{PlainElement, covered, needs_of, outputs_of}
 use Rattle.cpn_definitions.specs.Enabled.{ready}
 use Rattle.cpn_definitions.specs.Sound.{Gives}
+use Rattle.cpn_definitions.proofs.LegalSequences.{covered_is_bound}
+use Rattle.cpn_definitions.proofs.SoundElements.{outputs_mean}
 use Rattle.cpn_core.specs.Nets.{net_view}
 use Rattle.cpn_core.specs.Elements.{element_view, entry_view}
 use Rattle.cpn_core.specs.Faults.{fault_view}
@@ -13,7 +15,6 @@ use Rattle.cpn_runs.specs.declared.events.End.TheVariants as ends
 use Rattle.cpn_runs.specs.Draw.{generator, word}
 use Rattle.cpn_runs.specs.FinishedViews.{setup_view}
 use Rattle.cpn_book.specs.declared.run_progress.Progress.{Progress}
-use Rattle.cpn_book.proofs.OutputMeanings.{outputs_mean}
 use Rattle.cpn_book.proofs.PlayedRounds.{some_are_ready, drawn_covered, covered_needs_given, HasClaimed, HasPlayed, HasFaulted, played, kept_marking, faulted}
 use Rattle.cpn_book.proofs.rounds.play_round.Goals as goal
 
@@ -43,7 +44,7 @@ outputs_of-outputs-requires-clause-meaning c =
     let net : net_view c.deref-2.result.now ≡ s.net = ap net_view c.deref-2.ensures in
     let P : PlainNet → Type 0 = λ n. HasMeaning (outputs_of n (element_view c.in_ok-element.element) s.clock) in
     let Q : PlainElement → Type 0 = λ f. HasMeaning (outputs_of s.net f s.clock) in
-    subst P (sym net) (subst Q (sym same) (outputs_mean s.net c.args.progress.now.marking s.clock e c.requires.playable.sound is (let early = c.requires.playable.clock in let late = c.requires.playable.until in omega arith)))
+    subst P (sym net) (subst Q (sym same) (outputs_mean s.net e s.clock c.requires.playable.sound (covered_is_bound s.net c.args.progress.now.marking s.clock e is) (let early = c.requires.playable.clock in let late = c.requires.playable.until in omega arith)))
 
 pub returns-in_ok-push-in-Ok-clause-running : goal.returns-in_ok-push-in-Ok-clause-running
 returns-in_ok-push-in-Ok-clause-running c = λ none.

@@ -1,4 +1,5 @@
 -- The guard and the needs have a meaning, and what they tell is told of the element.
+use Rattle.std.proofs.Common.{sym, ◌∙◌}
 use Rattle.cpn_core.specs.Faults.{fault_view}
 use Rattle.cpn_core.specs.Nets.{net_view}
 use Rattle.cpn_search.specs.Found.{element_of}
@@ -7,17 +8,17 @@ use Rattle.cpn_search.proofs.KnownTransitions.{guard_means, needs_have_meaning, 
 use Rattle.cpn_search.proofs.earliest.earliest_of.Goals as goal
 
 pub guard_holds-requires : goal.guard_holds-requires
-guard_holds-requires c = record { meaning = guard_means c.args.net.now c.args.t c.index.result.now c.args.binding.now c.requires.sound c.requires.in_range c.index.ensures c.requires.bound }
+guard_holds-requires c = record { meaning = guard_means c.args.net.now c.args.t c.index-transition.result.now c.args.binding.now c.requires.sound c.requires.in_range c.index-transition.ensures c.requires.bound }
 
-pub returns-then-not-guard_holds : goal.returns-then-not-guard_holds
-returns-then-not-guard_holds c = record { least = never_guarded c.args.net.now c.args.marking.now c.args.t c.index.result.now c.args.binding.now c.requires.in_range c.index.ensures c.if-not-guard_holds.ensures.holds }
+pub returns-then-not-holds : goal.returns-then-not-holds
+returns-then-not-holds c = record { least = never_guarded c.args.net.now c.args.marking.now c.args.t c.index-transition.result.now c.args.binding.now c.requires.in_range c.index-transition.ensures (sym c.if-not-holds.true ∙ c.in_ok-holds.ensures.holds) }
 
 pub needs_of-requires : goal.needs_of-requires
 needs_of-requires c = record { meaning = needs_have_meaning c.args.net.now c.args.t c.args.binding.now c.requires.sound c.requires.in_range c.requires.bound }
 
 pub returns-in-Ok : goal.returns-in-Ok
 returns-in-Ok c = record {
-  least = told_by_needs (net_view c.args.net.now) c.args.marking.now (element_of c.args.t c.args.binding.now) c.in-Ok.needs c.earliest.result c.requires.marking (may c.args.net.now c.args.t c.index.result.now c.args.binding.now c.requires.in_range c.index.ensures c.requires.bound c.if-not-guard_holds.ensures.holds) c.in-Ok.ensures.needs c.earliest.ensures.earliest;
+  least = told_by_needs (net_view c.args.net.now) c.args.marking.now (element_of c.args.t c.args.binding.now) c.in-Ok.needs c.earliest.result c.requires.marking (may c.args.net.now c.args.t c.index-transition.result.now c.args.binding.now c.requires.in_range c.index-transition.ensures c.requires.bound (sym c.if-not-holds.false ∙ c.in_ok-holds.ensures.holds)) c.in-Ok.ensures.needs c.earliest.ensures.earliest;
 }
 
 pub returns-in-Err-Fault : goal.returns-in-Err-Fault
