@@ -1,7 +1,6 @@
 -- What follows from an outcome that gives a value, and from one that has a meaning.
 use Rattle.std.proofs.Common.{◌≡◌, Bool, true, refl, ap, ◌∙◌}
 use Rattle.cpn_definitions.specs.Outcome.{Fault, Outcome, gives, faults, no_meaning, HasMeaning, ◌>>=◌, gives_and}
-use Rattle.cpn_definitions.specs.Sound.{Gives}
 
 -- two values that are given are the same
 pub same_given : {A : Type 0} (x y : A) → gives x ≡ gives y → x ≡ y
@@ -18,10 +17,6 @@ pub gives_and_parts : {A : Type 0} (o : Outcome A) (test : A → Bool) → gives
 gives_and_parts (gives x) test h = (x, refl, h)
 gives_and_parts (faults fault) test h = cc
 gives_and_parts no_meaning test h = cc
-
--- where an outcome gives, and what follows gives at each value, both together give
-pub gives_then : {A B : Type 0} (o : Outcome A) (f : A → Outcome B) → Gives o → ((x : A) → Gives (f x)) → Gives (o >>= f)
-gives_then o f first second = let next = second first.0 in (next.0, ap (λ p. p >>= f) first.1 ∙ next.1)
 
 -- ---- meanings
 

@@ -10,7 +10,7 @@ use Rattle.cpn_definitions.specs.Net.{PlainArc, PlainTransition, Coloured, Plain
 use Rattle.cpn_definitions.specs.Meaning.{PlainBinding, meaning}
 use Rattle.cpn_definitions.specs.Terms.{terms_of}
 use Rattle.cpn_definitions.specs.Bindable.{binding_terms, AreClosed, IsBindable}
-use Rattle.cpn_definitions.specs.Occurrence.{PlainElement, binds, covered, transition_delay, outputs_of}
+use Rattle.cpn_definitions.specs.Occurrence.{binds, transition_delay}
 use Rattle.cpn_definitions.specs.Times.{last_time}
 
 -- Sound arc: its place is one of the net, whose colour set it carries; and its inscription has a meaning under each
@@ -53,10 +53,6 @@ IsUntimed n = (p : ℕ) → is_timed n p ≡ false
 -- the outcome is a value
 abbrev pub Gives : {A : Type 0} → Outcome A → Type 0
 Gives {A} o = (x : A) × (o ≡ gives x)
-
--- Faultless: whatever is covered, its outputs are no fault.
-abbrev pub IsFaultless : PlainNet → Type 0
-IsFaultless n = (m : Marking) (time : ℕ) (e : PlainElement) → covered n m time e ≡ true → time ≤ last_time → Gives (outputs_of n e time)
 
 -- whether a place of the colour set may hold the token: its value is admitted, and its stamp is 0 where the
 -- place is untimed

@@ -4,7 +4,6 @@ pub mod Ranges
 pub mod Digits
 pub mod TextValues
 pub mod SoundTransitions
-pub mod FaultlessNets
 pub mod LoadedTexts
 pub mod WellLoadedNets
 pub mod RefusedBytes

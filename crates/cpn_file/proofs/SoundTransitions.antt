@@ -1,4 +1,4 @@
--- Each transition that is made of a document is sound, and one of those that are served.
+-- Each transition that is made of a document is sound, and each of its variables stands alone on an input arc.
 use Rattle.std.proofs.Common.{◌≡◌, ℕ, suc, ◌+◌, ◌<◌, ◌≤◌, ◌==◌, ◌⊎◌, Bool, true, false, ◌&&◌, ◌||◌, List, [], ◌∷◌, ◌++◌, length, Some, None, refl, sym, ap, ◌∙◌, subst, arith, append_assoc, ⊎_elim, inl, inr, eqb-true}
 use Rattle.std.specs.Prelude.{nat_le}
 use Rattle.std.specs.List.{list_all, list_any, filter, range_with_len, AllByRecursion}
@@ -18,7 +18,7 @@ use Rattle.cpn_definitions.specs.Terms.{terms_of}
 use Rattle.cpn_definitions.specs.Occurrence.{binds}
 use Rattle.cpn_definitions.specs.Bindable.{binding_terms}
 use Rattle.cpn_definitions.specs.Sound.{IsSoundArc, IsSoundInput, IsSoundTransition}
-use Rattle.cpn_file.specs.Served.{int_colour, is_int_or_variable, IsServedTransition}
+use Rattle.cpn_file.specs.Served.{int_colour}
 use Rattle.std.specs.Prelude.{if◌then◌else◌}
 use Rattle.cpn_file.specs.Reading.{read, refused, check, not_served}
 use Rattle.cpn_file.specs.Loading.{input_of, output_of, is_input, is_output, arcs_of, inputs_among, outputs_among, stands_on, bound_among, variables_on, transition_with, transitions_from, flattened, most_arcs}
@@ -174,15 +174,9 @@ PlacesAreInt n = (p : ℕ) → p < length n.places → (place_at n p).colour ≡
 abbrev made_transition : List ℕ → List PlainArc → List PlainArc → List ℕ → PlainTransition
 made_transition name inputs outputs vars = record { name = name; guard = []; delay = None; inputs = inputs; outputs = outputs; vars = vars }
 
-int_or_variable : (variables : ℕ) (e : ArcInscription) → IsExprOf variables e → is_int_or_variable e ≡ true
-int_or_variable variables (one (literal v)) h = h
-int_or_variable variables (one (variable x)) h = refl
-int_or_variable variables m h = absurd h
-
--- a transition is sound, one of those that are served, and each of its variables stands alone on an input arc
-pub record IsSoundServed (n : PlainNet) (t : PlainTransition) : Type 0 where
+-- a transition is sound, and each of its variables stands alone on an input arc
+pub record IsSoundAlone (n : PlainNet) (t : PlainTransition) : Type 0 where
   pub sound : IsSoundTransition n t
-  pub served : IsServedTransition t
   pub alone : HasLoneVariables t
 
 module _ (n : PlainNet) (ints : PlacesAreInt n) where
@@ -202,7 +196,7 @@ module _ (n : PlainNet) (ints : PlacesAreInt n) where
   module _ (name : List ℕ) (inputs outputs : List PlainArc) where
     pub made_sound : AllByRecursion (IsPlacedInput (length n.places) (length n.variables)) inputs → AllByRecursion (IsPlacedArc (length n.places) (length n.variables)) outputs
         → length inputs + length outputs ≤ 64 → list_all (stands_on inputs) (filter (stands_on (inputs ++ outputs)) (range_with_len 0 (length n.variables))) ≡ true
-        → IsSoundServed n (made_transition name inputs outputs (filter (stands_on (inputs ++ outputs)) (range_with_len 0 (length n.variables))))
+        → IsSoundAlone n (made_transition name inputs outputs (filter (stands_on (inputs ++ outputs)) (range_with_len 0 (length n.variables))))
     made_sound ins outs few bound =
         let t = made_transition name inputs outputs (filter (stands_on (inputs ++ outputs)) (range_with_len 0 (length n.variables))) in
         let found = all_parts (λ arc. is_found (inputs ++ outputs) arc.expr ≡ true) inputs outputs (all_found [] (inputs ++ outputs)) in
@@ -217,29 +211,24 @@ module _ (n : PlainNet) (ints : PlacesAreInt n) where
             inputs_sound = all_together (IsPlacedInput (length n.places) (length n.variables)) (λ arc. is_found (inputs ++ outputs) arc.expr ≡ true) (IsSoundInput n t) (λ arc h k. record { sound = arc_sound (inputs ++ outputs) t refl arc h.placed k; terms_are = h.terms_are }) inputs ins found.0;
             outputs_sound = all_together (IsPlacedArc (length n.places) (length n.variables)) (λ arc. is_found (inputs ++ outputs) arc.expr ≡ true) (IsSoundArc n t) (λ arc h k. arc_sound (inputs ++ outputs) t refl arc h k) outputs outs found.1;
           };
-          served = record {
-            no_guard = refl;
-            no_delay = refl;
-            outputs_are = all_weaker (IsPlacedArc (length n.places) (length n.variables)) (λ arc. is_int_or_variable arc.expr ≡ true) (λ arc h. int_or_variable (length n.variables) arc.expr h.expr) outputs outs;
-          };
           alone = bound;
         }
 
-  pub transition_sound : (name : List ℕ) (arcs : List Arc) (t : PlainTransition) → AllByRecursion (IsArcOf (length n.places) (length n.variables)) arcs → transition_with (length n.variables) name arcs ≡ read t → IsSoundServed n t
+  pub transition_sound : (name : List ℕ) (arcs : List Arc) (t : PlainTransition) → AllByRecursion (IsArcOf (length n.places) (length n.variables)) arcs → transition_with (length n.variables) name arcs ≡ read t → IsSoundAlone n t
   unfolding transition_with variables_on
   transition_sound name arcs t all h =
       let few = steps _ (check (nat_le (length (inputs_among arcs) + length (outputs_among arcs)) most_arcs) not_served) t h in
       let bound = steps _ (bound_among (inputs_among arcs) (outputs_among arcs) (range_with_len 0 (length n.variables))) t few.2 in
       let b = bound_parts (list_all (stands_on (inputs_among arcs)) (filter (stands_on (inputs_among arcs ++ outputs_among arcs)) (range_with_len 0 (length n.variables)))) (filter (stands_on (inputs_among arcs ++ outputs_among arcs)) (range_with_len 0 (length n.variables))) bound.0 bound.1 in
       let e : made_transition name (inputs_among arcs) (outputs_among arcs) (filter (stands_on (inputs_among arcs ++ outputs_among arcs)) (range_with_len 0 (length n.variables))) ≡ t = ap (made_transition name (inputs_among arcs) (outputs_among arcs)) b.1 ∙ same_read (made_transition name (inputs_among arcs) (outputs_among arcs) bound.0) t bound.2 in
-      subst (IsSoundServed n) e
+      subst (IsSoundAlone n) e
       (made_sound name (inputs_among arcs) (outputs_among arcs) (inputs_placed (length n.places) (length n.variables) arcs all) (outputs_placed (length n.places) (length n.variables) arcs all) (leb-true _ _ (checked (nat_le (length (inputs_among arcs) + length (outputs_among arcs)) most_arcs) few.0 not_served few.1)) b.0)
     where
       bound_parts : (test : Bool) (xs ys : List ℕ) → (if test then read xs else refused not_served) ≡ read ys → (test ≡ true) × (xs ≡ ys)
       bound_parts true xs ys p = (refl, same_read xs ys p)
       bound_parts false xs ys p = cc
 
-  pub transitions_sound : (top : List ℕ) (arcs : List Arc) (t : ℕ) (names : List (List ℕ)) (ts : List PlainTransition) → AllByRecursion (IsArcOf (length n.places) (length n.variables)) arcs → transitions_from (length n.variables) top arcs t names ≡ read ts → AllByRecursion (IsSoundServed n) ts
+  pub transitions_sound : (top : List ℕ) (arcs : List Arc) (t : ℕ) (names : List (List ℕ)) (ts : List PlainTransition) → AllByRecursion (IsArcOf (length n.places) (length n.variables)) arcs → transitions_from (length n.variables) top arcs t names ≡ read ts → AllByRecursion (IsSoundAlone n) ts
   unfolding transitions_from
   transitions_sound top arcs t [] ts all made_them = rw (← (same_read [] ts made_them)) tt
   transitions_sound top arcs t (name ∷ names) ts all made_them =

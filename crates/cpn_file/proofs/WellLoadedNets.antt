@@ -1,5 +1,5 @@
--- Each document that is read gives a sound net of those that are served, and a marking of its places.
-use Rattle.std.proofs.Common.{◌≡◌, ℕ, zero, suc, ◌^◌, ◌<◌, ◌≤◌, Bool, nat_lt, true, List, [], ◌∷◌, ◌++◌, length, map, replicate, not, refl, sym, ap, ◌∙◌, subst, arith, length-append}
+-- Each document that is read gives a sound net without time stamps, and a marking of its places.
+use Rattle.std.proofs.Common.{◌≡◌, ℕ, zero, suc, ◌^◌, ◌<◌, ◌≤◌, Bool, nat_lt, true, false, List, [], ◌∷◌, ◌++◌, length, map, replicate, not, refl, sym, ap, ◌∙◌, subst, arith, length-append}
 use Rattle.std.specs.Prelude.{Option, Some, None, nat_le, ◌==◌, codes}
 use Rattle.std.specs.List.{list_all, AllByRecursion}
 use Rattle.std.specs.Str.{bytes_eq}
@@ -9,14 +9,14 @@ use Rattle.std.proofs.lemmas.Cmp.{tied_itself}
 use Rattle.std.proofs.lemmas.List.{length-map, length-replicate}
 use Rattle.serde_json.specs.Data.{Data}
 use Rattle.cpn_definitions.specs.Value.{int}
-use Rattle.cpn_definitions.specs.Colour.{admits}
+use Rattle.cpn_definitions.specs.Colour.{PlainColour, admits}
 use Rattle.cpn_definitions.specs.Marking.{PlainToken, AreSorted, MayPrecede, token_at}
 use Rattle.cpn_definitions.specs.Net.{PlainNet, Coloured, nothing}
 use Rattle.cpn_definitions.specs.Named.{is_named}
 use Rattle.cpn_definitions.specs.Lone.{HasLoneVariables}
-use Rattle.cpn_definitions.specs.Sound.{may_hold, IsMarking, IsSound, IsSoundTransition}
+use Rattle.cpn_definitions.specs.Sound.{may_hold, IsMarking, IsSound, IsSoundTransition, IsUntimed}
 use Rattle.cpn_definitions.specs.ValueOrder.{token_cmp_total}
-use Rattle.cpn_file.specs.Served.{int_colour, IsServed, IsServedTransition}
+use Rattle.cpn_file.specs.Served.{int_colour}
 use Rattle.cpn_file.specs.Reading.{Reading, read, or_refusal, check, each, not_served}
 use Rattle.cpn_file.specs.Parts.{is_one_of, list_at, number_at, only_keys, only, text_in}
 use Rattle.cpn_file.specs.Texts.{most_tokens, variable_in}
@@ -26,11 +26,10 @@ use Rattle.cpn_file.specs.Formed.{IsFormed}
 use Rattle.cpn_file.specs.WellLoaded.{IsWellLoaded, has_few_tokens}
 use Rattle.cpn_file.specs.declared.initials.Initial.{Initial}
 use Rattle.cpn_file.specs.declared.arcs.Arc.{Arc}
-use Rattle.cpn_file.proofs.ListFacts.{both, all_weaker, all_below}
+use Rattle.cpn_file.proofs.ListFacts.{both, all_weaker, all_at, all_below}
 use Rattle.cpn_file.proofs.Readings.{same_read, steps, checked, each_all}
 use Rattle.cpn_file.proofs.TextValues.{IsArcOf, IsSmallInitial, joined_within, arc_within, initial_small}
-use Rattle.cpn_file.proofs.SoundTransitions.{IsSoundServed, transitions_sound, transitions_many}
-use Rattle.cpn_file.proofs.FaultlessNets.{served_untimed, served_faultless}
+use Rattle.cpn_file.proofs.SoundTransitions.{IsSoundAlone, transitions_sound, transitions_many}
 
 -- ---- equal tokens
 
@@ -167,6 +166,9 @@ variables_int : (names : List (List ℕ)) → AllByRecursion (λ x. x.colour ≡
 variables_int [] = tt
 variables_int (name ∷ names) = (refl, variables_int names)
 
+ints_untimed : (n : PlainNet) → AllByRecursion (λ place. place.colour ≡ int_colour) n.places → IsUntimed n
+ints_untimed n ints p = all_at (λ place. place.colour.timed ≡ false) nothing refl n.places p (all_weaker (λ place. place.colour ≡ int_colour) (λ place. place.colour.timed ≡ false) (λ place is. ap (λ (c : PlainColour). c.timed) is) n.places ints)
+
 ints_named : (n : PlainNet) (coloured : List Coloured) → AllByRecursion (λ c. c.colour ≡ int_colour) coloured → list_all (is_named n) coloured ≡ true
 ints_named n [] ints = refl
 ints_named n (c ∷ cs) ints = both (is_named n c) (list_all (is_named n) cs) (rw ints.0 refl) (ints_named n cs ints.1)
@@ -190,26 +192,21 @@ formed_loaded document loaded formed h =
     let many_variables : length n.variables ≡ length variables.0 = length-map variables.0 variable_of in
     let ints : AllByRecursion (λ place. place.colour ≡ int_colour) n.places = places_int m.name m.places in
     let placed : AllByRecursion (IsArcOf (length n.places) (length n.variables)) arcs.0 = rw (many_places, ← many_names, many_variables) (arcs_within (length (place_names m.places)) variables.0 joined.0 arcs.0 (arcs_joined m joined.0 joined.1) arcs.1) in
-    let made : AllByRecursion (IsSoundServed n) transitions.0 = transitions_sound n (λ p lt. all_below (λ place. place.colour ≡ int_colour) nothing n.places p lt ints) m.name arcs.0 0 (transition_names m.transitions) transitions.0 placed (rw many_variables transitions.1) in
+    let made : AllByRecursion (IsSoundAlone n) transitions.0 = transitions_sound n (λ p lt. all_below (λ place. place.colour ≡ int_colour) nothing n.places p lt ints) m.name arcs.0 0 (transition_names m.transitions) transitions.0 placed (rw many_variables transitions.1) in
     let sound : IsSound n = record {
-      transitions_sound = all_weaker (IsSoundServed n) (IsSoundTransition n) (λ t s. s.sound) transitions.0 made;
+      transitions_sound = all_weaker (IsSoundAlone n) (IsSoundTransition n) (λ t s. s.sound) transitions.0 made;
+      functions_closed = tt;
       few_places = rw (many_places, ← many_names) (apart_few (place_names m.places) formed.places_apart);
       few_transitions = rw (transitions_many (length variables.0) m.name arcs.0 0 (transition_names m.transitions) transitions.0 transitions.1) (apart_few (transition_names m.transitions) formed.transitions_apart);
       few_variables = rw many_variables (let few = declared_few document.declarations variables.0 variables.1 in omega (arith, few));
-    } in
-    let served : IsServed n = record {
-      places_are = ints;
-      variables_are = variables_int variables.0;
-      transitions_are = all_weaker (IsSoundServed n) IsServedTransition (λ t s. s.served) transitions.0 made;
     } in
     subst IsWellLoaded e (record {
       sound = sound;
       marking = marking_held m.name m.places initials.0 initials.1;
       places = length-map initials.0 initial_tokens ∙ each_many initial_of m.places initials.0 initials.1 ∙ sym many_places;
       few = marking_few initials.0 (each_all initial_of IsSmallInitial (λ place initial p. initial_small place.initial initial p) m.places initials.0 initials.1);
-      untimed = served_untimed n served;
-      alone = all_weaker (IsSoundServed n) HasLoneVariables (λ t s. s.alone) transitions.0 made;
-      faultless = served_faultless n sound served;
+      untimed = ints_untimed n ints;
+      alone = all_weaker (IsSoundAlone n) HasLoneVariables (λ t s. s.alone) transitions.0 made;
       named = record { places_named = ints_named n n.places ints; variables_named = ints_named n n.variables (variables_int variables.0) };
     })
 

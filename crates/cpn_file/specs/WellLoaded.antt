@@ -4,7 +4,7 @@ use Rattle.std.specs.List.{list_all}
 use Rattle.cpn_definitions.specs.Marking.{Marking}
 use Rattle.cpn_definitions.specs.Lone.{IsFoundOnTokens}
 use Rattle.cpn_definitions.specs.Named.{IsNamed}
-use Rattle.cpn_definitions.specs.Sound.{IsSound, IsMarking, IsUntimed, IsFaultless}
+use Rattle.cpn_definitions.specs.Sound.{IsSound, IsMarking, IsUntimed}
 use Rattle.cpn_file.specs.Texts.{most_tokens}
 use Rattle.cpn_file.specs.Loading.{PlainLoaded}
 
@@ -13,8 +13,7 @@ abbrev pub has_few_tokens : Marking → Bool
 has_few_tokens m = list_all (λ tokens. nat_le (length tokens) most_tokens) m
 
 -- The net is sound; the initial marking is one of its places, with at most 65,536 tokens on each; no place keeps time
--- stamps; each variable of a transition stands alone on an input arc; the outputs of whatever is covered are no fault; and the
--- net names what a report prints.
+-- stamps; each variable of a transition stands alone on an input arc; and the net names what a report prints.
 pub record IsWellLoaded (loaded : PlainLoaded) : Type 0 where
   pub sound : IsSound loaded.net
   pub marking : IsMarking loaded.net.places loaded.initial
@@ -22,5 +21,4 @@ pub record IsWellLoaded (loaded : PlainLoaded) : Type 0 where
   pub few : has_few_tokens loaded.initial ≡ true
   pub untimed : IsUntimed loaded.net
   pub alone : IsFoundOnTokens loaded.net
-  pub faultless : IsFaultless loaded.net
   pub named : IsNamed loaded.net

@@ -1,9 +1,9 @@
 //! The arcs of the net, made of those of the document.
 
-ghost use Rattle.std.specs.Prelude.{◌≡◌, IfOk};
+ghost use Rattle.std.specs.Prelude.{◌≡◌, [], ◌∷◌, map, IfOk};
 ghost use Rattle.cpn_file.specs.Served.{int_colour as integers};
 ghost use Rattle.cpn_core.specs.Colours.{colour_view};
-ghost use Rattle.cpn_core.specs.Inscriptions.{expr_view, pattern_view};
+ghost use Rattle.cpn_core.specs.Inscriptions.{expr_view, pattern_view, term_view};
 ghost use Rattle.cpn_core.specs.Nets.{arc_view, arcs_view};
 ghost use Rattle.cpn_file.specs.Loading.{is_input as leads_to_transition, is_output as leads_to_place, inscription_expr, inscription_pattern, input_of as input_in, output_of as output_in, inputs_among as inputs_in, outputs_among as outputs_in};
 
@@ -43,14 +43,22 @@ fn pattern_of(inscription: Inscription) -> Pat
     }
 }
 
-fn input_of(alloc: Global, arc: Arc) -> Result<PlaceArc, AllocError>
-    ensures made { IfOk result (λ input. arc_view input ≡ input_in arc) }
+// The binding term of an inscription: one token that it fits.
+fn terms_of(alloc: Global, inscription: Inscription) -> Result<Vec<BindingTerm>, AllocError>
+    ensures made { IfOk result (λ terms. map term_view terms.items ≡ record { count = 1; pattern = inscription_pattern inscription } ∷ []) }
 {
     let mut terms = Vec::with_capacity(alloc, 1)?;
     terms.push(BindingTerm {
         count: 1,
-        pattern: pattern_of(arc.inscription),
+        pattern: pattern_of(inscription),
     })?;
+    Ok(terms)
+}
+
+fn input_of(alloc: Global, arc: Arc) -> Result<PlaceArc, AllocError>
+    ensures made { IfOk result (λ input. arc_view input ≡ input_in arc) }
+{
+    let terms = terms_of(alloc, arc.inscription)?;
     let inscription = ArcExpr {
         colour: int_colour(),
         expr: MExpr::One(expr_of(arc.inscription)),

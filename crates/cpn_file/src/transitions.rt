@@ -1,8 +1,9 @@
 //! The transitions of the net, with their variables.
 
 ghost use Rattle.std.specs.Prelude.{◌≡◌, List, length, map, string_bytes, IfOk};
-ghost use Rattle.cpn_core.specs.Inscriptions.{multiset_view};
+ghost use Rattle.cpn_core.specs.Inscriptions.{expr_view, multiset_view};
 ghost use Rattle.cpn_core.specs.Nets.{arcs_view, transition_view};
+ghost use Rattle.cpn_definitions.specs.Inscription.{one};
 ghost use Rattle.cpn_definitions.specs.Lone.{is_variable};
 ghost use Rattle.cpn_file.specs.Loading.{flattened as flattened_name, stands_on as is_on, variables_on as variables_in, transition_with as transition_in, transitions_from};
 ghost use Rattle.cpn_file.specs.Document.{transition_names};
@@ -32,14 +33,43 @@ pub(crate) fn flattened(alloc: Global, top: &str, name: &str) -> Result<String, 
     Ok(text)
 }
 
+/// Whether the inscription is the variable.
+fn is_variable(expr: &Expr, variable: u32) -> bool
+    ensures exact { result ≡ is_variable variable (one (expr_view expr.now)) }
+{
+    match expr {
+        Expr::Var(other) => variable == *other,
+        Expr::Lit(_) => false,
+        Expr::Local(_) => false,
+        Expr::Time => false,
+        Expr::Op(_, _) => false,
+        Expr::And(_, _) => false,
+        Expr::Or(_, _) => false,
+        Expr::If(_, _, _) => false,
+        Expr::Case(_, _) => false,
+        Expr::Let(_, _) => false,
+        Expr::Fold { .. } => false,
+        Expr::Tuple(_) => false,
+        Expr::List(_) => false,
+        Expr::Con(_, _) => false,
+        Expr::Call(_, _) => false,
+    }
+}
+
+/// Whether the inscription of an arc is one token of the variable's value.
 fn binds(variable: u32, inscription: &MExpr) -> bool
     ensures exact { result ≡ is_variable variable (multiset_view inscription.now) }
 {
     match inscription {
-        MExpr::One(expr) => match expr {
-            Expr::Lit(_) => false,
-            Expr::Var(number) => variable == *number,
-        },
+        MExpr::One(expr) => is_variable(expr, variable),
+        MExpr::Empty => false,
+        MExpr::Times(_, _) => false,
+        MExpr::Sum(_) => false,
+        MExpr::Later(_, _) => false,
+        MExpr::At(_, _) => false,
+        MExpr::If(_, _, _) => false,
+        MExpr::Case(_, _) => false,
+        MExpr::Let(_, _) => false,
     }
 }
 
