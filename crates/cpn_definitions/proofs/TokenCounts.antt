@@ -62,7 +62,7 @@ behind_delay m delay colour s locals before terms few false is =
     delayed_are_few delay s locals before first.0 terms first.2 (few first.0 first.1)
 
 mutual
-  terms_are_few : (m : ArcInscription) (colour : PlainColour) (s : Setting) (locals : List PlainValue) (before : ℕ) (terms : List PlainTerm) → before ≤ most_tokens → terms_behind m colour s locals before ≡ gives terms → AreFew before terms
+  pub terms_are_few : (m : ArcInscription) (colour : PlainColour) (s : Setting) (locals : List PlainValue) (before : ℕ) (terms : List PlainTerm) → before ≤ most_tokens → terms_behind m colour s locals before ≡ gives terms → AreFew before terms
   terms_are_few no_token colour s locals before terms few is = subst (AreFew before) (same_given [] terms is) (omega arith)
   terms_are_few (one e) colour s locals before terms few is = let first = bound_parts (lone_term (one e) colour s locals) _ terms is in counted_are_few before first.0 terms first.2
   terms_are_few (times k e) colour s locals before terms few is = let first = bound_parts (lone_term (times k e) colour s locals) _ terms is in counted_are_few before first.0 terms first.2

@@ -5,7 +5,7 @@ use Rattle.std.proofs.lemmas.Bool.Decides.{nat_tests}
 use Rattle.std.proofs.Math.Nat.{eq-or-lt_of_le}
 use Rattle.std.proofs.lemmas.Option.{slice_get-map, slice_get_past, slice_get-get_or}
 use Rattle.cpn_definitions.specs.Value.{PlainValue}
-use Rattle.cpn_definitions.specs.Outcome.{Outcome, no_meaning}
+use Rattle.cpn_definitions.specs.Outcome.{no_meaning}
 use Rattle.cpn_definitions.specs.Inscription.{PlainFunction, Functions}
 use Rattle.cpn_definitions.specs.Meaning.{PlainBinding, Setting, meant, called, calls_below, setting_below}
 use Rattle.cpn_core.specs.declared.inscriptions.Function.{Function}

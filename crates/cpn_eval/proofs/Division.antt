@@ -1,5 +1,5 @@
 -- Quotients and rests that are rounded towards minus infinity, by those that Euclid's division gives.
-use Rattle.std.proofs.Common.{◌≡◌, ℕ, zero, suc, ℤ, pos, negsuc, neg_ℤ, ◌<ℤ◌, ◌≤ℤ◌, ◌-ℤ◌, refl, ap, sym, ◌∙◌, arith}
+use Rattle.std.proofs.Common.{◌≡◌, ℕ, zero, suc, ℤ, pos, negsuc, neg_ℤ, ◌<ℤ◌, ◌-ℤ◌, refl, ap, sym, ◌∙◌, arith}
 use Rattle.std.specs.Int.{int_div_euclid, int_rem_euclid}
 use Rattle.std.proofs.lemmas.Int.{ints}
 use Rattle.cpn_definitions.specs.Operations.{within, divided, floor_div, floor_mod}

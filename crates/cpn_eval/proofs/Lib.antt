@@ -9,3 +9,6 @@ pub mod Turns
 pub mod TermAmounts
 pub mod TokenLevels
 pub mod TokenTerms
+pub mod TokenArms
+pub mod KeptTerms
+pub mod SumTerms

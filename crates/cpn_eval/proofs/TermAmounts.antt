@@ -1,15 +1,15 @@
 -- Coefficients and delays, as the integers that they are.
-use Rattle.std.proofs.Common.{◌≡◌, ℕ, ℤ, ◌+◌, ◌-◌, ◌≤◌, ◌<◌, ◌^◌, min, Bool, true, false, cond, nat_le, List, [], ◌∷◌, ◌++◌, length, drop, map, refl, sym, ap, ◌∙◌, arith, append_assoc, drop_of_length-le}
+use Rattle.std.proofs.Common.{◌≡◌, ℕ, ◌+◌, ◌-◌, ◌≤◌, ◌<◌, ◌^◌, min, Bool, true, false, cond, List, [], ◌∷◌, ◌++◌, length, drop, map, refl, sym, ap, arith, append_assoc, drop_of_length-le}
 use Rattle.std.specs.List.{list_all}
 use Rattle.std.proofs.lemmas.List.{append-nil}
 use Rattle.std.proofs.lemmas.Bool.Decides.{nat_tests}
 use Rattle.cpn_definitions.specs.Value.{PlainValue, unit, boolean, int, constant, text, tuple, bare, applied, list}
-use Rattle.cpn_definitions.specs.Outcome.{Outcome, gives, faults, ◌>>=◌, bad_coefficient, bad_delay}
+use Rattle.cpn_definitions.specs.Outcome.{Outcome, gives, faults, ◌>>=◌, bad_delay}
 use Rattle.cpn_definitions.specs.Operations.{integer_in}
 use Rattle.cpn_definitions.specs.Times.{last_time}
 use Rattle.cpn_definitions.specs.Terms.{PlainTerm, coefficient_of, written_delay, tokens_in, may_be_delayed, delayed_by, all_delayed}
 use Rattle.cpn_eval.specs.declared.term.Term.{Term}
-use Rattle.cpn_eval.specs.Terms.{term_view, terms_view}
+use Rattle.cpn_eval.specs.Terms.{terms_view}
 
 pub coefficient_by_integer : (v : PlainValue) → coefficient_of v ≡ (integer_in v >>= (λ z. coefficient_of (int z)))
 coefficient_by_integer unit = refl

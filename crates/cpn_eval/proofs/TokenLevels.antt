@@ -1,6 +1,6 @@
 -- One level of an inscription of tokens.
-use Rattle.std.proofs.Common.{◌≡◌, ℕ, ℤ, List, [], ◌∷◌, map, Vec, Box, Global, rules}
-use Rattle.cpn_definitions.specs.Inscription.{no_token, one, times, sum_of, later, stamped, chosen, selected, bound, inscriptions_from, arc_arms_from}
+use Rattle.std.proofs.Common.{◌≡◌, ℤ, map, Vec, Box, Global, rules}
+use Rattle.cpn_definitions.specs.Inscription.{one, times, sum_of, later, stamped, chosen, selected, bound, inscriptions_from, arc_arms_from}
 use Rattle.cpn_core.specs.declared.inscriptions.Expr.{Expr}
 use Rattle.cpn_core.specs.declared.inscriptions.MArm.{MArm}
 use Rattle.cpn_core.specs.declared.inscriptions.MExpr.{MExpr, the_lemmas}

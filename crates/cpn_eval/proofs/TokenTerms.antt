@@ -2,7 +2,7 @@
 use Rattle.std.proofs.Common.{◌≡◌, ℕ, List, Vec, Global, Result, subst}
 use Rattle.cpn_definitions.specs.Value.{PlainValue}
 use Rattle.cpn_definitions.specs.Colour.{PlainColour}
-use Rattle.cpn_definitions.specs.Outcome.{Outcome, gives, ◌>>=◌}
+use Rattle.cpn_definitions.specs.Outcome.{Outcome, gives}
 use Rattle.cpn_definitions.specs.Inscription.{PlainExpr, times}
 use Rattle.cpn_definitions.specs.Terms.{PlainTerm, coefficient_of, term_of, lone_term}
 use Rattle.cpn_eval.specs.declared.frames.World.{World}

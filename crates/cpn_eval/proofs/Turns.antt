@@ -87,11 +87,11 @@ pub starts_on
 starts_on w fs n ls o f = then_rest n ls (through w fs) o f ∙ sym (put_back n ls (through w fs) (o >>= f))
 
 -- an arm that matches, or doesn't
-pub arm_found : (bound : Option (List PlainValue)) (vs : List PlainValue) (found : List PlainValue → Outcome PlainValue) (missed : Outcome PlainValue) → with_front [] bound ≡ Some vs → arm_or bound found missed ≡ found vs
+pub arm_found : {A : Type 0} (bound : Option (List PlainValue)) (vs : List PlainValue) (found : List PlainValue → Outcome A) (missed : Outcome A) → with_front [] bound ≡ Some vs → arm_or bound found missed ≡ found vs
 arm_found None vs found missed h = cc
 arm_found (Some ws) vs found missed h = let e : ws ≡ vs = cc in ap found e
 
-pub arm_missed : (bound : Option (List PlainValue)) (found : List PlainValue → Outcome PlainValue) (missed : Outcome PlainValue) → with_front [] bound ≡ None → arm_or bound found missed ≡ missed
+pub arm_missed : {A : Type 0} (bound : Option (List PlainValue)) (found : List PlainValue → Outcome A) (missed : Outcome A) → with_front [] bound ≡ None → arm_or bound found missed ≡ missed
 arm_missed None found missed h = refl
 arm_missed (Some ws) found missed h = cc
 

@@ -1,5 +1,5 @@
 -- What is left to do in the middle of an evaluation, as frames, and what comes of it.
-use Rattle.std.specs.Prelude.{ℕ, ◌≡◌, Bool, true, false, cond, List, [], ◌∷◌, ◌++◌, map, take, Result, Ok, Err}
+use Rattle.std.specs.Prelude.{ℕ, ◌≡◌, true, false, cond, List, [], ◌∷◌, ◌++◌, map, take, Result, Ok, Err}
 use Rattle.cpn_definitions.specs.Value.{PlainValue, boolean, applied}
 use Rattle.cpn_definitions.specs.Outcome.{Outcome, gives, ◌>>=◌}
 use Rattle.cpn_definitions.specs.Inscription.{Head, operation, tupling, listing, calling, PlainExpr, PlainExprs, PlainArms, arms_from}

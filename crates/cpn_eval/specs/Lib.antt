@@ -2,3 +2,4 @@ pub mod Answers
 pub mod Operands
 pub mod Frames
 pub mod Terms
+pub mod Arms

@@ -1,8 +1,8 @@
 -- What an operation of one operand gives for it.
-use Rattle.std.specs.Prelude.{ℕ, pos, Bool, not, List, length, reverse}
-use Rattle.cpn_definitions.specs.Value.{PlainValue, boolean, int, list, from_list}
+use Rattle.std.specs.Prelude.{ℕ, pos, length, reverse}
+use Rattle.cpn_definitions.specs.Value.{PlainValue, int, list, from_list}
 use Rattle.cpn_definitions.specs.Outcome.{Outcome, gives, ◌>>=◌}
-use Rattle.cpn_definitions.specs.Operations.{integer_in, truth_in, string_in, items_in, components_in, head_in, tail_in, component_at}
+use Rattle.cpn_definitions.specs.Operations.{string_in, items_in, components_in, head_in, tail_in, component_at}
 
 abbrev pub head_of : PlainValue → Outcome PlainValue
 head_of v = items_in v >>= head_in

@@ -8,7 +8,7 @@ ghost use Rattle.cpn_eval.specs.Terms.{terms_view, items_view};
 
 use crate::kinds::integer_in;
 use crate::refusals::NoValue;
-use crate::term::Term;
+use crate::term::{Term, Terms};
 use cpn_core::{EvalFault, Value};
 use std::alloc::Global;
 
@@ -55,7 +55,7 @@ pub fn tokens_in(terms: &[Term]) -> u64
 }
 
 /// The terms, where they are not too many behind so many tokens.
-pub fn counted(before: u64, terms: Vec<Term>) -> Result<Vec<Term>, NoValue>
+pub fn counted(before: u64, terms: Terms) -> Result<Terms, NoValue>
     ensures terms { Tells items_view result (counted before (items_view terms)) }
 {
     if before.saturating_add(tokens_in(&terms)) <= MOST_TOKENS {
@@ -66,7 +66,7 @@ pub fn counted(before: u64, terms: Vec<Term>) -> Result<Vec<Term>, NoValue>
 }
 
 /// Each of the terms with a delay more; none of them may come to more than the last time.
-pub fn all_delayed(alloc: Global, terms: Vec<Term>, delay: u64) -> Result<Vec<Term>, NoValue>
+pub fn all_delayed(alloc: Global, terms: Terms, delay: u64) -> Result<Terms, NoValue>
     requires small { delay < 2 ^ 63 }
     ensures terms { Tells items_view result (all_delayed (items_view terms) delay) }
 {

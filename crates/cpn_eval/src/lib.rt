@@ -5,6 +5,7 @@
 
 mod amounts;
 mod arithmetic;
+mod arms;
 mod comparisons;
 mod frames;
 mod kinds;

@@ -1,20 +1,22 @@
 //! Terms of their own: a value with its coefficient, and a delay behind it.
 
-ghost use Rattle.std.specs.Prelude.{◌≡◌, ◌≤◌, [], IfOk};
-ghost use Rattle.cpn_definitions.specs.Inscription.{times};
+ghost use Rattle.std.specs.Prelude.{◌≡◌, ◌≤◌, [], IfOk, IsTrue};
+ghost use Rattle.cpn_definitions.specs.Inscription.{times, later, stamped};
 ghost use Rattle.cpn_definitions.specs.Times.{last_time};
 ghost use Rattle.cpn_definitions.specs.Terms.{term_of, lone_term, is_lone, then_delayed};
 ghost use Rattle.cpn_core.specs.Colours.{colour_view};
 ghost use Rattle.cpn_core.specs.Inscriptions.{expr_view, multiset_view};
 ghost use Rattle.cpn_eval.specs.Answers.{Tells};
 ghost use Rattle.cpn_eval.specs.Frames.{Kept, locals_of, setting_in};
-ghost use Rattle.cpn_eval.specs.Terms.{items_view};
+ghost use Rattle.cpn_eval.specs.Terms.{items_view, stamped_terms, delayed_at, holds_at, terms_at};
 
-use crate::amounts::{all_delayed, coefficient_of, written_delay};
+use crate::amounts::{all_delayed, coefficient_of, counted, written_delay};
 use crate::frames::{Machine, World};
+use crate::kinds::truth_in;
 use crate::refusals::NoValue;
-use crate::term::Term;
-use cpn_core::{Colour, EvalFault, Expr, MExpr};
+use crate::term::{Term, Terms};
+use cpn_core::{Colour, EvalFault, Expr, MExpr, Value};
+use std::alloc::Global;
 
 /// Where the inscription of an arc is evaluated.
 #[derive(Clone, Copy)]
@@ -49,7 +51,7 @@ impl<'w> Arc<'w> {
         machine: &mut Machine<'w>,
         expr: &'w Expr,
         count: u64,
-    ) -> Result<Vec<Term>, NoValue>
+    ) -> Result<Terms, NoValue>
         requires time { self.now.world.time ≤ last_time }
         requires idle { machine.old.frames.items ≡ [] }
         ensures terms { Tells items_view result (term_of (expr_view expr.now) (colour_view self.now.colour.now) (setting_in self.now.world machine.old.visible) (locals_of machine.old) count) }
@@ -74,7 +76,7 @@ impl<'w> Arc<'w> {
         machine: &mut Machine<'w>,
         coefficient: &'w Expr,
         expr: &'w Expr,
-    ) -> Result<Vec<Term>, NoValue>
+    ) -> Result<Terms, NoValue>
         requires time { self.now.world.time ≤ last_time }
         requires idle { machine.old.frames.items ≡ [] }
         ensures terms { Tells items_view result (lone_term (times (expr_view coefficient.now) (expr_view expr.now)) (colour_view self.now.colour.now) (setting_in self.now.world machine.old.visible) (locals_of machine.old)) }
@@ -86,11 +88,7 @@ impl<'w> Arc<'w> {
     }
 
     /// The tokens of a lone term.
-    pub fn lone_term(
-        &self,
-        machine: &mut Machine<'w>,
-        expr: &'w MExpr,
-    ) -> Result<Vec<Term>, NoValue>
+    pub fn lone_term(&self, machine: &mut Machine<'w>, expr: &'w MExpr) -> Result<Terms, NoValue>
         requires time { self.now.world.time ≤ last_time }
         requires idle { machine.old.frames.items ≡ [] }
         ensures terms { Tells items_view result (lone_term (multiset_view expr.now) (colour_view self.now.colour.now) (setting_in self.now.world machine.old.visible) (locals_of machine.old)) }
@@ -114,8 +112,8 @@ impl<'w> Arc<'w> {
         &self,
         machine: &mut Machine<'w>,
         delay: &'w Expr,
-        terms: Vec<Term>,
-    ) -> Result<Vec<Term>, NoValue>
+        terms: Terms,
+    ) -> Result<Terms, NoValue>
         requires time { self.now.world.time ≤ last_time }
         requires idle { machine.old.frames.items ≡ [] }
         ensures terms { Tells items_view result (then_delayed (expr_view delay.now) (setting_in self.now.world machine.old.visible) (locals_of machine.old) (items_view terms)) }
@@ -126,4 +124,94 @@ impl<'w> Arc<'w> {
         let delayed = all_delayed(machine.alloc, terms, number)?;
         Ok(delayed)
     }
+
+    /// Whether the condition holds.
+    pub fn holds(&self, machine: &mut Machine<'w>, condition: &'w Expr) -> Result<bool, NoValue>
+        requires time { self.now.world.time ≤ last_time }
+        requires idle { machine.old.frames.items ≡ [] }
+        ensures truth { Tells (λ b. b) result (holds_at self.now machine.old (expr_view condition.now)) }
+        ensures kept { IfOk result (λ _. Kept machine.old machine.new) }
+    {
+        let value = machine.value_of(&self.world, condition)?;
+        truth_in(&value)
+    }
+
+    /// The tokens of a lone term, behind so many tokens.
+    pub fn lone_behind(
+        &self,
+        machine: &mut Machine<'w>,
+        expr: &'w MExpr,
+        before: u64,
+    ) -> Result<Terms, NoValue>
+        requires time { self.now.world.time ≤ last_time }
+        requires idle { machine.old.frames.items ≡ [] }
+        requires lone { IsTrue (is_lone (multiset_view expr.now)) }
+        ensures terms { Tells items_view result (terms_at self.now machine.old (multiset_view expr.now) before) }
+        ensures kept { IfOk result (λ _. Kept machine.old machine.new) }
+    {
+        let terms = self.lone_term(machine, expr)?;
+        counted(before, terms)
+    }
+
+    /// The tokens of a lone term with a delay, behind so many tokens.
+    pub fn lone_later(
+        &self,
+        machine: &mut Machine<'w>,
+        expr: &'w MExpr,
+        delay: &'w Expr,
+        before: u64,
+    ) -> Result<Terms, NoValue>
+        requires time { self.now.world.time ≤ last_time }
+        requires idle { machine.old.frames.items ≡ [] }
+        requires lone { IsTrue (is_lone (multiset_view expr.now)) }
+        ensures terms { Tells items_view result (terms_at self.now machine.old (later (multiset_view expr.now) (expr_view delay.now)) before) }
+        ensures kept { IfOk result (λ _. Kept machine.old machine.new) }
+    {
+        let term = self.lone_term(machine, expr)?;
+        self.delayed_behind(machine, delay, term, before)
+    }
+
+    /// Terms with the delay that is written behind them, behind so many tokens.
+    fn delayed_behind(
+        &self,
+        machine: &mut Machine<'w>,
+        delay: &'w Expr,
+        terms: Terms,
+        before: u64,
+    ) -> Result<Terms, NoValue>
+        requires time { self.now.world.time ≤ last_time }
+        requires idle { machine.old.frames.items ≡ [] }
+        ensures terms { Tells items_view result (delayed_at self.now machine.old (expr_view delay.now) (items_view terms) before) }
+        ensures kept { IfOk result (λ _. Kept machine.old machine.new) }
+    {
+        let delayed = self.then_delayed(machine, delay, terms)?;
+        counted(before, delayed)
+    }
+
+    /// The tokens of a lone term with a time stamp, behind so many tokens.
+    pub fn lone_stamped(
+        &self,
+        machine: &mut Machine<'w>,
+        expr: &'w MExpr,
+        stamp: i64,
+        before: u64,
+    ) -> Result<Terms, NoValue>
+        requires time { self.now.world.time ≤ last_time }
+        requires idle { machine.old.frames.items ≡ [] }
+        requires lone { IsTrue (is_lone (multiset_view expr.now)) }
+        ensures terms { Tells items_view result (terms_at self.now machine.old (stamped (multiset_view expr.now) stamp) before) }
+        ensures kept { IfOk result (λ _. Kept machine.old machine.new) }
+    {
+        let term = self.lone_term(machine, expr)?;
+        let terms = then_stamped(machine.alloc, stamp, term)?;
+        counted(before, terms)
+    }
+}
+
+/// Terms with the time stamp that is written behind them.
+pub fn then_stamped(alloc: Global, stamp: i64, terms: Terms) -> Result<Terms, NoValue>
+    ensures terms { Tells items_view result (stamped_terms stamp (items_view terms)) }
+{
+    let delay = written_delay(&Value::Int(stamp))?;
+    all_delayed(alloc, terms, delay)
 }

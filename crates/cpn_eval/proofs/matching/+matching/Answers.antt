@@ -1,5 +1,5 @@
 -- A pattern binds what the definition says, form by form.
-use Rattle.std.proofs.Common.{List, Some, None, if◌then◌else◌, map, refl, ap, sym, ◌∙◌, rules, arith}
+use Rattle.std.proofs.Common.{Some, None, if◌then◌else◌, map, refl, ap, sym, ◌∙◌, rules, arith}
 use Rattle.std.proofs.lemmas.Grind.{common_steps}
 use Rattle.cpn_core.specs.Views.{value_view, values_view}
 use Rattle.cpn_core.specs.Inscriptions.{pattern_view}

@@ -1,5 +1,5 @@
 -- A frame makes of the value that it waits for what the definition says, frame by frame.
-use Rattle.std.proofs.Common.{map, refl, rules, ◌++◌, ◌∷◌, []}
+use Rattle.std.proofs.Common.{map, refl, ◌++◌, ◌∷◌, []}
 use Rattle.cpn_core.specs.Views.{value_view}
 use Rattle.cpn_definitions.specs.Inscription.{arms_from}
 use Rattle.cpn_definitions.specs.Meaning.{meant_among}
