@@ -15,7 +15,7 @@ use Rattle.cpn_definitions.specs.Meaning.{PlainBinding}
 use Rattle.cpn_definitions.specs.Terms.{delay_of}
 use Rattle.cpn_definitions.specs.Occurrence.{PlainElement, Needed, Made, needed_cmp, made_cmp, threshold, are_covered, covered, needs_of, outputs_of, after}
 use Rattle.cpn_definitions.specs.Legal.{LeastTime, Legal}
-use Rattle.cpn_definitions.specs.Sound.{IsSoundArc, IsSoundInput, IsSoundTransition, IsMarking, IsUntimed}
+use Rattle.cpn_definitions.specs.Sound.{IsSoundArc, IsSoundInput, IsSoundTransition, IsSound, IsMarking, IsUntimed}
 use Rattle.cpn_definitions.proofs.UntimedNets.{legal_is_at_clock}
 
 -- ---- a timed place A, and a transition that takes x twice from it and gives x + 0 to an untimed place B
@@ -389,6 +389,10 @@ input_without_its_term sound = no_terms sound.terms_are
   where
     no_terms : {A : Type 0} {x : A} → [] ≡ x ∷ [] → ⊥
     no_terms e = cc
+
+-- nor is a net with a function that reads a variable
+function_that_reads : IsSound (record plain_net { functions = record { parameters = 0; body = variable 0 } ∷ [] }) → ⊥
+function_that_reads sound = let e : 0 ∷ [] ≡ [] = sound.functions_closed.0 in cc
 
 -- ---- markings that are none of its place
 

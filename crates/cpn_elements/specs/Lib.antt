@@ -2,4 +2,5 @@ pub mod Guards
 pub mod Summed
 pub mod Needs
 pub mod Outputs
+pub mod Delays
 pub mod Worked

@@ -10,8 +10,10 @@ ghost use Rattle.cpn_core.specs.Elements.{element_view};
 ghost use Rattle.cpn_core.specs.Inscriptions.{expr_view, funs_view};
 ghost use Rattle.cpn_core.specs.Nets.{arc_view, arcs_view, net_view};
 ghost use Rattle.cpn_core.specs.Views.{value_view};
+ghost use Rattle.cpn_core.specs.Faults.{fault_view};
 ghost use Rattle.cpn_eval.specs.Answers.{Answers};
 ghost use Rattle.cpn_eval.specs.Terms.{term_view};
+ghost use Rattle.cpn_elements.specs.Delays.{DelayAnswers};
 ghost use Rattle.cpn_elements.specs.Summed.{and_these};
 ghost use Rattle.cpn_elements.specs.Outputs.{made_of};
 
@@ -65,23 +67,25 @@ fn transition_delay(
         None => Ok(0),
         Some(expr) => {
             let value = eval(alloc, funs, expr, binding, time)?;
-            let delay = delay_of(&value)?;
-            Ok(delay)
+            match delay_of(&value) {
+                Ok(delay) => Ok(delay),
+                Err(fault) => Err(Refused::Fault(fault)),
+            }
         }
     }
 }
 
 // The delay that the value is: a whole number from 0 to 2^62.
-fn delay_of(value: &Value) -> Result<u64, Refused>
+fn delay_of(value: &Value) -> Result<u64, EvalFault>
     requires meaning { HasMeaning (delay_of (value_view value.now)) }
-    ensures delay { Answers (λ delay. delay) result (delay_of (value_view value.now)) }
+    ensures delay { DelayAnswers result (delay_of (value_view value.now)) }
     ensures bound { IfOk result (λ delay. delay ≤ last_time) }
 {
     let Value::Int(number) = value else {
         unreachable!()
     };
     if *number < 0 || *number > 1 << 62 {
-        return Err(Refused::Fault(EvalFault::BadDelay));
+        return Err(EvalFault::BadDelay);
     }
     Ok(*number as u64)
 }
