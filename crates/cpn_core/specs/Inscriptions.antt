@@ -1,5 +1,5 @@
 -- The plain inscriptions that the inscriptions of the program stand for.
-use Rattle.std.specs.Prelude.{ℕ, List, map, Option, Some, None}
+use Rattle.std.specs.Prelude.{List, map, Some, None}
 use Rattle.cpn_definitions.specs.Inscription.{Operation, addition, subtraction, multiplication, division, remainder, negation, concatenation, equality, inequality, less_than, at_most, greater_than, at_least, complement, cons, appending, head, tail, list_length, reversal, membership, string_size, component, operation, tupling, listing, constructing, calling, PlainPattern, PlainPatterns, any_pattern, variable_pattern, literal_pattern, tuple_pattern, list_pattern, cons_pattern, bare_pattern, applied_pattern, PlainExpr, PlainExprs, literal, variable, local, the_time, apply, conjunction, disjunction, choose, select, bind, accumulate, no_exprs, more_exprs, ArcInscription, no_token, one, times, sum_of, later, stamped, chosen, selected, bound, PlainFunction, Functions, patterns_from, exprs_from, arms_from, inscriptions_from, arc_arms_from}
 use Rattle.cpn_definitions.specs.Net as plain
 use Rattle.cpn_core.specs.declared.inscriptions.Op.{Op}

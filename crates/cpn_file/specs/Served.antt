@@ -1,9 +1,6 @@
 -- The colour set of the places and variables that are served today. Source: own choice.
-use Rattle.std.specs.Prelude.{◌≡◌, ◌^◌, ℤ, pos, neg_ℤ, ◌-◌, Bool, true, false, [], None}
-use Rattle.std.specs.List.{AllByRecursion}
-use Rattle.cpn_definitions.specs.Colour.{PlainColour, int_shape, admits}
-use Rattle.cpn_definitions.specs.Inscription.{literal, variable, ArcInscription, one}
-use Rattle.cpn_definitions.specs.Net.{PlainTransition, PlainNet}
+use Rattle.std.specs.Prelude.{◌^◌, ℤ, pos, neg_ℤ, ◌-◌, false}
+use Rattle.cpn_definitions.specs.Colour.{PlainColour, int_shape}
 
 -- the least and the greatest integer of 64 bits
 abbrev pub least_int : ℤ
