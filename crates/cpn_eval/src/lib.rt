@@ -6,8 +6,10 @@
 mod amounts;
 mod arithmetic;
 mod arms;
+mod backwards;
 mod comparisons;
 mod frames;
+mod held;
 mod kinds;
 mod lists;
 mod locals;
