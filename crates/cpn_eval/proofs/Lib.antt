@@ -13,3 +13,4 @@ pub mod TokenArms
 pub mod KeptTerms
 pub mod SumTerms
 pub mod BackwardLists
+pub mod SpareLocals

@@ -2,7 +2,6 @@
 use Rattle.std.specs.Prelude.{List, map, reverse, Vec}
 use Rattle.std.specs.declared.alloc.Global.{Global}
 use Rattle.cpn_definitions.specs.Value.{PlainValue, list}
-use Rattle.cpn_core.specs.declared.values.Value.{Value}
 use Rattle.cpn_core.specs.Views.{value_view, values_view}
 use Rattle.cpn_eval.specs.declared.held.Backwards.{Backwards}
 use Rattle.cpn_eval.specs.declared.held.Held.{Held}

@@ -4,3 +4,4 @@ pub mod Frames
 pub mod Terms
 pub mod Arms
 pub mod Held
+pub mod Spare

@@ -18,8 +18,10 @@ mod machine;
 mod matching;
 mod multisets;
 mod operations;
+mod reach;
 mod refusals;
 mod running;
+mod spare;
 mod term;
 
 pub use multisets::eval_mset;

@@ -12,7 +12,7 @@ use crate::refusals::NoValue;
 use cpn_core::{Binding, Value};
 
 /// A copy of the local of that number.
-pub fn local(locals: &[Held], number: u32) -> Result<Held, NoValue>
+pub fn copied(locals: &[Held], number: u32) -> Result<Held, NoValue>
     ensures local { Tells held_view result (given (slice_get (map held_view locals.now) number)) }
 {
     match locals.get(number as usize) {

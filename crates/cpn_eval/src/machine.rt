@@ -1,7 +1,8 @@
 //! The turns of an evaluation.
 
-ghost use Rattle.std.specs.Prelude.{◌≡◌, ◌≤◌, ◌<◌, ◌^◌, ℕ, List, [], ◌∷◌, ◌++◌, map, length};
+ghost use Rattle.std.specs.Prelude.{slice_get, ◌≡◌, ◌≤◌, ◌<◌, ◌^◌, ℕ, List, [], ◌∷◌, ◌++◌, map, length};
 ghost use Rattle.cpn_definitions.specs.Inscription.{arms_from};
+ghost use Rattle.cpn_definitions.specs.Outcome.{given};
 ghost use Rattle.cpn_definitions.specs.Meaning.{meant_among, done_with};
 ghost use Rattle.cpn_definitions.specs.Times.{last_time};
 ghost use Rattle.cpn_core.specs.Views.{value_view};
@@ -13,10 +14,11 @@ use crate::backwards::{hold_all, values_of};
 use crate::frames::{Frame, Head, Machine, Now, Turn, World};
 use crate::held::Held;
 use crate::kinds::{items_in, sized, truth_in};
-use crate::locals::{local, variable};
+use crate::locals::{copied, variable};
 use crate::matching::matches;
 use crate::operations::operate;
 use crate::refusals::NoValue;
+use crate::spare::{is_spare, taken};
 use cpn_core::{Arm, EvalFault, Expr, Value};
 use std::collections::VecDeque;
 use std::mem;
@@ -47,7 +49,7 @@ impl<'w> Machine<'w> {
         match expr {
             Expr::Lit(value) => Ok(Now::Given(Held::Plain(value.copy()?))),
             Expr::Var(number) => Ok(Now::Given(Held::Plain(variable(world.binding, *number)?))),
-            Expr::Local(number) => Ok(Now::Given(local(&self.locals, *number)?)),
+            Expr::Local(number) => self.local(world, *number),
             Expr::Time => Ok(Now::Given(Held::Plain(Value::Int(world.time as i64)))),
             Expr::Op(op, parts) => self.parts(world, Head::Op(*op), Vec::new(self.alloc), parts),
             Expr::Tuple(parts) => self.parts(world, Head::Tuple, Vec::new(self.alloc), parts),
@@ -65,6 +67,19 @@ impl<'w> Machine<'w> {
             Expr::Case(subject, arms) => self.wait(world, Frame::Arms(arms), subject),
             Expr::Let(bound, body) => self.wait(world, Frame::Body(body), bound),
             Expr::Fold { list, start, body } => self.wait(world, Frame::Start(start, body), list),
+        }
+    }
+
+    /// The local of that number: itself where nothing that waits needs it any more, and elsewhere a copy of it.
+    fn local(&mut self, world: &World<'w>, number: u32) -> Result<Now<'w>, NoValue>
+        ensures { Goes world.now self.new result (after_outcome world.now self.old (given (slice_get (locals_of self.old) number))) }
+    {
+        if is_spare(&self.frames, number as usize) {
+            let value = taken(&mut self.locals, number as usize)?;
+            Ok(Now::Given(value))
+        } else {
+            let value = copied(&self.locals, number)?;
+            Ok(Now::Given(value))
         }
     }
 

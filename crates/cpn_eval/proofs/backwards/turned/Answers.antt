@@ -1,6 +1,6 @@
 -- The list that is turned round, with the item before it, is the definition's.
-use Rattle.std.proofs.Common.{◌≡◌, ◌+◌, ap, sym, ◌∙◌, reverse, map, arith, rules}
-use Rattle.cpn_definitions.specs.Value.{list, nodes_of, from_list}
+use Rattle.std.proofs.Common.{ap, sym, ◌∙◌, map, arith}
+use Rattle.cpn_definitions.specs.Value.{list, nodes_of}
 use Rattle.cpn_definitions.specs.Operations.{consed}
 use Rattle.cpn_definitions.specs.Outcome.{gives}
 use Rattle.cpn_core.specs.Views.{value_view, values_view}

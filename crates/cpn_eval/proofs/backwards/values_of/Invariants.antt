@@ -1,6 +1,6 @@
 -- The values so far and those that are left are all of them.
-use Rattle.std.proofs.Common.{◌≡◌, ◌++◌, map, length}
-use Rattle.std.specs.Vec.Iter.{into_iter_items, into_iter_len}
+use Rattle.std.proofs.Common.{◌≡◌, ◌++◌, map}
+use Rattle.std.specs.Vec.Iter.{into_iter_items}
 use Rattle.cpn_core.specs.Views.{value_view}
 use Rattle.cpn_eval.specs.Held.{held_view}
 use Rattle.cpn_eval.proofs.backwards.values_of.Given as goal

@@ -1,7 +1,6 @@
 -- The copies of the items are those of the list, and as many nodes.
-use Rattle.std.proofs.Common.{ap, sym, ◌∙◌, reverse}
+use Rattle.std.proofs.Common.{ap, sym, ◌∙◌}
 use Rattle.cpn_definitions.specs.Value.{list, nodes_of}
-use Rattle.cpn_core.specs.Views.{values_view}
 use Rattle.cpn_eval.proofs.BackwardLists.{same_backwards}
 use Rattle.cpn_eval.proofs.held.Backwards.copy.Goals as goal
 

@@ -1,6 +1,6 @@
 -- The list with the item before it is the definition's.
 use Rattle.std.proofs.Common.{ap, sym, ◌∙◌, reverse, arith}
-use Rattle.cpn_definitions.specs.Value.{list, nodes_of}
+use Rattle.cpn_definitions.specs.Value.{list}
 use Rattle.cpn_core.specs.Views.{value_view, values_view}
 use Rattle.cpn_definitions.specs.Outcome.{gives}
 use Rattle.cpn_eval.proofs.BackwardLists.{put_before, too_long, put_first}
