@@ -23,6 +23,8 @@ mod refusals;
 mod running;
 mod spare;
 mod term;
+#[cfg(test)]
+mod tests;
 
 pub use multisets::eval_mset;
 pub use refusals::Refused;

@@ -61,7 +61,7 @@ pub fn eval_mset(
 
 /// The terms of the inscription, behind so many tokens.
 #[cycle(terms)]
-fn terms_behind<'w>(
+pub fn terms_behind<'w>(
     expr: &'w MExpr,
     arc: &Arc<'w>,
     machine: &mut Machine<'w>,
