@@ -1,20 +1,21 @@
 -- What is told of a part of an inscription of tokens, in the machine that the parts before it left as it was.
 use Rattle.std.proofs.Common.{◌≡◌, ℕ, true, false, List, ◌++◌, length, take, map, Vec, Global, Result, subst, refl, sym, ap, ◌∙◌}
-use Rattle.std.proofs.lemmas.List.{take-map}
+use Rattle.std.proofs.lemmas.List.{take-map, length-map}
 use Rattle.std.proofs.Math.Seq.{take-append_seam}
 use Rattle.cpn_definitions.specs.Outcome.{Outcome, gives}
 use Rattle.cpn_definitions.specs.Inscription.{PlainExpr, ArcInscription, later}
 use Rattle.cpn_definitions.specs.Terms.{PlainTerm, lone_term, is_lone, then_delayed}
-use Rattle.cpn_core.specs.declared.values.Value.{Value}
-use Rattle.cpn_core.specs.Views.{value_view}
+use Rattle.cpn_definitions.specs.Value.{PlainValue}
 use Rattle.cpn_core.specs.Colours.{colour_view}
 use Rattle.cpn_eval.specs.declared.frames.Machine.{Machine}
 use Rattle.cpn_eval.specs.declared.lone_terms.Arc.{Arc}
 use Rattle.cpn_eval.specs.declared.refusals.NoValue.{NoValue}
 use Rattle.cpn_eval.specs.declared.term.Term.{Term}
-use Rattle.cpn_eval.specs.Answers.{Tells}
+use Rattle.cpn_eval.specs.declared.held.Held.{Held}
+use Rattle.cpn_eval.specs.Held.{held_view}
+use Rattle.cpn_eval.specs.Answers.{Stops, Tells}
 use Rattle.cpn_eval.specs.Frames.{Kept, setting_in, locals_of}
-use Rattle.cpn_eval.specs.Terms.{items_view, delayed_at, terms_at}
+use Rattle.cpn_eval.specs.Terms.{items_view, delayed_at, terms_at, terms_with}
 
 pub told_same : (answer : Result (Vec Term Global) NoValue) (o p : Outcome (List PlainTerm)) → o ≡ p → Tells items_view answer p → Tells items_view answer o
 told_same answer o p h told = let P : Outcome (List PlainTerm) → Type 0 = λ x. Tells items_view answer x in subst P (sym h) told
@@ -43,12 +44,23 @@ later_told answer arc m n e delay before terms lone kept given told =
 
 -- the locals of an inner inscription are forgotten behind it
 pub forgotten
-    : (locals found after : List Value) (count : ℕ)
+    : (locals after : List Held) (found : List PlainValue) (count : ℕ)
     → count ≡ length locals
-    → map value_view after ≡ map value_view (locals ++ found)
-    → map value_view (take count after) ≡ map value_view locals
-forgotten locals found after count hc h =
-    sym (take-map value_view count after)
+    → map held_view after ≡ map held_view locals ++ found
+    → map held_view (take count after) ≡ map held_view locals
+forgotten locals after found count hc h =
+    sym (take-map held_view count after)
     ∙ ap (take count) h
-    ∙ take-map value_view count (locals ++ found)
-    ∙ ap (map value_view) (rw hc (take-append_seam locals found))
+    ∙ rw (hc ∙ sym (length-map locals held_view)) (take-append_seam (map held_view locals) found)
+
+-- what stops an inner inscription among more locals
+pub stops_with
+    : (reason : NoValue) (arc : Arc) (m n : Machine) (more : List PlainValue) (e : ArcInscription) (before : ℕ)
+    → n.visible ≡ m.visible
+    → locals_of n ≡ locals_of m ++ more
+    → Stops reason (terms_at arc n e before)
+    → Stops reason (terms_with arc m more e before)
+stops_with reason arc m n more e before hv hl h =
+    let P : Outcome (List PlainTerm) → Type 0 = λ o. Stops reason o in
+    let same : terms_at arc n e before ≡ terms_with arc m more e before = rw (hv, hl) refl in
+    subst P same h

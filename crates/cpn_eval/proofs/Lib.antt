@@ -12,3 +12,5 @@ pub mod TokenTerms
 pub mod TokenArms
 pub mod KeptTerms
 pub mod SumTerms
+pub mod BackwardLists
+pub mod SpareLocals

@@ -3,11 +3,11 @@ use Rattle.std.proofs.Common.{◌≡◌, ◌≢◌, List, [], ◌∷◌, ◌++�
 use Rattle.cpn_definitions.specs.Value.{PlainValue}
 use Rattle.cpn_definitions.specs.Outcome.{no_meaning}
 use Rattle.cpn_definitions.specs.Operations.{operated}
-use Rattle.cpn_core.specs.declared.values.Value.{Value}
 use Rattle.cpn_core.specs.declared.inscriptions.Op.{Op}
 use Rattle.cpn_core.specs.declared.inscriptions.Op.TheVariants as ops
-use Rattle.cpn_core.specs.Views.{value_view}
 use Rattle.cpn_core.specs.Inscriptions.{op_view}
+use Rattle.cpn_eval.specs.declared.held.Held.{Held}
+use Rattle.cpn_eval.specs.Held.{held_view}
 
 of_none : (op : Op) → operated (op_view op) [] ≡ no_meaning
 of_none ops.Add = refl
@@ -60,20 +60,20 @@ of_three ops.Size v w x vs = refl
 of_three (ops.Nth k) v w x vs = refl
 
 -- no operand
-pub none_given : (op : Op) (vs : List Value) → vs ≡ [] → operated (op_view op) (map value_view vs) ≡ no_meaning
+pub none_given : (op : Op) (vs : List Held) → vs ≡ [] → operated (op_view op) (map held_view vs) ≡ no_meaning
 none_given op vs h = rw h (of_none op)
 
 -- the operand that was taken off the end of one is that one
-pub one_popped : (vs rest : List Value) (v : Value) → vs ≡ rest ++ v ∷ [] → rest ≡ [] → map value_view vs ≡ value_view v ∷ []
+pub one_popped : (vs rest : List Held) (v : Held) → vs ≡ rest ++ v ∷ [] → rest ≡ [] → map held_view vs ≡ held_view v ∷ []
 one_popped vs rest v h e = rw (h, e) refl
 
 -- the two that were taken off the end of two are those two
-pub two_popped : (vs most rest : List Value) (left right : Value) → vs ≡ most ++ right ∷ [] → most ≡ rest ++ left ∷ [] → rest ≡ [] → map value_view vs ≡ value_view left ∷ value_view right ∷ []
+pub two_popped : (vs most rest : List Held) (left right : Held) → vs ≡ most ++ right ∷ [] → most ≡ rest ++ left ∷ [] → rest ≡ [] → map held_view vs ≡ held_view left ∷ held_view right ∷ []
 two_popped vs most rest left right h g e = rw (h, g, e) refl
 
 -- more than two operands
-pub more_given : (op : Op) (vs most rest : List Value) (left right : Value) → vs ≡ most ++ right ∷ [] → most ≡ rest ++ left ∷ [] → rest ≢ [] → operated (op_view op) (map value_view vs) ≡ no_meaning
+pub more_given : (op : Op) (vs most rest : List Held) (left right : Held) → vs ≡ most ++ right ∷ [] → most ≡ rest ++ left ∷ [] → rest ≢ [] → operated (op_view op) (map held_view vs) ≡ no_meaning
 more_given op vs most [] left right h g e = absurd (e refl)
-more_given op vs most (v ∷ []) left right h g e = rw (h, g) (of_three op (value_view v) (value_view left) (value_view right) [])
-more_given op vs most (v ∷ w ∷ []) left right h g e = rw (h, g) (of_three op (value_view v) (value_view w) (value_view left) (value_view right ∷ []))
-more_given op vs most (v ∷ w ∷ x ∷ rest) left right h g e = rw (h, g) (of_three op (value_view v) (value_view w) (value_view x) (map value_view ((rest ++ left ∷ []) ++ right ∷ [])))
+more_given op vs most (v ∷ []) left right h g e = rw (h, g) (of_three op (held_view v) (held_view left) (held_view right) [])
+more_given op vs most (v ∷ w ∷ []) left right h g e = rw (h, g) (of_three op (held_view v) (held_view w) (held_view left) (held_view right ∷ []))
+more_given op vs most (v ∷ w ∷ x ∷ rest) left right h g e = rw (h, g) (of_three op (held_view v) (held_view w) (held_view x) (map held_view ((rest ++ left ∷ []) ++ right ∷ [])))

@@ -13,6 +13,9 @@ use Rattle.cpn_core.specs.declared.inscriptions.Expr.{Expr}
 use Rattle.cpn_core.specs.declared.inscriptions.Arm.{Arm}
 use Rattle.cpn_core.specs.Faults.{fault_view}
 use Rattle.cpn_core.specs.Views.{value_view}
+use Rattle.cpn_eval.specs.declared.held.Held.{Held}
+use Rattle.cpn_eval.specs.declared.held.Held.TheVariants as helds
+use Rattle.cpn_eval.specs.Held.{held_view}
 use Rattle.cpn_core.specs.Inscriptions.{pattern_view, expr_view, exprs_view, arm_view}
 use Rattle.cpn_eval.specs.declared.frames.World.{World}
 use Rattle.cpn_eval.specs.declared.frames.Frame.{Frame}
@@ -116,7 +119,7 @@ forget_last_of
     → count ≡ length m.locals.items
     → map frame_view above ≡ map frame_view below ++ forget (length (locals_of m)) ∷ []
 forget_last_of m below above count hf hc =
-    ap (map frame_view) hf ∙ map-append frame_view below (frames.Forget count ∷ []) ∙ ap (λ k. map frame_view below ++ forget k ∷ []) (hc ∙ sym (length-map m.locals.items value_view))
+    ap (map frame_view) hf ∙ map-append frame_view below (frames.Forget count ∷ []) ∙ ap (λ k. map frame_view below ++ forget k ∷ []) (hc ∙ sym (length-map m.locals.items held_view))
 
 forget_last
     : (m m' : Machine) (count : ℕ)
@@ -132,7 +135,7 @@ pub wait_goes
     → m'.frames.items ≡ m.frames.items ++ frame ∷ []
     → after_outcome w m' o ≡ after_waiting w m (frame_view frame) o
 wait_goes w m m' frame o hv hl hf =
-    moved w (λ n ls. o) m.visible m'.visible (locals_of m) (locals_of m') (frames_of m ++ frame_view frame ∷ []) (frames_of m') hv (ap (map value_view) hl) (ap (map frame_view) hf ∙ map-append frame_view m.frames.items (frame ∷ []))
+    moved w (λ n ls. o) m.visible m'.visible (locals_of m) (locals_of m') (frames_of m ++ frame_view frame ∷ []) (frames_of m') hv (ap (map held_view) hl) (ap (map frame_view) hf ∙ map-append frame_view m.frames.items (frame ∷ []))
     ∙ waits w (frames_of m) (frame_view frame) m.visible (locals_of m) o
 
 pub waiting_goes
@@ -151,19 +154,19 @@ pub next_goes
 next_goes w m head done e es = parts_more w (frames_of m) m.visible (locals_of m) head done e es
 
 pub parts_goes
-    : (w : World) (m : Machine) (head : Head) (done : List Value) (es' es : List Expr) (e : PlainExpr)
+    : (w : World) (m : Machine) (head : Head) (done : List Held) (es' es : List Expr) (e : PlainExpr)
     → done ≡ []
     → es' ≡ es
     → e ≡ apply head (exprs_view es)
-    → after_outcome w m (rest_of w m.visible (locals_of m) head (map value_view done) (exprs_view es')) ≡ after_outcome w m (meant_at w m.visible (locals_of m) e)
+    → after_outcome w m (rest_of w m.visible (locals_of m) head (map held_view done) (exprs_view es')) ≡ after_outcome w m (meant_at w m.visible (locals_of m) e)
 parts_goes w m head done es' es e hd he h = rw (hd, he, h) refl
 
 pub part_goes
-    : (w : World) (m : Machine) (head : Head) (done done' : List Value) (v : Value) (es : PlainExprs)
+    : (w : World) (m : Machine) (head : Head) (done done' : List Held) (v : Held) (es : PlainExprs)
     → done' ≡ done ++ v ∷ []
-    → after_outcome w m (rest_of w m.visible (locals_of m) head (map value_view done') es) ≡ after_frame w m (parts head (map value_view done) es) (value_view v)
+    → after_outcome w m (rest_of w m.visible (locals_of m) head (map held_view done') es) ≡ after_frame w m (parts head (map held_view done) es) (held_view v)
 part_goes w m head done done' v es h =
-    rw (h, map-append) (sym (put_back m.visible (locals_of m) (through w (frames_of m)) (rest_of w m.visible (locals_of m) head (map value_view done ++ value_view v ∷ []) es)))
+    rw (h, map-append) (sym (put_back m.visible (locals_of m) (through w (frames_of m)) (rest_of w m.visible (locals_of m) head (map held_view done ++ held_view v ∷ []) es)))
 
 -- a frame whose value comes back to where it was
 pub back_goes
@@ -174,15 +177,15 @@ back_goes w m frame v o h =
     sym (put_back m.visible (locals_of m) (through w (frames_of m)) o) ∙ ap (λ x. x >>= through w (frames_of m)) (sym h)
 
 pub body_goes
-    : (w : World) (m m' : Machine) (body : PlainExpr) (v : Value) (count : ℕ)
+    : (w : World) (m m' : Machine) (body : PlainExpr) (v : Held) (count : ℕ)
     → m'.visible ≡ m.visible
     → m'.locals.items ≡ m.locals.items ++ v ∷ []
     → m'.frames.items ≡ m.frames.items ++ frames.Forget count ∷ []
     → count ≡ length m.locals.items
-    → after_outcome w m' (meant_at w m'.visible (locals_of m') body) ≡ after_outcome w m (meant_at w m.visible (locals_of m ++ value_view v ∷ []) body)
+    → after_outcome w m' (meant_at w m'.visible (locals_of m') body) ≡ after_outcome w m (meant_at w m.visible (locals_of m ++ held_view v ∷ []) body)
 body_goes w m m' body v count hv hl hf hc =
-    moved w (λ n ls. meant_at w n ls body) m.visible m'.visible (locals_of m ++ value_view v ∷ []) (locals_of m') (frames_of m ++ forget (length (locals_of m)) ∷ []) (frames_of m') hv (ap (map value_view) hl ∙ map-append value_view m.locals.items (v ∷ [])) (forget_last m m' count hf hc)
-    ∙ forgets w (frames_of m) m.visible (locals_of m) (value_view v ∷ []) (meant_at w m.visible (locals_of m ++ value_view v ∷ []) body)
+    moved w (λ n ls. meant_at w n ls body) m.visible m'.visible (locals_of m ++ held_view v ∷ []) (locals_of m') (frames_of m ++ forget (length (locals_of m)) ∷ []) (frames_of m') hv (ap (map held_view) hl ∙ map-append held_view m.locals.items (v ∷ [])) (forget_last m m' count hf hc)
+    ∙ forgets w (frames_of m) m.visible (locals_of m) (held_view v ∷ []) (meant_at w m.visible (locals_of m ++ held_view v ∷ []) body)
 
 pub forget_goes
     : (w : World) (m m' : Machine) (count : ℕ) (v : PlainValue)
@@ -191,7 +194,7 @@ pub forget_goes
     → m'.frames.items ≡ m.frames.items
     → after_value w m' v ≡ after_frame w m (forget count) v
 forget_goes w m m' count v hv hl hf =
-    moved w (λ n ls. gives v) m.visible m'.visible (take count (locals_of m)) (locals_of m') (frames_of m) (frames_of m') hv (ap (map value_view) hl ∙ sym (take-map value_view count m.locals.items)) (ap (map frame_view) hf)
+    moved w (λ n ls. gives v) m.visible m'.visible (take count (locals_of m)) (locals_of m') (frames_of m) (frames_of m') hv (ap (map held_view) hl ∙ sym (take-map held_view count m.locals.items)) (ap (map frame_view) hf)
 
 pub start_goes
     : (w : World) (m : Machine) (e body : PlainExpr) (v : PlainValue) (items queue : List Value)
@@ -204,36 +207,36 @@ start_goes w m e body v items queue h hq =
     ∙ ap (λ o. ((o >>= (λ vs. meant_at w m.visible (locals_of m) e >>= folded w m.visible (locals_of m) body vs)) >>= given_at m.visible (locals_of m)) >>= through w (frames_of m)) (sym h)
 
 pub fold_goes
-    : (w : World) (m m' : Machine) (frame : Frame) (items rest : List Value) (x a : Value) (body : PlainExpr) (count : ℕ)
+    : (w : World) (m m' : Machine) (frame : Frame) (items rest : List Value) (x : Value) (a : Held) (body : PlainExpr) (count : ℕ)
     → m'.visible ≡ m.visible
-    → m'.locals.items ≡ (m.locals.items ++ x ∷ []) ++ a ∷ []
+    → m'.locals.items ≡ (m.locals.items ++ helds.Plain x ∷ []) ++ a ∷ []
     → m'.frames.items ≡ (m.frames.items ++ frame ∷ []) ++ frames.Forget count ∷ []
     → frame_view frame ≡ steps (map value_view rest) body
     → count ≡ length m.locals.items
     → items ≡ x ∷ rest
-    → after_outcome w m' (meant_at w m'.visible (locals_of m') body) ≡ after_outcome w m (folded w m.visible (locals_of m) body (map value_view items) (value_view a))
+    → after_outcome w m' (meant_at w m'.visible (locals_of m') body) ≡ after_outcome w m (folded w m.visible (locals_of m) body (map value_view items) (held_view a))
 fold_goes w m m' frame items rest x a body count hv hl hf hs hc hi =
-    moved w (λ n ls. meant_at w n ls body) m.visible m'.visible (locals_of m ++ value_view x ∷ value_view a ∷ []) (locals_of m') ((frames_of m ++ steps (map value_view rest) body ∷ []) ++ forget (length (locals_of m)) ∷ []) (frames_of m')
+    moved w (λ n ls. meant_at w n ls body) m.visible m'.visible (locals_of m ++ value_view x ∷ held_view a ∷ []) (locals_of m') ((frames_of m ++ steps (map value_view rest) body ∷ []) ++ forget (length (locals_of m)) ∷ []) (frames_of m')
     hv
-    (ap (map value_view) (hl ∙ append_assoc m.locals.items (x ∷ []) (a ∷ [])) ∙ map-append value_view m.locals.items (x ∷ a ∷ []))
+    (ap (map held_view) (hl ∙ append_assoc m.locals.items (helds.Plain x ∷ []) (a ∷ [])) ∙ map-append held_view m.locals.items (helds.Plain x ∷ a ∷ []))
     (forget_last_of m (m.frames.items ++ frame ∷ []) m'.frames.items count hf hc ∙ ap (λ fs. fs ++ forget (length (locals_of m)) ∷ []) (map-append frame_view m.frames.items (frame ∷ []) ∙ ap (λ f. frames_of m ++ f ∷ []) hs))
-    ∙ steps_on w (frames_of m) m.visible (locals_of m) body (value_view x) (map value_view rest) (value_view a)
-    ∙ ap (λ vs. after_outcome w m (folded w m.visible (locals_of m) body (map value_view vs) (value_view a))) (sym hi)
+    ∙ steps_on w (frames_of m) m.visible (locals_of m) body (value_view x) (map value_view rest) (held_view a)
+    ∙ ap (λ vs. after_outcome w m (folded w m.visible (locals_of m) body (map value_view vs) (held_view a))) (sym hi)
 
 pub enter_goes
-    : (w : World) (m m' : Machine) (k : ℕ) (args caller : List Value) (callers : Frame) (body : PlainExpr)
+    : (w : World) (m m' : Machine) (k : ℕ) (args caller : List Held) (callers : Frame) (body : PlainExpr)
     → m'.visible ≡ k
     → m'.locals.items ≡ args
     → m'.frames.items ≡ m.frames.items ++ callers ∷ []
-    → frame_view callers ≡ back m.visible (map value_view m.locals.items)
-    → calls_in w m.visible k (map value_view args) ≡ meant_at w k (map value_view args) body
-    → after_outcome w m' (meant_at w m'.visible (locals_of m') body) ≡ after_outcome w m (calls_in w m.visible k (map value_view args))
+    → frame_view callers ≡ back m.visible (map held_view m.locals.items)
+    → calls_in w m.visible k (map held_view args) ≡ meant_at w k (map held_view args) body
+    → after_outcome w m' (meant_at w m'.visible (locals_of m') body) ≡ after_outcome w m (calls_in w m.visible k (map held_view args))
 enter_goes w m m' k args caller callers body hv hl hf hb hc =
-    moved w (λ n ls. meant_at w n ls body) k m'.visible (map value_view args) (locals_of m') (frames_of m ++ back m.visible (locals_of m) ∷ []) (frames_of m')
+    moved w (λ n ls. meant_at w n ls body) k m'.visible (map held_view args) (locals_of m') (frames_of m ++ back m.visible (locals_of m) ∷ []) (frames_of m')
     hv
-    (ap (map value_view) hl)
+    (ap (map held_view) hl)
     (ap (map frame_view) hf ∙ map-append frame_view m.frames.items (callers ∷ []) ∙ ap (λ f. frames_of m ++ f ∷ []) hb)
-    ∙ comes_back w (frames_of m) m.visible k (locals_of m) (map value_view args) (meant_at w k (map value_view args) body)
+    ∙ comes_back w (frames_of m) m.visible k (locals_of m) (map held_view args) (meant_at w k (map held_view args) body)
     ∙ ap (after_outcome w m) (sym hc)
 
 -- the arms from an index on
@@ -252,7 +255,7 @@ arms_split w m cases i arm v hi ha =
 pub arm_goes
     : (w : World) (m m' : Machine) (cases : List Arm) (i : ℕ) (arm : Arm) (v : PlainValue) (found : List Value) (count : ℕ)
     → m'.visible ≡ m.visible
-    → m'.locals.items ≡ m.locals.items ++ found
+    → locals_of m' ≡ locals_of m ++ map value_view found
     → m'.frames.items ≡ m.frames.items ++ frames.Forget count ∷ []
     → count ≡ length m.locals.items
     → i < length cases
@@ -262,7 +265,7 @@ pub arm_goes
 arm_goes w m m' cases i arm v found count hv hl hf hc hi ha hb =
     let here : arms_after w m cases i v ≡ meant_at w m.visible (locals_of m ++ map value_view found) (expr_view arm.result) =
     arms_split w m cases i arm v hi ha ∙ arm_found (matched (pattern_view arm.pat) v) (map value_view found) (λ vs. meant_at w m.visible (locals_of m ++ vs) (expr_view arm.result)) (arms_after w m cases (i + 1) v) hb in
-    moved w (λ n ls. meant_at w n ls (expr_view arm.result)) m.visible m'.visible (locals_of m ++ map value_view found) (locals_of m') (frames_of m ++ forget (length (locals_of m)) ∷ []) (frames_of m') hv (ap (map value_view) hl ∙ map-append value_view m.locals.items found) (forget_last m m' count hf hc)
+    moved w (λ n ls. meant_at w n ls (expr_view arm.result)) m.visible m'.visible (locals_of m ++ map value_view found) (locals_of m') (frames_of m ++ forget (length (locals_of m)) ∷ []) (frames_of m') hv hl (forget_last m m' count hf hc)
     ∙ forgets w (frames_of m) m.visible (locals_of m) (map value_view found) (meant_at w m.visible (locals_of m ++ map value_view found) (expr_view arm.result))
     ∙ ap (after_outcome w m) (sym here)
 
@@ -363,7 +366,7 @@ pub pop_goes
     → m.frames.items ≡ m'.frames.items ++ frame ∷ []
     → after_value w m v ≡ after_frame w m' (frame_view frame) v
 pop_goes w m m' frame v hv hl hf =
-    moved w (λ n ls. gives v) m'.visible m.visible (locals_of m') (locals_of m) (frames_of m' ++ frame_view frame ∷ []) (frames_of m) (sym hv) (sym (ap (map value_view) hl)) (ap (map frame_view) hf ∙ map-append frame_view m'.frames.items (frame ∷ []))
+    moved w (λ n ls. gives v) m'.visible m.visible (locals_of m') (locals_of m) (frames_of m' ++ frame_view frame ∷ []) (frames_of m) (sym hv) (sym (ap (map held_view) hl)) (ap (map frame_view) hf ∙ map-append frame_view m'.frames.items (frame ∷ []))
     ∙ through_last w (frames_of m') (frame_view frame) (at m'.visible (locals_of m') v)
 
 -- a value that is all that is left, and the locals as they were

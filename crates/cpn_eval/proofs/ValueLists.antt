@@ -39,7 +39,7 @@ view_applied k b = search (rules, the_lemmas)
 
 -- ---- what operations make of them
 
-map_reverse : (vs : List Value) → map value_view (reverse vs) ≡ reverse (map value_view vs)
+pub map_reverse : (vs : List Value) → map value_view (reverse vs) ≡ reverse (map value_view vs)
 map_reverse [] = refl
 map_reverse (v ∷ vs) =
     ap (map value_view) (reverse_onto vs v [])

@@ -8,6 +8,7 @@ use Rattle.cpn_definitions.specs.Meaning.{Setting, Calls, calls_below, setting_b
 use Rattle.cpn_core.specs.Views.{value_view}
 use Rattle.cpn_core.specs.Inscriptions.{op_view, expr_view, exprs_view, arm_view, funs_view}
 use Rattle.cpn_eval.specs.Answers.{Stops}
+use Rattle.cpn_eval.specs.Held.{held_view, all_held}
 use Rattle.cpn_eval.specs.declared.refusals.NoValue.{NoValue}
 use Rattle.cpn_eval.specs.declared.frames.World.{World}
 use Rattle.cpn_eval.specs.declared.frames.Head.{Head as ProgramHead}
@@ -102,7 +103,7 @@ head_view heads.List = listing
 head_view (heads.Call k) = calling k
 
 abbrev pub frame_view : Frame → PlainFrame
-frame_view (frames.Parts head done rest) = parts (head_view head) (map value_view done.items) (exprs_view rest.now)
+frame_view (frames.Parts head done rest) = parts (head_view head) (all_held done) (exprs_view rest.now)
 frame_view (frames.Argument k) = argument k
 frame_view (frames.Also f) = also (expr_view f.now)
 frame_view (frames.Otherwise f) = otherwise (expr_view f.now)
@@ -112,10 +113,10 @@ frame_view (frames.Forget count) = forget count
 frame_view (frames.Arms cases) = arms (arms_from (map arm_view cases.now))
 frame_view (frames.Start e body) = start (expr_view e.now) (expr_view body.now)
 frame_view (frames.Items vs body) = steps (map value_view vs.items) (expr_view body.now)
-frame_view (frames.Caller n ls) = back n (map value_view ls.items)
+frame_view (frames.Caller n ls) = back n (all_held ls)
 
 abbrev pub locals_of : Machine → List PlainValue
-locals_of m = map value_view m.locals.items
+locals_of m = all_held m.locals
 
 abbrev pub frames_of : Machine → List PlainFrame
 frames_of m = map frame_view m.frames.items
@@ -137,7 +138,7 @@ after_waiting world m frame o = o >>= after_frame world m frame
 -- what comes of what is at hand: an inscription that is not begun, or a value
 abbrev pub ahead : World → Machine → Now → Outcome State
 ahead world m (nows.Open e) = after_outcome world m (meant_at world m.visible (locals_of m) (expr_view e.now))
-ahead world m (nows.Given v) = after_value world m (value_view v)
+ahead world m (nows.Given v) = after_value world m (held_view v)
 
 -- what an expression means, and that all else is as it was
 abbrev pub means : World → Machine → PlainExpr → Outcome State
@@ -155,7 +156,7 @@ pub record Ended (m : Machine) (v : PlainValue) (before : Outcome State) : Type 
 
 abbrev pub Turned : World → Machine → Result Turn NoValue → Outcome State → Type 0
 Turned world m (Ok (turns.On now)) before = ahead world m now ≡ before
-Turned world m (Ok (turns.End v)) before = Ended m (value_view v) before
+Turned world m (Ok (turns.End v)) before = Ended m (held_view v) before
 Turned world m (Err reason) before = Stops reason before
 
 -- an evaluation that is over left all as it was

@@ -3,3 +3,5 @@ pub mod Operands
 pub mod Frames
 pub mod Terms
 pub mod Arms
+pub mod Held
+pub mod Spare

@@ -1,6 +1,7 @@
 //! What is left to do in the middle of an evaluation.
 
-use cpn_core::{Arm, Binding, Expr, Funs, Op, Value, Values};
+use crate::held::Held;
+use cpn_core::{Arm, Binding, Expr, Funs, Op, Value};
 use std::alloc::Global;
 use std::collections::VecDeque;
 
@@ -32,7 +33,7 @@ pub enum Head {
 #[derive(Drop)]
 pub enum Frame<'w> {
     /// The parts before the value, and those behind it.
-    Parts(Head, Values, &'w [Expr]),
+    Parts(Head, Vec<Held>, &'w [Expr]),
     /// The constructor of a position, to be applied to the value.
     Argument(u32),
     /// What is evaluated where the value is true.
@@ -52,7 +53,7 @@ pub enum Frame<'w> {
     /// The items of a fold that are left, and its body.
     Items(VecDeque<Value>, &'w Expr),
     /// The caller of a function: the functions that it may call, and its locals.
-    Caller(usize, Values),
+    Caller(usize, Vec<Held>),
 }
 
 /// What is at hand.
@@ -61,7 +62,7 @@ pub enum Now<'w> {
     /// An inscription that is not begun.
     Open(&'w Expr),
     /// A value.
-    Given(Value),
+    Given(Held),
 }
 
 /// What comes of a turn.
@@ -70,7 +71,7 @@ pub enum Turn<'w> {
     /// The evaluation goes on.
     On(Now<'w>),
     /// It ends with a value.
-    End(Value),
+    End(Held),
 }
 
 /// An evaluation.
@@ -81,7 +82,7 @@ pub struct Machine<'w> {
     /// How many functions may be called.
     pub visible: usize,
     /// The values of the locals.
-    pub locals: Values,
+    pub locals: Vec<Held>,
     /// What waits, the last one first.
     pub frames: Vec<Frame<'w>>,
 }

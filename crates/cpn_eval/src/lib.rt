@@ -6,8 +6,10 @@
 mod amounts;
 mod arithmetic;
 mod arms;
+mod backwards;
 mod comparisons;
 mod frames;
+mod held;
 mod kinds;
 mod lists;
 mod locals;
@@ -16,9 +18,13 @@ mod machine;
 mod matching;
 mod multisets;
 mod operations;
+mod reach;
 mod refusals;
 mod running;
+mod spare;
 mod term;
+#[cfg(test)]
+mod tests;
 
 pub use multisets::eval_mset;
 pub use refusals::Refused;

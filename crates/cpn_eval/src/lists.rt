@@ -4,7 +4,7 @@ ghost use Rattle.std.specs.Prelude.{◌≡◌, map, reverse, length, pos};
 ghost use Rattle.std.specs.List.{list_any};
 ghost use Rattle.cpn_definitions.specs.Value.{boolean, int};
 ghost use Rattle.cpn_definitions.specs.Order.{same_value};
-ghost use Rattle.cpn_definitions.specs.Operations.{concatenated, consed, appended, member_of};
+ghost use Rattle.cpn_definitions.specs.Operations.{concatenated, appended, member_of};
 ghost use Rattle.cpn_core.specs.Views.{value_view};
 ghost use Rattle.cpn_eval.specs.Answers.{Tells};
 ghost use Rattle.cpn_eval.specs.Operands.{head_of, tail_of, length_of, reversed, component_of, size_of};
@@ -21,16 +21,6 @@ pub fn concatenated(left: Value, right: Value) -> Result<Value, NoValue>
     let more = string_in(right)?;
     bytes.push(more.bytes())?;
     sized(Value::Text(bytes))
-}
-
-/// The list with the item before it.
-#[tactic(auto, using(crate::proofs::ValueLists::view_list))]
-pub fn consed(item: Value, list: Value) -> Result<Value, NoValue>
-    ensures list { Tells value_view result (consed (value_view item) (value_view list)) }
-{
-    let mut items = items_in(list)?;
-    items.insert(0, item)?;
-    sized(Value::List(items))
 }
 
 /// Two lists as one.

@@ -1,20 +1,25 @@
 //! The turns of an evaluation.
 
-ghost use Rattle.std.specs.Prelude.{◌≡◌, ◌≤◌, ◌<◌, ◌^◌, ℕ, List, [], ◌∷◌, ◌++◌, map, length};
+ghost use Rattle.std.specs.Prelude.{slice_get, ◌≡◌, ◌≤◌, ◌<◌, ◌^◌, ℕ, List, [], ◌∷◌, ◌++◌, map, length};
 ghost use Rattle.cpn_definitions.specs.Inscription.{arms_from};
+ghost use Rattle.cpn_definitions.specs.Outcome.{given};
 ghost use Rattle.cpn_definitions.specs.Meaning.{meant_among, done_with};
 ghost use Rattle.cpn_definitions.specs.Times.{last_time};
 ghost use Rattle.cpn_core.specs.Views.{value_view};
+ghost use Rattle.cpn_eval.specs.Held.{held_view, all_held};
 ghost use Rattle.cpn_core.specs.Inscriptions.{op_view, expr_view, exprs_view, arm_view};
 ghost use Rattle.cpn_eval.specs.Frames.{rest_of, folded, one, through, at, after_outcome, after_value, after_frame, after_waiting, locals_of, calls_in, setting_in, meant_at, chosen_by, ahead, Goes, Turned, head_view, frame_view};
 
+use crate::backwards::{hold_all, values_of};
 use crate::frames::{Frame, Head, Machine, Now, Turn, World};
+use crate::held::Held;
 use crate::kinds::{items_in, sized, truth_in};
-use crate::locals::{local, variable};
+use crate::locals::{copied, variable};
 use crate::matching::matches;
 use crate::operations::operate;
 use crate::refusals::NoValue;
-use cpn_core::{Arm, EvalFault, Expr, Value, Values};
+use crate::spare::{is_spare, taken};
+use cpn_core::{Arm, EvalFault, Expr, Value};
 use std::collections::VecDeque;
 use std::mem;
 
@@ -42,10 +47,10 @@ impl<'w> Machine<'w> {
         ensures { Goes world.now self.new result (after_outcome world.now self.old (meant_at world.now self.old.visible (locals_of self.old) (expr_view expr.now))) }
     {
         match expr {
-            Expr::Lit(value) => Ok(Now::Given(value.copy()?)),
-            Expr::Var(number) => Ok(Now::Given(variable(world.binding, *number)?)),
-            Expr::Local(number) => Ok(Now::Given(local(&self.locals, *number)?)),
-            Expr::Time => Ok(Now::Given(Value::Int(world.time as i64))),
+            Expr::Lit(value) => Ok(Now::Given(Held::Plain(value.copy()?))),
+            Expr::Var(number) => Ok(Now::Given(Held::Plain(variable(world.binding, *number)?))),
+            Expr::Local(number) => self.local(world, *number),
+            Expr::Time => Ok(Now::Given(Held::Plain(Value::Int(world.time as i64)))),
             Expr::Op(op, parts) => self.parts(world, Head::Op(*op), Vec::new(self.alloc), parts),
             Expr::Tuple(parts) => self.parts(world, Head::Tuple, Vec::new(self.alloc), parts),
             Expr::List(parts) => self.parts(world, Head::List, Vec::new(self.alloc), parts),
@@ -53,7 +58,7 @@ impl<'w> Machine<'w> {
                 self.parts(world, Head::Call(*function), Vec::new(self.alloc), parts)
             }
             Expr::Con(position, argument) => match argument {
-                None => Ok(Now::Given(Value::Con(*position, None))),
+                None => Ok(Now::Given(Held::Plain(Value::Con(*position, None)))),
                 Some(inner) => self.wait(world, Frame::Argument(*position), inner),
             },
             Expr::And(first, second) => self.wait(world, Frame::Also(second), first),
@@ -62,6 +67,19 @@ impl<'w> Machine<'w> {
             Expr::Case(subject, arms) => self.wait(world, Frame::Arms(arms), subject),
             Expr::Let(bound, body) => self.wait(world, Frame::Body(body), bound),
             Expr::Fold { list, start, body } => self.wait(world, Frame::Start(start, body), list),
+        }
+    }
+
+    /// The local of that number: itself where nothing that waits needs it any more, and elsewhere a copy of it.
+    fn local(&mut self, world: &World<'w>, number: u32) -> Result<Now<'w>, NoValue>
+        ensures { Goes world.now self.new result (after_outcome world.now self.old (given (slice_get (locals_of self.old) number))) }
+    {
+        if is_spare(&self.frames, number as usize) {
+            let value = taken(&mut self.locals, number as usize)?;
+            Ok(Now::Given(value))
+        } else {
+            let value = copied(&self.locals, number)?;
+            Ok(Now::Given(value))
         }
     }
 
@@ -83,10 +101,10 @@ impl<'w> Machine<'w> {
         &mut self,
         world: &World<'w>,
         head: Head,
-        done: Values,
+        done: Vec<Held>,
         rest: &'w [Expr],
     ) -> Result<Now<'w>, NoValue>
-        ensures { Goes world.now self.new result (after_outcome world.now self.old (rest_of world.now self.old.visible (locals_of self.old) (head_view head) (map value_view done.items) (exprs_view rest.now))) }
+        ensures { Goes world.now self.new result (after_outcome world.now self.old (rest_of world.now self.old.visible (locals_of self.old) (head_view head) (all_held done) (exprs_view rest.now))) }
     {
         match rest {
             [] => self.finish(world, head, done),
@@ -95,13 +113,13 @@ impl<'w> Machine<'w> {
     }
 
     /// Does what the head does with the values of all its parts.
-    fn finish(&mut self, world: &World<'w>, head: Head, done: Values) -> Result<Now<'w>, NoValue>
-        ensures { Goes world.now self.new result (after_outcome world.now self.old (done_with (head_view head) (calls_in world.now self.old.visible) (map value_view done.items))) }
+    fn finish(&mut self, world: &World<'w>, head: Head, done: Vec<Held>) -> Result<Now<'w>, NoValue>
+        ensures { Goes world.now self.new result (after_outcome world.now self.old (done_with (head_view head) (calls_in world.now self.old.visible) (all_held done))) }
     {
         match head {
             Head::Op(op) => Ok(Now::Given(operate(op, done)?)),
-            Head::Tuple => Ok(Now::Given(sized(Value::Tuple(done))?)),
-            Head::List => Ok(Now::Given(sized(Value::List(done))?)),
+            Head::Tuple => Ok(Now::Given(Held::Plain(sized(Value::Tuple(values_of(done)?))?))),
+            Head::List => Ok(Now::Given(Held::Plain(sized(Value::List(values_of(done)?))?))),
             Head::Call(function) => self.enter(world, function as usize, done),
         }
     }
@@ -111,9 +129,9 @@ impl<'w> Machine<'w> {
         &mut self,
         world: &World<'w>,
         function: usize,
-        arguments: Values,
+        arguments: Vec<Held>,
     ) -> Result<Now<'w>, NoValue>
-        ensures { Goes world.now self.new result (after_outcome world.now self.old (calls_in world.now self.old.visible function (map value_view arguments.items))) }
+        ensures { Goes world.now self.new result (after_outcome world.now self.old (calls_in world.now self.old.visible function (all_held arguments))) }
     {
         if function >= self.visible {
             return Err(NoValue::Untyped);
@@ -137,9 +155,9 @@ impl<'w> Machine<'w> {
         &mut self,
         world: &World<'w>,
         frame: Frame<'w>,
-        value: Value,
+        value: Held,
     ) -> Result<Now<'w>, NoValue>
-        ensures { Goes world.now self.new result (after_frame world.now self.old (frame_view frame.entry) (value_view value)) }
+        ensures { Goes world.now self.new result (after_frame world.now self.old (frame_view frame.entry) (held_view value)) }
     {
         match frame {
             Frame::Parts(head, done, rest) => {
@@ -148,25 +166,25 @@ impl<'w> Machine<'w> {
                 self.parts(world, head, done, rest)
             }
             Frame::Argument(position) => {
-                let argument = Box::new(self.alloc, value)?;
-                Ok(Now::Given(sized(Value::Con(position, Some(argument)))?))
+                let argument = Box::new(self.alloc, value.into_value())?;
+                Ok(Now::Given(Held::Plain(sized(Value::Con(position, Some(argument)))?)))
             }
             Frame::Also(second) => {
-                if truth_in(&value)? {
+                if truth_in(&value.into_value())? {
                     Ok(Now::Open(second))
                 } else {
-                    Ok(Now::Given(Value::Bool(false)))
+                    Ok(Now::Given(Held::Plain(Value::Bool(false))))
                 }
             }
             Frame::Otherwise(second) => {
-                if truth_in(&value)? {
-                    Ok(Now::Given(Value::Bool(true)))
+                if truth_in(&value.into_value())? {
+                    Ok(Now::Given(Held::Plain(Value::Bool(true))))
                 } else {
                     Ok(Now::Open(second))
                 }
             }
             Frame::Branches(yes, no) => {
-                if truth_in(&value)? {
+                if truth_in(&value.into_value())? {
                     Ok(Now::Open(yes))
                 } else {
                     Ok(Now::Open(no))
@@ -177,9 +195,9 @@ impl<'w> Machine<'w> {
                 self.locals.truncate(count);
                 Ok(Now::Given(value))
             }
-            Frame::Arms(arms) => self.choose(world, arms, &value),
+            Frame::Arms(arms) => self.choose(world, arms, &value.into_value()),
             Frame::Start(start, body) => {
-                let items = VecDeque::from(items_in(value)?);
+                let items = VecDeque::from(items_in(value.into_value())?);
                 self.wait(world, Frame::Items(items, body), start)
             }
             Frame::Items(items, body) => self.step(world, items, body, value),
@@ -196,9 +214,9 @@ impl<'w> Machine<'w> {
         &mut self,
         world: &World<'w>,
         body: &'w Expr,
-        value: Value,
+        value: Held,
     ) -> Result<Now<'w>, NoValue>
-        ensures { Goes world.now self.new result (after_outcome world.now self.old (meant_at world.now self.old.visible (locals_of self.old ++ value_view value ∷ []) (expr_view body.now))) }
+        ensures { Goes world.now self.new result (after_outcome world.now self.old (meant_at world.now self.old.visible (locals_of self.old ++ held_view value ∷ []) (expr_view body.now))) }
     {
         let count = self.locals.len();
         self.locals.push(value)?;
@@ -219,7 +237,7 @@ impl<'w> Machine<'w> {
             let mut bound = Vec::new(self.alloc);
             if matches(&arm.pat, value, &mut bound)? {
                 self.frames.push(Frame::Forget(self.locals.len()))?;
-                self.locals.append(&mut bound)?;
+                hold_all(&mut self.locals, bound)?;
                 return Ok(Now::Open(&arm.result));
             }
         }
@@ -232,16 +250,16 @@ impl<'w> Machine<'w> {
         world: &World<'w>,
         items: VecDeque<Value>,
         body: &'w Expr,
-        value: Value,
+        value: Held,
     ) -> Result<Now<'w>, NoValue>
-        ensures { Goes world.now self.new result (after_outcome world.now self.old (folded world.now self.old.visible (locals_of self.old) (expr_view body.now) (map value_view items.items) (value_view value))) }
+        ensures { Goes world.now self.new result (after_outcome world.now self.old (folded world.now self.old.visible (locals_of self.old) (expr_view body.now) (map value_view items.items) (held_view value))) }
     {
         let mut items = items;
         match items.pop_front() {
             None => Ok(Now::Given(value)),
             Some(item) => {
                 let count = self.locals.len();
-                self.locals.push(item)?;
+                self.locals.push(Held::Plain(item))?;
                 self.locals.push(value)?;
                 self.frames.push(Frame::Items(items, body))?;
                 self.frames.push(Frame::Forget(count))?;

@@ -14,6 +14,7 @@ ghost use Rattle.cpn_eval.specs.Terms.{items_view, terms_at, terms_with, sum_at,
 
 use crate::amounts::tokens_in;
 use crate::arms::{Fit, arm_for};
+use crate::backwards::hold_all;
 use crate::frames::{Machine, World};
 use crate::lone_terms::{Arc, is_lone, then_stamped};
 use crate::refusals::{NoValue, Refused};
@@ -60,7 +61,7 @@ pub fn eval_mset(
 
 /// The terms of the inscription, behind so many tokens.
 #[cycle(terms)]
-fn terms_behind<'w>(
+pub fn terms_behind<'w>(
     expr: &'w MExpr,
     arc: &Arc<'w>,
     machine: &mut Machine<'w>,
@@ -214,9 +215,8 @@ fn of_result<'w>(
     ensures terms { Tells items_view result (terms_with arc.now machine.old (map value_view found.items) (multiset_view inner.now) before) }
     ensures kept { IfOk result (λ _. Kept machine.old machine.new) }
 {
-    let mut found = found;
     let count = machine.locals.len();
-    machine.locals.append(&mut found)?;
+    hold_all(&mut machine.locals, found)?;
     let terms = terms_behind(inner, arc, machine, before)?;
     machine.locals.truncate(count);
     Ok(terms)

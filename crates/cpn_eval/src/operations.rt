@@ -5,32 +5,34 @@ ghost use Rattle.cpn_definitions.specs.Operations.{operated};
 ghost use Rattle.cpn_core.specs.Views.{value_view};
 ghost use Rattle.cpn_core.specs.Inscriptions.{op_view};
 ghost use Rattle.cpn_eval.specs.Answers.{Tells};
+ghost use Rattle.cpn_eval.specs.Held.{held_view, all_held};
 
 use crate::arithmetic::{difference, negation, product, quotient, remainder, sum};
+use crate::backwards::consed;
 use crate::comparisons::order_of;
+use crate::held::Held;
 use crate::kinds::{integer_in, truth_in};
 use crate::lists::{
-    appended, component_of, concatenated, consed, head_of, length_of, member_of, reversed, size_of,
-    tail_of,
+    appended, component_of, concatenated, head_of, length_of, member_of, reversed, size_of, tail_of,
 };
 use crate::refusals::NoValue;
-use cpn_core::{Op, Value, Values};
+use cpn_core::{Op, Value};
 
 /// What the operation gives for the operands, or its fault.
 ///
 /// Source: our own profile of CPN ML.
 #[tactic(auto, using(crate::proofs::Operands::one_popped, crate::proofs::Operands::two_popped, crate::proofs::Operands::none_given, crate::proofs::Operands::more_given))]
-pub fn operate(op: Op, operands: Values) -> Result<Value, NoValue>
-    ensures value { Tells value_view result (operated (op_view op) (map value_view operands.items)) }
+pub fn operate(op: Op, operands: Vec<Held>) -> Result<Held, NoValue>
+    ensures value { Tells held_view result (operated (op_view op) (all_held operands)) }
 {
     let mut operands = operands;
     match operands.pop() {
         None => Err(NoValue::Untyped),
         Some(last) => match operands.pop() {
-            None => on_one(op, last),
+            None => Ok(Held::Plain(on_one(op, last.into_value())?)),
             Some(first) => {
                 if operands.is_empty() {
-                    on_two(op, first, last)
+                    on_both(op, first.into_value(), last)
                 } else {
                     Err(NoValue::Untyped)
                 }
@@ -76,6 +78,16 @@ fn on_one(op: Op, operand: Value) -> Result<Value, NoValue>
     }
 }
 
+/// What the operation gives for two operands, of which the second is held.
+fn on_both(op: Op, left: Value, right: Held) -> Result<Held, NoValue>
+    ensures value { Tells held_view result (operated (op_view op) (value_view left ∷ held_view right ∷ [])) }
+{
+    match op {
+        Op::Cons => consed(left, right),
+        _ => Ok(Held::Plain(on_two(op, left, right.into_value())?)),
+    }
+}
+
 /// What the operation gives for two operands.
 fn on_two(op: Op, left: Value, right: Value) -> Result<Value, NoValue>
     ensures value { Tells value_view result (operated (op_view op) (value_view left ∷ value_view right ∷ [])) }
@@ -93,7 +105,10 @@ fn on_two(op: Op, left: Value, right: Value) -> Result<Value, NoValue>
         Op::Gt => Ok(Value::Bool(order_of(&left, &right)?.is_gt())),
         Op::Ge => Ok(Value::Bool(order_of(&left, &right)?.is_ge())),
         Op::Cat => concatenated(left, right),
-        Op::Cons => consed(left, right),
+        Op::Cons => {
+            let list = consed(left, Held::Plain(right))?;
+            Ok(list.into_value())
+        }
         Op::Append => appended(left, right),
         Op::Mem => member_of(left, &right),
         Op::Neg => Err(NoValue::Untyped),

@@ -64,7 +64,7 @@ impl<'w> Machine<'w> {
         for _turn in 0..u64::MAX {
             match self.turn(world, now)? {
                 Turn::On(next) => now = next,
-                Turn::End(value) => return Ok(value),
+                Turn::End(value) => return Ok(value.into_value()),
             }
         }
         Err(NoValue::Memory)

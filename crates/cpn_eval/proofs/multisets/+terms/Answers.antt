@@ -1,5 +1,5 @@
 -- The terms of each form are the definition's, and the machine stays as it was.
-use Rattle.std.proofs.Common.{ap, sym, ◌∙◌, true, false, rules, ◌≡◌, ◌+◌, ◌-◌, ◌^◌, ◌≤◌, min, map, arith}
+use Rattle.std.proofs.Common.{ap, sym, ◌∙◌, true, false, rules, ◌≡◌, ◌+◌, ◌-◌, ◌^◌, ◌≤◌, min, map, arith, refl}
 use Rattle.cpn_definitions.specs.Inscription.{later, stamped, selected, arc_arms_from, inscriptions_from}
 use Rattle.cpn_core.specs.Inscriptions.{expr_view, multiset_view, arc_arm_view}
 use Rattle.cpn_eval.proofs.TokenLevels.{tokens_later, tokens_at, tokens_if, tokens_case}
@@ -7,8 +7,9 @@ use Rattle.cpn_eval.proofs.SumTerms.{form_told, chosen_told, kept_twice, sum_goe
 use Rattle.std.proofs.lemmas.Result.{err_from_is_err_and}
 use Rattle.cpn_definitions.specs.Terms.{tokens_in, most_tokens}
 use Rattle.cpn_eval.specs.Terms.{terms_view, items_view, sum_at}
-use Rattle.cpn_eval.proofs.KeptTerms.{later_told, forgotten}
+use Rattle.cpn_eval.proofs.KeptTerms.{stops_with, later_told, forgotten}
 use Rattle.cpn_core.specs.Views.{value_view}
+use Rattle.cpn_eval.specs.Held.{held_view}
 use Rattle.cpn_eval.proofs.multisets.+terms.Goals as goal
 
 pub terms_behind-returns-in-Later-clause-terms : goal.terms_behind-returns-in-Later-clause-terms
@@ -87,8 +88,8 @@ pub of_result-returns-clause-kept : goal.of_result-returns-clause-kept
 of_result-returns-clause-kept t c = record {
   no_frame = c.in_ok-terms.ensures.kept.no_frame;
   visible = c.in_ok-terms.ensures.kept.visible;
-  locals = ap (map value_view) c.truncate.ensures.items
-      ∙ forgotten c.args.machine.now.locals.items c.args.found.items c.terms_behind.new.machine.locals.items c.len-count.result (search rules) (c.in_ok-terms.ensures.kept.locals ∙ ap (map value_view) c.in_ok-append.ensures.items);
+  locals = ap (map held_view) c.truncate.ensures.items
+      ∙ forgotten c.args.machine.now.locals.items c.terms_behind.new.machine.locals.items (map value_view c.args.found.items) c.len-count.result (search rules) (c.in_ok-terms.ensures.kept.locals ∙ c.in_ok-hold_all.ensures.all);
 }
 
 pub terms_behind-returns-in-Case-clause-terms : goal.terms_behind-returns-in-Case-clause-terms
@@ -96,3 +97,8 @@ terms_behind-returns-in-Case-clause-terms t c =
     form_told c.of_arms.result c.args.arc.now c.args.machine.now (multiset_view c.args.expr.now) (selected (expr_view c.in-Case.subject) (arc_arms_from (map arc_arm_view c.in-Case.arms.items))) c.args.before
     (ap multiset_view c.in-Case.is ∙ tokens_case c.in-Case.subject c.in-Case.arms)
     c.of_arms.ensures.terms
+
+pub of_result-returns-in_err-terms-clause-terms : goal.of_result-returns-in_err-terms-clause-terms
+of_result-returns-in_err-terms-clause-terms t c =
+    let p = err_from_is_err_and c.from_residual-in_err-terms.result c.from_residual-in_err-terms.ensures.1 in
+    rw (p.1, p.2) (stops_with c.in_err-terms.field-0.0 c.args.arc.now c.args.machine.now (record c.args.machine.now { locals = c.hold_all.new.held }) (map value_view c.args.found.items) (multiset_view c.args.inner.now) c.args.before refl c.in_ok-hold_all.ensures.all c.in_err-terms.ensures.terms)

@@ -5,14 +5,14 @@ use Rattle.cpn_definitions.specs.Matching.{matched}
 use Rattle.cpn_core.specs.Inscriptions.{pattern_view}
 use Rattle.cpn_eval.specs.declared.frames.Frame.TheVariants as frames
 use Rattle.cpn_eval.proofs.Turns.{arm_goes, arms_next, match_found, match_missed}
-use Rattle.cpn_eval.specs.Frames.{after_outcome}
+use Rattle.cpn_eval.specs.Frames.{after_outcome, locals_of}
 use Rattle.cpn_eval.proofs.frames.Machine.choose.Goals as goal
 
 pub returns-then-branch : goal.returns-then-branch
 returns-then-branch c =
-    arm_goes c.args.world.now c.args.self.now (record c.loop-arm.self { locals = c.append.new.self; frames = c.push.new.self }) c.args.arms.now c.loop-arm.arm-index c.arm-item.result (value_view c.args.value.now) c.matches.new.found.items c.len.result
+    arm_goes c.args.world.now c.args.self.now (record c.loop-arm.self { locals = c.hold_all.new.held; frames = c.push.new.self }) c.args.arms.now c.loop-arm.arm-index c.arm-item.result (value_view c.args.value.now) c.matches.new.found.items c.len.result
     (ap (λ m. m.visible) c.loop-arm.invariant.same)
-    (c.in_ok-append.ensures.items ∙ ap (λ m. m.locals.items ++ c.matches.new.found.items) c.loop-arm.invariant.same)
+    (c.in_ok-hold_all.ensures.all ∙ ap (λ m. locals_of m ++ map value_view c.matches.new.found.items) c.loop-arm.invariant.same)
     (c.in_ok-push.ensures.items ∙ ap (λ m. m.frames.items ++ frames.Forget c.len.result ∷ []) c.loop-arm.invariant.same)
     (let e : c.len.result ≡ length c.loop-arm.self.locals.items = search rules in e ∙ ap (λ m. length m.locals.items) c.loop-arm.invariant.same)
     c.loop-arm-test.true

@@ -9,7 +9,7 @@ use Rattle.cpn_eval.proofs.frames.Machine.open.Goals as goal
 
 pub returns-in-Op : goal.returns-in-Op
 returns-in-Op c =
-    goes_same c.args.world.now c.parts.new.self c.parts.result _ _ (parts_goes c.args.world.now c.args.self.now (operation (op_view c.in-Op.op)) c.new.result.items c.deref-in-Op.result.now c.in-Op.parts.items (expr_view c.args.expr.now) c.new.ensures.items c.deref-in-Op.ensures.value (ap expr_view c.in-Op.is ∙ view_op c.in-Op.op c.in-Op.parts)) c.parts.ensures
+    goes_same c.args.world.now c.parts.new.self c.parts.result _ _ (parts_goes c.args.world.now c.args.self.now (operation (op_view c.in-Op.op)) c.new.result.items c.deref.result.now c.in-Op.parts.items (expr_view c.args.expr.now) c.new.ensures.items c.deref.ensures.value (ap expr_view c.in-Op.is ∙ view_op c.in-Op.op c.in-Op.parts)) c.parts.ensures
 
 pub returns-in-Tuple : goal.returns-in-Tuple
 returns-in-Tuple c =

@@ -1,0 +1,46 @@
+-- Lists that are kept backwards, and how large they are.
+use Rattle.std.proofs.Common.{◌≡◌, ◌+◌, ◌≤◌, ◌<◌, true, false, nat_le, List, [], ◌∷◌, ◌++◌, map, reverse, refl, sym, ap, ◌∙◌, arith}
+use Rattle.std.proofs.lemmas.List.{reverse-append, reverse-reverse}
+use Rattle.std.proofs.lemmas.Bool.Decides.{nat_tests}
+use Rattle.cpn_definitions.specs.Value.{PlainValue, PlainValues, unit, boolean, int, constant, text, tuple, bare, applied, list, more, nodes_of, to_list, from_list}
+use Rattle.cpn_definitions.specs.Outcome.{gives, faults, too_large}
+use Rattle.cpn_definitions.specs.Operations.{most_nodes, items_in, consed}
+use Rattle.cpn_core.specs.declared.values.Value.{Value}
+use Rattle.cpn_core.specs.Views.{value_view, values_view}
+use Rattle.cpn_eval.proofs.ValueLists.{to_list_from_list, from_list_to_list, map_reverse}
+
+-- items that stand for the same stand for the same backwards
+pub same_backwards : (xs ys : List Value) → values_view xs ≡ values_view ys → values_view (reverse xs) ≡ values_view (reverse ys)
+same_backwards xs ys h =
+    let same : map value_view xs ≡ map value_view ys = sym (to_list_from_list (map value_view xs)) ∙ ap to_list h ∙ to_list_from_list (map value_view ys) in
+    ap from_list (map_reverse xs ∙ ap reverse same ∙ sym (map_reverse ys))
+
+-- an item at the end is the first one backwards
+pub put_before : (xs ys : List Value) (x : Value) → ys ≡ xs ++ x ∷ [] → values_view (reverse ys) ≡ more (value_view x) (values_view (reverse xs))
+put_before xs ys x h = ap (λ zs. values_view (reverse zs)) h ∙ ap values_view (reverse-append xs (x ∷ []))
+
+pub put_before_turned : (xs turned ys : List Value) (x : Value) → turned ≡ reverse xs → ys ≡ turned ++ x ∷ [] → values_view (reverse ys) ≡ more (value_view x) (values_view xs)
+put_before_turned xs turned ys x ht h = put_before turned ys x h ∙ ap (λ zs. more (value_view x) (values_view zs)) (ap reverse ht ∙ reverse-reverse xs)
+
+-- ---- whether a list is too large
+
+pub list_of : (w : PlainValue) (xs : List PlainValue) → items_in w ≡ gives xs → w ≡ list (from_list xs)
+list_of unit xs h = cc
+list_of (boolean b) xs h = cc
+list_of (int z) xs h = cc
+list_of (constant k) xs h = cc
+list_of (text bytes) xs h = cc
+list_of (tuple vs) xs h = cc
+list_of (bare k) xs h = cc
+list_of (applied k v) xs h = cc
+list_of (list vs) xs h = let e : to_list vs ≡ xs = cc in ap list (sym (from_list_to_list vs) ∙ ap from_list e)
+
+pub too_long : (v : PlainValue) (vs : PlainValues) → most_nodes < nodes_of v + nodes_of (list vs) → consed v (list vs) ≡ faults too_large
+too_long v vs h =
+    let no : nat_le (nodes_of (list (more v vs))) most_nodes ≡ false = grind (arith, nat_tests) in
+    rw (from_list_to_list vs, no) refl
+
+pub put_first : (v : PlainValue) (vs : PlainValues) → nodes_of v + nodes_of (list vs) ≤ most_nodes → consed v (list vs) ≡ gives (list (more v vs))
+put_first v vs h =
+    let yes : nat_le (nodes_of (list (more v vs))) most_nodes ≡ true = grind (arith, nat_tests) in
+    rw (from_list_to_list vs, yes) refl
