@@ -44,11 +44,12 @@ one_answer n t c d (all_are few all) (all_are less each) = refl
 
 -- ---- it is the one that is found
 
-abbrev FirstIs : PlainNet → PlainTransition → List ℕ → Option ℕ → Type 0
+-- whether the first of several variables that is not bindable is this one, or there is none
+abbrev pub FirstIs : PlainNet → PlainTransition → List ℕ → Option ℕ → Type 0
 FirstIs n t xs None = AllByRecursion (IsBindable n t) xs
 FirstIs n t xs (Some x) = IsFirstNotBindable n t xs x
 
-one_more : (n : PlainNet) (t : PlainTransition) (y : ℕ) (ys : List ℕ) (o : Option ℕ) → IsBindable n t y → FirstIs n t ys o → FirstIs n t (y ∷ ys) o
+pub one_more : (n : PlainNet) (t : PlainTransition) (y : ℕ) (ys : List ℕ) (o : Option ℕ) → IsBindable n t y → FirstIs n t ys o → FirstIs n t (y ∷ ys) o
 one_more n t y ys None h k = (h, k)
 one_more n t y ys (Some x) h k = record { before = y ∷ k.before; behind = k.behind; stands = ap (λ xs. y ∷ xs) k.stands; bindable_before = (h, k.bindable_before); not_bindable = k.not_bindable }
 
@@ -69,7 +70,7 @@ first_is n t first is (x ∷ xs) = split (is_found first t.guard x) refl (first_
     split true e rest = one_more n t x xs (first_unfound first t.guard xs) ((found_is_bindable n t first is x).0 e) rest
     split false e rest = here e
 
-answer_is : (n : PlainNet) (t : PlainTransition) (o : Option ℕ) → length t.vars ≤ most_variables → FirstIs n t t.vars o → IsBindableAnswer n t (answer_for n o)
+pub answer_is : (n : PlainNet) (t : PlainTransition) (o : Option ℕ) → length t.vars ≤ most_variables → FirstIs n t t.vars o → IsBindableAnswer n t (answer_for n o)
 answer_is n t None few h = all_are few h
 answer_is n t (Some x) few h = one_is_not few x h
 

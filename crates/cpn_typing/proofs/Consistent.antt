@@ -1,6 +1,4 @@
--- What is declared holds together: colour sets are of the sets behind the types, variables have the type of their colour set,
--- constants and constructors are those of their sets, and calls of functions mean something. Each declaration that is accepted
--- keeps this.
+-- What is declared holds together: each declaration that is accepted keeps this.
 use Rattle.std.proofs.Common.{◌≡◌, ◌⊎◌, ℕ, zero, suc, ◌+◌, ◌<◌, ◌∙◌, Bool, List, [], ◌∷◌, ◌++◌, length, map, slice_get, slice_index_or, append_assoc, Option, Some, None, refl, sym, ap, subst, inl, inr, ⊎_elim, arith}
 use Rattle.cpn_definitions.specs.Colour.{PlainColour}
 use Rattle.cpn_definitions.specs.Inscription.{PlainFunction, Functions}
@@ -17,25 +15,11 @@ use Rattle.cpn_typing.specs.TypedValues.{Sets, HasSetsOf}
 use Rattle.cpn_typing.specs.Law.{IsKeptBelow, AreKeptBelow}
 use Rattle.cpn_typing.specs.ColourSets.{with_new, with_all_new, colour_names, other_names, Shaped, limited, shape_of_body, with_colour}
 use Rattle.cpn_typing.specs.Declarations.{colour_of, coloured_as, variables_from, with_variables, scope_of, type_named, with_function, with_new_name, declared_form, declared, all_declared}
+use Rattle.cpn_typing.specs.Consistency.{HasSets, ColoursOf, variable_numbered, IsNumbered, IsConsistent}
 use Rattle.cpn_typing.proofs.Outcomes.{accepts_at}
 use Rattle.cpn_typing.proofs.NamesDeclared.{length_more, index_before, get_at, among_more, colour_more, colour_alone, meant_alone, IsVariable, variable_is}
-use Rattle.cpn_typing.proofs.SetsDeclared.{HasSets, fewer_sets, sets_of_lists, their_own, ColoursOf, IsOfSets, IsShapeOf, body_has}
+use Rattle.cpn_typing.proofs.SetsDeclared.{fewer_sets, sets_of_lists, their_own, IsOfSets, IsShapeOf, body_has}
 use Rattle.cpn_typing.proofs.Functions.{kept_with_function}
-
--- a variable by its number, with the type of its colour set
-abbrev pub variable_numbered : Declared → ℕ → Coloured
-variable_numbered ds x = slice_index_or ds.variables x nothing
-
-pub record IsNumbered (variables_of : List Coloured) (x : ℕ) (t : PlainTy) : Type 0 where
-  pub is_below : x < length variables_of
-  pub type_is : t ≡ type_of_shape (slice_index_or variables_of x nothing).colour.shape
-
--- Consistent: for all sets that have what is declared, and all functions that begin with those that are declared.
-pub record IsConsistent (ds : Declared) : Type 0 where
-  pub colours_of : (sets : Sets) → HasSets sets ds.enumerations ds.unions → ColoursOf sets ds
-  pub coloured : (sets : Sets) → HasSets sets ds.enumerations ds.unions → (x : ℕ) → x < length ds.variables → HasSetsOf sets (variable_numbered ds x).colour.shape
-  pub numbered : (n : Name) (x : ℕ) (t : PlainTy) → meant_among n ds.names ≡ Some (a_variable x t) → IsNumbered ds.variables x t
-  pub kept : (sets : Sets) (funs more : Functions) (b : PlainBinding) (time : ℕ) → HasSets sets ds.enumerations ds.unions → funs ≡ ds.functions ++ more → AreKeptBelow sets funs b time (length ds.functions) ds.names
 
 -- what is accepted behind something comes from what that accepts
 pub accepted_parts : {A B : Type 0} (c : Checked A) (f : A → Checked B) (y : B) → (c >>= f) ≡ ok y → (x : A) × (c ≡ ok x) × (f x ≡ ok y)
@@ -51,7 +35,7 @@ required_is (Some y) r x h = ap (λ z. Some z) (same_accepted y x h)
 
 -- ---- at first
 
-nothing_consistent : IsConsistent nothing_declared
+pub nothing_consistent : IsConsistent nothing_declared
 nothing_consistent = record {
   colours_of = λ sets h n c e. absurd (cc);
   coloured = λ sets h x lt. absurd (omega arith);

@@ -111,7 +111,7 @@ closed (suc k) first found qs few = split (ready_among (is_known first found) qs
 
 -- ---- the equations of a guard
 
-in_flat : {X Y : Type 0} (f : X → List Y) (xs : List X) (y : Y) → IsIn y (flat_map f xs) → (x : X) × IsIn x xs × IsIn y (f x)
+pub in_flat : {X Y : Type 0} (f : X → List Y) (xs : List X) (y : Y) → IsIn y (flat_map f xs) → (x : X) × IsIn x xs × IsIn y (f x)
 in_flat f [] y h = absurd h
 in_flat f (x ∷ xs) y h = ⊎_elim (λ g. (x, inl refl, g)) (λ g. let rest = in_flat f xs y g in (rest.0, inr rest.1, rest.2)) (in_append_cases (f x) (flat_map f xs) y h)
 
@@ -246,3 +246,71 @@ found_is_bindable n t first is x = (
 
     starts : IsSoundList n t first []
     starts y h = ⊎_elim (λ g. by_term y g) (λ g. by_size y g) ((is y).0 (bare (first y) h))
+
+-- ---- from a start that knows what is asked alone
+
+-- The variables that are known at a start: each stands in a binding term or is of a small colour set; all that stand in one are
+-- among them, and so are those of small colour sets that are asked for; and what the guard's equations read is asked for.
+pub record IsStart (n : PlainNet) (t : PlainTransition) (asked start : List ℕ) : Type 0 where
+  pub reason : (x : ℕ) → IsIn x start → IsInTerm t x ⊎ IsSmall (variable_at n x).colour
+  pub in_terms : (x : ℕ) → IsInTerm t x → IsIn x start
+  pub small : (x : ℕ) → IsIn x asked → IsSmall (variable_at n x).colour → IsIn x start
+  pub reads : (q : Equation) → IsIn q (equations_of t.guard) → (x : ℕ) → IsIn x q.sources → IsIn x asked
+
+-- nothing but what is listed
+abbrev none : ℕ → Bool
+none x = false
+
+abbrev pub is_listed : List ℕ → ℕ → Bool
+is_listed start x = is_known none start x
+
+pub listed_in : (x : ℕ) (xs : List ℕ) → is_listed xs x ≡ true → IsIn x xs
+listed_in x [] h = cc
+listed_in x (y ∷ ys) h = split (x == y) refl h (λ g. listed_in x ys g)
+  where
+    split : (b : Bool) → (x == y) ≡ b → (b || list_any (λ z. x == z) ys) ≡ true → (is_listed ys x ≡ true → IsIn x ys) → IsIn x (y ∷ ys)
+    split true same g rest = inl (sym (eqb-true x y same))
+    split false same g rest = inr (rest g)
+
+pub in_listed : (x : ℕ) (xs : List ℕ) → IsIn x xs → is_listed xs x ≡ true
+in_listed x [] h = absurd h
+in_listed x (y ∷ ys) (inl e) = rw (eq-eqb x y (sym e)) refl
+in_listed x (y ∷ ys) (inr h) = split (x == y) (in_listed x ys h)
+  where
+    split : (b : Bool) → list_any (λ z. x == z) ys ≡ true → (b || list_any (λ z. x == z) ys) ≡ true
+    split true g = refl
+    split false g = g
+
+abbrev found_all : PlainTransition → List ℕ → List ℕ
+found_all t start = found_in (length (equations_of t.guard)) none start (equations_of t.guard)
+
+mutual
+  asked_known : (n : PlainNet) (t : PlainTransition) (asked start all : List ℕ) → IsStart n t asked start → IsClosed none all (equations_of t.guard) → ((x : ℕ) → IsIn x start → is_known none all x ≡ true)
+      → (x : ℕ) → IsBindable n t x → IsIn x asked → is_known none all x ≡ true
+  asked_known n t asked start all is end kept x (by_term y h) here = kept y (is.in_terms y h)
+  asked_known n t asked start all is end kept x (by_size y h) here = kept y (is.small y here h)
+  asked_known n t asked start all is end kept x (by_guard y e h sources) here =
+      let there = equated_is_in t y e h in end (equation_for y e) there (all_asked_known n t asked start all is end kept (variables_of e) sources (λ z g. is.reads (equation_for y e) there z g))
+
+  all_asked_known : (n : PlainNet) (t : PlainTransition) (asked start all : List ℕ) → IsStart n t asked start → IsClosed none all (equations_of t.guard) → ((x : ℕ) → IsIn x start → is_known none all x ≡ true)
+      → (xs : List ℕ) → AreBindable n t xs → ((x : ℕ) → IsIn x xs → IsIn x asked) → list_all (is_known none all) xs ≡ true
+  all_asked_known n t asked start all is end kept xs no_more here = refl
+  all_asked_known n t asked start all is end kept xs (and_more y ys h rest) here =
+      rw (asked_known n t asked start all is end kept y h (here y (inl refl))) (all_asked_known n t asked start all is end kept ys rest (λ z g. here z (inr g)))
+
+-- What is asked for is found from the start just where it is bindable.
+pub found_from_start : (n : PlainNet) (t : PlainTransition) (asked start : List ℕ) → IsStart n t asked start → (x : ℕ) → IsIn x asked
+    → (is_listed (found_in (length (equations_of t.guard)) (λ y. false) start (equations_of t.guard)) x ≡ true) ↔ IsBindable n t x
+found_from_start n t asked start is x here = (
+  λ h. sound_in (length qs) n t none start qs starts (λ q g. in_guard_from t q g) x h,
+  λ h. asked_known n t asked start (found_all t start) is (closed (length qs) none start qs itself) (λ y g. stays (length qs) none start qs y (in_listed y start g)) x h here,
+)
+  where
+    qs : List Equation
+    qs = equations_of t.guard
+
+    itself : length (equations_of t.guard) ≤ length (equations_of t.guard)
+    itself = omega arith
+
+    starts : IsSoundList n t none start
+    starts y h = ⊎_elim (λ g. by_term y g) (λ g. by_size y g) (is.reason y (listed_in y start h))

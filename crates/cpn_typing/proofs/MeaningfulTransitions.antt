@@ -19,7 +19,8 @@ use Rattle.cpn_typing.specs.Multisets.{Side, input, output}
 use Rattle.cpn_typing.specs.GuardsAndDelays.{checked_guard}
 use Rattle.cpn_typing.specs.InscriptionVariables.{inscription_variables}
 use Rattle.cpn_typing.specs.AcceptedTransitions.{delay_variables, arcs_variables, transition_variables, IsAcceptedArc, IsAcceptedDelay, IsAcceptedTransition, IsNetOf, ArcMeans, IsMeaningfulTransition}
-use Rattle.cpn_typing.proofs.Consistent.{IsConsistent, accepted_parts, same_accepted, declarations_consistent}
+use Rattle.cpn_typing.specs.Consistency.{IsConsistent}
+use Rattle.cpn_typing.proofs.Consistent.{accepted_parts, same_accepted, declarations_consistent}
 use Rattle.cpn_typing.proofs.MeaningsInNets.{AreAmong, arc_means, guard_has_meaning, delay_has_meaning, arc_reads_declared, text_reads_declared}
 
 -- ---- what stands in a transition is among its variables

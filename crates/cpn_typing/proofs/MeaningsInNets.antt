@@ -27,14 +27,15 @@ use Rattle.cpn_typing.specs.Multisets.{Side, inside, checked_arc, checked_init}
 use Rattle.cpn_typing.specs.GuardsAndDelays.{checked_guard, checked_delay, checked_value}
 use Rattle.cpn_typing.specs.InscriptionVariables.{inscription_variables}
 use Rattle.cpn_typing.specs.AcceptedTransitions.{IsNetOf}
+use Rattle.cpn_typing.specs.Consistency.{HasSets, IsConsistent}
 use Rattle.cpn_typing.proofs.Outcomes.{means_then, chosen}
 use Rattle.cpn_typing.proofs.Acceptance.{accepted}
 use Rattle.cpn_typing.proofs.ColourTypes.{admitted_has_type}
 use Rattle.cpn_typing.proofs.Functions.{world_below}
 use Rattle.cpn_typing.proofs.TermsOfForms.{there_is_meaning}
 use Rattle.cpn_typing.proofs.AcceptedMultisets.{arc_has_terms, arc_is_readable, init_has_terms}
-use Rattle.cpn_typing.proofs.SetsDeclared.{HasSets, their_own}
-use Rattle.cpn_typing.proofs.Consistent.{IsConsistent, accepted_parts, same_accepted}
+use Rattle.cpn_typing.proofs.SetsDeclared.{their_own}
+use Rattle.cpn_typing.proofs.Consistent.{accepted_parts, same_accepted}
 
 -- each variable of an inscription is one of the transition's
 abbrev pub AreAmong : List ℕ → List ℕ → Type 0

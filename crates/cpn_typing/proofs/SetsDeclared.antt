@@ -6,13 +6,9 @@ use Rattle.cpn_syntax.specs.DeclTrees.{PlainAlternative, PlainBody, unit, bool, 
 use Rattle.cpn_typing.specs.Names.{Name, Meant, a_variable, a_constant, a_constructor, a_function, Refusal, NamedConstructor, Declared, colour_named, meant_among, unknown, empty_colour, Checked, ok, refused, required}
 use Rattle.cpn_typing.specs.TypedValues.{Sets, argument_of, argument_types, HasSetsOf, HasSetsOfEach, HasSetsOfArguments}
 use Rattle.cpn_typing.specs.ColourSets.{with_new, with_all_new, component, components, Alternatives, bare_before, taking_before, alternative_of, alternatives_of, Shaped, only_shape, new_enumeration, new_union, shape_of_body, other_names}
+use Rattle.cpn_typing.specs.Consistency.{HasSets, ColoursOf}
 use Rattle.cpn_typing.proofs.Outcomes.{Accepts, accepts_then, accepts_if}
 use Rattle.cpn_typing.proofs.NamesDeclared.{length_more, index_before, index_at, IsConstant, constant_is, IsConstructor, constructor_is}
-
--- The sets have the enumerations and the unions, by their numbers.
-pub record HasSets (sets : Sets) (es : List (List Name)) (us : List (List NamedConstructor)) : Type 0 where
-  pub constants : (id : ℕ) → id < length es → sets.constants id ≡ length (slice_index_or es id [])
-  pub constructors : (id k : ℕ) → id < length us → sets.constructor id k ≡ option_map argument_of (slice_get (slice_index_or us id []) k)
 
 pub fewer_sets : (sets : Sets) (es es2 : List (List Name)) (us us2 : List (List NamedConstructor)) → HasSets sets (es ++ es2) (us ++ us2) → HasSets sets es us
 fewer_sets sets es es2 us us2 h = record {
@@ -45,10 +41,6 @@ last_constructors sets es us cs k h =
     one_longer a b e = omega arith
 
 -- ---- components
-
--- each colour set that is declared is of the sets
-abbrev pub ColoursOf : Sets → Declared → Type 0
-ColoursOf sets ds = (n : Name) (c : PlainColour) → colour_named n ds ≡ Some c → HasSetsOf sets c.shape
 
 component_of : (sets : Sets) (o : Option PlainColour) (r : Refusal) → ((c : PlainColour) → o ≡ Some c → HasSetsOf sets c.shape) → Accepts (HasSetsOf sets) (required (option_map (λ colour. colour.shape) o) r)
 component_of sets None r p = tt

@@ -8,6 +8,7 @@ pub mod TypedValues
 pub mod Law
 pub mod ColourSets
 pub mod Declarations
+pub mod Consistency
 pub mod Multisets
 pub mod InscriptionVariables
 pub mod GuardsAndDelays
