@@ -9,7 +9,7 @@ use Rattle.std.proofs.lemmas.List.{length-map, length-take-le, take-append-drop,
 use Rattle.std.proofs.lemmas.List.Folds.{list_any-append}
 use Rattle.cpn_file.specs.Parts.{is_one_of}
 use Rattle.cpn_file.specs.Document.{are_distinct, are_apart}
-use Rattle.cpn_file.specs.Loading.{number_of_name}
+use Rattle.cpn_file.specs.Document.{number_of_name}
 use Rattle.cpn_file.specs.Names.{texts_of}
 
 -- ---- seen through what names refer to

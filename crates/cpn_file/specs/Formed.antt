@@ -1,7 +1,14 @@
--- What the form of a document says of its module: the names of places, and those of transitions, are apart.
-use Rattle.std.specs.Prelude.{◌≡◌, true}
-use Rattle.cpn_file.specs.Document.{RawModule, are_apart, place_names, transition_names}
+-- What the form of a document says of its numbers: each arc is at one of the places and at one of the transitions, and these
+-- have numbers of 32 bits.
+use Rattle.std.specs.Prelude.{ℕ, ◌<◌, ◌^◌, length}
+use Rattle.std.specs.List.{AllByRecursion}
+use Rattle.cpn_file.specs.Document.{JoinedArc, RawDocument}
 
-pub record IsFormed (m : RawModule) : Type 0 where
-  pub places_apart : are_apart (place_names m.places) ≡ true
-  pub transitions_apart : are_apart (transition_names m.transitions) ≡ true
+pub record IsAmong (places transitions : ℕ) (arc : JoinedArc) : Type 0 where
+  pub place : arc.place < places
+  pub transition : arc.transition < transitions
+
+pub record IsFormed (document : RawDocument) : Type 0 where
+  pub arcs_among : AllByRecursion (IsAmong (length document.the_module.places) (length document.the_module.transitions)) document.the_module.arcs
+  pub few_places : length document.the_module.places < 2 ^ 32
+  pub few_transitions : length document.the_module.transitions < 2 ^ 32

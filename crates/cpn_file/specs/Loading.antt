@@ -1,222 +1,92 @@
--- What the texts of a document say: its net and its initial marking. The texts are read in this order: the declarations;
--- the colour set of each place; what the names at the top and at the arcs name; the initial markings; the inscriptions of
--- the arcs; then the variables of each transition.
--- Source: own choice; arcs and markings are those of Jensen and Kristensen, chapter 4.
-use Rattle.std.specs.Prelude.{ℕ, suc, ◌+◌, ◌==◌, pos, Bool, true, false, not, if◌then◌else◌, nat_lt, nat_le, List, [], ◌∷◌, ◌++◌, length, map, replicate, Option, Some, None, option_map, codes}
-use Rattle.std.specs.List.{filter, list_any, list_all, range_with_len, position}
-use Rattle.std.specs.Option.{option_or}
-use Rattle.std.specs.Str.{bytes_eq}
-use Rattle.serde_json.specs.Data.{Data}
-use Rattle.cpn_definitions.specs.Value.{int}
-use Rattle.cpn_definitions.specs.Marking.{Tokens, Marking, token_at}
-use Rattle.cpn_definitions.specs.Inscription.{PlainExpr, literal, variable, one, PlainPattern, literal_pattern, variable_pattern}
-use Rattle.cpn_definitions.specs.Net.{PlainArc, PlainTransition, Coloured, PlainNet}
-use Rattle.cpn_definitions.specs.Lone.{is_variable}
-use Rattle.cpn_file.specs.Served.{int_colour}
-use Rattle.cpn_file.specs.Reading.{Reading, read, refused, ◌>>=◌, or_refusal, check, each, not_served}
-use Rattle.cpn_file.specs.Parts.{is_one_of}
-use Rattle.cpn_file.specs.Texts.{number_in, variable_in, initial_in}
-use Rattle.cpn_file.specs.Document.{RawPlace, RawArc, RawModule, RawDocument, place_names, transition_names, document_in}
-use Rattle.cpn_file.specs.declared.initials.Initial.{Initial}
-use Rattle.cpn_file.specs.declared.document.Way.{Way}
-use Rattle.cpn_file.specs.declared.document.Way.TheVariants.{ToTransition, ToPlace, Both}
-use Rattle.cpn_file.specs.declared.arcs.Arc.{Arc}
-use Rattle.cpn_file.specs.declared.arcs.Inscription.{Inscription}
-use Rattle.cpn_file.specs.declared.arcs.Inscription.TheVariants.{Number, Variable}
+-- The net and the initial marking of what is accepted: a net, in which the variables of each transition are listed; these
+-- have to be bindable; the net has to be one that is served today; then the initial markings are evaluated.
+-- Source: own choice; initial markings are those of Jensen and Kristensen, chapter 4.
+use Rattle.std.specs.Prelude.{◌≡◌, ℕ, suc, Bool, true, if◌then◌else◌, List, [], ◌∷◌, map, replicate, Option, Some, None}
+use Rattle.std.specs.List.{flat_map}
+use Rattle.cpn_definitions.specs.Lists.{in_order}
+use Rattle.cpn_definitions.specs.Marking.{PlainToken, Tokens, Marking, token_at, token_cmp}
+use Rattle.cpn_definitions.specs.Net.{PlainTransition, Coloured, PlainNet, place_at}
+use Rattle.cpn_definitions.specs.Outcome.{Outcome, gives, faults, no_meaning}
+use Rattle.cpn_definitions.specs.Terms.{PlainTerm, terms_of}
+use Rattle.cpn_typing.specs.Names.{Name, NamedConstructor, Declared, ok}
+use Rattle.cpn_typing.specs.Names as checks
+use Rattle.cpn_typing.specs.AcceptedTransitions.{HasItsVariables}
+use Rattle.cpn_typing.specs.BindableRule.{IsBindableAnswer}
+use Rattle.cpn_file.specs.Reading.{typing, inscription, init, Reading, read, refused, ◌>>=◌, check, each_from, not_served}
+use Rattle.cpn_file.specs.Trees.{EachIs}
+use Rattle.cpn_file.specs.Accepted.{Initial, Accepted}
+use Rattle.cpn_file.specs.Served.{is_served}
+use Rattle.cpn_file.specs.declared.refusals.Pointer.TheVariants.{Transition}
 
 -- A net and its initial marking.
 pub record PlainLoaded : Type 0 where
   pub net : PlainNet
   pub initial : Marking
 
--- ---- declarations
+-- ---- the net
 
--- the most variables that a document may declare
-abbrev pub most_variables : ℕ
-most_variables = 32
+-- a transition with these variables
+abbrev pub with_variables : PlainTransition → List ℕ → PlainTransition
+with_variables t xs = record { name = t.name; guard = t.guard; delay = t.delay; inputs = t.inputs; outputs = t.outputs; vars = xs }
 
--- The names of the variables that declarations declare, one after another, behind those that are declared already: each
--- is a new name, and there are not too many.
-unfoldable pub variables_behind : List (List ℕ) → List (List ℕ) → Reading (List (List ℕ))
-variables_behind names [] = read names
-variables_behind names (text ∷ texts) = do
-  name ← or_refusal (variable_in text) not_served
-  few ← check (nat_lt (length names) most_variables) not_served
-  new ← check (not (is_one_of name names)) not_served
-  variables_behind (names ++ name ∷ []) texts
+-- The transition with its variables listed.
+pub record IsCompleted (bare t : PlainTransition) : Type 0 where
+  pub same : t ≡ with_variables bare t.vars
+  pub variables : HasItsVariables t
 
--- The declarations: first that of INT as the colour set of integers, then those of variables of it. They are read as the
--- names of the variables.
-unfoldable pub variables_in : List (List ℕ) → Reading (List (List ℕ))
-variables_in [] = refused not_served
-variables_in (first ∷ texts) = do
-  int_declared ← check (bytes_eq first (codes "colset INT = int;")) not_served
-  variables_behind [] texts
+-- the names of constructors
+abbrev pub constructor_names : List NamedConstructor → List Name
+constructor_names constructors = map (λ c. c.name) constructors
 
--- ---- colour sets
+-- a net of what is declared, with these places and transitions
+abbrev pub net_from : Declared → List Coloured → List PlainTransition → PlainNet
+net_from ds places transitions = record {
+  places = places;
+  transitions = transitions;
+  variables = ds.variables;
+  constants = ds.enumerations;
+  constructors = map constructor_names ds.unions;
+  functions = ds.functions;
+}
 
--- whether the text of a place's colour set names INT
-abbrev pub has_int : RawPlace → Bool
-has_int place = bytes_eq place.colour (codes "INT")
+-- The net of what is accepted.
+pub record IsItsNet (accepted : Accepted) (n : PlainNet) : Type 0 where
+  pub completed : EachIs IsCompleted accepted.transitions n.transitions
+  pub is : n ≡ net_from accepted.declared accepted.places n.transitions
 
--- ---- names of places and transitions
+-- ---- bindable variables
 
--- the number of a name: its position among the names
-abbrev pub number_of_name : List ℕ → List (List ℕ) → Option ℕ
-number_of_name name names = position (bytes_eq name) names
-
--- An arc with its place and its transition as their numbers in the module, and the text of its inscription.
-pub record JoinedArc : Type 0 where
-  pub place : ℕ
-  pub transition : ℕ
-  pub way : Way
-  pub expr : List ℕ
-
--- an arc among places and transitions of these names
-unfoldable pub joined_in : List (List ℕ) → List (List ℕ) → RawArc → Reading JoinedArc
-joined_in places transitions arc = do
-  place ← or_refusal (number_of_name arc.place places) not_served
-  transition ← or_refusal (number_of_name arc.transition transitions) not_served
-  read (record { place = place; transition = transition; way = arc.way; expr = arc.expr })
+-- Whether the variables of each transition, which are numbered from i on, are bindable: the first refusal counts.
+pub data AreBindable (n : PlainNet) : ℕ → List PlainTransition → Reading Bool → Type 0 where
+  none_left : (i : ℕ) → AreBindable n i [] (read true)
+  these_are : (i : ℕ) (t : PlainTransition) (ts : List PlainTransition) (r : Reading Bool) → IsBindableAnswer n t (ok tt) → AreBindable n (suc i) ts r → AreBindable n i (t ∷ ts) r
+  one_is_not : (i : ℕ) (t : PlainTransition) (ts : List PlainTransition) (r : checks.Refusal) → IsBindableAnswer n t (checks.refused r)
+      → AreBindable n i (t ∷ ts) (refused (inscription (Transition i) (typing r)))
 
 -- ---- initial markings
 
--- the initial marking of a place, where one is written
-abbrev pub optional_initial : Option (List ℕ) → Reading (Option Initial)
-optional_initial None = read None
-optional_initial (Some text) = do
-  initial ← or_refusal (initial_in text) not_served
-  read (Some initial)
+-- the token of a term of an initial marking; on a place that keeps no time stamps its stamp is 0
+abbrev pub token_of : Bool → PlainTerm → PlainToken
+token_of timed term = token_at term.value (if timed then term.delay else 0)
 
-abbrev pub initial_of : RawPlace → Reading (Option Initial)
-initial_of place = optional_initial place.initial
+-- the tokens of terms, each as many times as its count says, in their order
+abbrev pub tokens_of : Bool → List PlainTerm → Tokens
+tokens_of timed terms = in_order token_cmp (flat_map (λ term. replicate term.count (token_of timed term)) terms)
 
--- the tokens of an initial marking, each with time stamp 0; none where none is written
-abbrev pub initial_tokens : Option Initial → Tokens
-initial_tokens None = []
-initial_tokens (Some initial) = replicate initial.count (token_at (int initial.value) 0)
+-- The tokens on a place at the start, or the fault of its initial marking. One that is accepted has a meaning.
+abbrev pub tokens_in : Coloured → Outcome (List PlainTerm) → Reading Tokens
+tokens_in place (gives terms) = read (tokens_of place.colour.timed terms)
+tokens_in place (faults fault) = refused (init place.name fault)
+tokens_in place no_meaning = refused not_served
 
--- ---- inscriptions
+-- An initial marking is evaluated at time 0 under no binding; where none is written there is no token.
+abbrev pub start_of : PlainNet → ℕ → Option Initial → Reading Tokens
+start_of n p None = read []
+start_of n p (Some initial) = tokens_in (place_at n p) (terms_of n.functions initial.expr initial.colour [] 0)
 
--- An inscription: a number, or one of the variables, by its number.
-unfoldable pub inscription_in : List (List ℕ) → List ℕ → Reading Inscription
-inscription_in variables text = or_refusal (option_or (option_map (λ n. Number (pos n)) (number_in text)) (option_map Variable (number_of_name text variables))) not_served
-
--- an arc with what its inscription says
-unfoldable pub arc_of : List (List ℕ) → JoinedArc → Reading Arc
-arc_of variables arc = do
-  inscription ← inscription_in variables arc.expr
-  read (record { place = arc.place; transition = arc.transition; way = arc.way; inscription = inscription })
-
--- ---- the arcs of the net
-
--- an inscription, and the pattern that it is on an input arc
-abbrev pub inscription_expr : Inscription → PlainExpr
-inscription_expr (Number z) = literal (int z)
-inscription_expr (Variable x) = variable x
-
-abbrev pub inscription_pattern : Inscription → PlainPattern
-inscription_pattern (Number z) = literal_pattern (int z)
-inscription_pattern (Variable x) = variable_pattern x
-
--- whether an arc leads to its transition, and whether it leads to its place
-abbrev pub is_input : Way → Bool
-is_input ToTransition = true
-is_input ToPlace = false
-is_input Both = true
-
-abbrev pub is_output : Way → Bool
-is_output ToTransition = false
-is_output ToPlace = true
-is_output Both = true
-
--- An input arc of the net has one binding term, one token of its inscription; an output arc has none.
-abbrev pub input_of : Arc → PlainArc
-input_of arc = record { place = arc.place; colour = int_colour; expr = one (inscription_expr arc.inscription); terms = record { count = 1; pattern = inscription_pattern arc.inscription } ∷ [] }
-
-abbrev pub output_of : Arc → PlainArc
-output_of arc = record { place = arc.place; colour = int_colour; expr = one (inscription_expr arc.inscription); terms = [] }
-
--- the arcs of the transition of a number, in document order, and the input and the output arcs among arcs
-abbrev pub arcs_of : List Arc → ℕ → List Arc
-arcs_of arcs t = filter (λ arc. arc.transition == t) arcs
-
-abbrev pub inputs_among : List Arc → List PlainArc
-inputs_among arcs = map input_of (filter (λ arc. is_input arc.way) arcs)
-
-abbrev pub outputs_among : List Arc → List PlainArc
-outputs_among arcs = map output_of (filter (λ arc. is_output arc.way) arcs)
-
--- ---- transitions
-
--- the name of a place or a transition in the net: the module's name, `/`, its name
-abbrev pub flattened : List ℕ → List ℕ → List ℕ
-flattened top name = top ++ codes "/" ++ name
-
--- whether a variable stands on one of the arcs
-abbrev pub stands_on : List PlainArc → ℕ → Bool
-stands_on arcs x = list_any (λ arc. is_variable x arc.expr) arcs
-
--- the variables among these numbers that stand on an arc, where each of them stands on an input arc
-abbrev pub bound_among : List PlainArc → List PlainArc → List ℕ → Reading (List ℕ)
-bound_among inputs outputs numbers =
-    if list_all (stands_on inputs) (filter (stands_on (inputs ++ outputs)) numbers) then read (filter (stands_on (inputs ++ outputs)) numbers) else refused not_served
-
--- The variables of a transition: those, of so many, that stand on one of its arcs, in declaration order,
--- where each of them stands on an input arc.
-unfoldable pub variables_on : ℕ → List PlainArc → List PlainArc → Reading (List ℕ)
-variables_on count inputs outputs = bound_among inputs outputs (range_with_len 0 count)
-
--- the most arcs of a transition, an arc both ways counting two
-abbrev pub most_arcs : ℕ
-most_arcs = 64
-
--- A transition of a name with these arcs, of which there are not too many; each of its variables stands on an input arc.
-unfoldable pub transition_with : ℕ → List ℕ → List Arc → Reading PlainTransition
-transition_with count name arcs = do
-  few ← check (nat_le (length (inputs_among arcs) + length (outputs_among arcs)) most_arcs) not_served
-  vars ← variables_on count (inputs_among arcs) (outputs_among arcs)
-  read (record { name = name; guard = []; delay = None; inputs = inputs_among arcs; outputs = outputs_among arcs; vars = vars })
-
--- the transitions of these names, numbered from t
-unfoldable pub transitions_from : ℕ → List ℕ → List Arc → ℕ → List (List ℕ) → Reading (List PlainTransition)
-transitions_from count top arcs t [] = read []
-transitions_from count top arcs t (name ∷ names) = do
-  first ← transition_with count (flattened top name) (arcs_of arcs t)
-  rest ← transitions_from count top arcs (suc t) names
-  read (first ∷ rest)
-
--- ---- the net
-
-abbrev pub place_of : List ℕ → RawPlace → Coloured
-place_of top place = record { name = flattened top place.name; colour = int_colour }
-
-abbrev pub variable_of : List ℕ → Coloured
-variable_of name = record { name = name; colour = int_colour }
-
--- a net of the module's places, with these transitions and variables
-abbrev pub net_of : RawModule → List PlainTransition → List (List ℕ) → PlainNet
-net_of m transitions variables =
-    record { places = map (place_of m.name) m.places; transitions = transitions; variables = map variable_of variables; constants = []; constructors = []; functions = [] }
-
--- the arcs of a module, each among its places and transitions
-abbrev pub joined_arcs : RawModule → Reading (List JoinedArc)
-joined_arcs m = each (joined_in (place_names m.places) (transition_names m.transitions)) m.arcs
-
--- the net and the initial marking that the texts of a document say
-unfoldable pub loaded_from : RawDocument → Reading PlainLoaded
-loaded_from document = do
-  variables ← variables_in document.declarations
-  integers ← check (list_all has_int document.the_module.places) not_served
-  named ← check (bytes_eq document.the_module.name document.top) not_served
-  joined ← joined_arcs document.the_module
-  initials ← each initial_of document.the_module.places
-  arcs ← each (arc_of variables) joined
-  transitions ← transitions_from (length variables) document.the_module.name arcs 0 (transition_names document.the_module.transitions)
-  read (record { net = net_of document.the_module transitions variables; initial = map initial_tokens initials })
-
--- The net and the initial marking of a JSON value: its form is read first, whole, and then its texts.
-unfoldable pub loaded_in : Data → Reading PlainLoaded
-loaded_in d = do
-  document ← document_in d
-  loaded_from document
+-- the net, if it is served, with its initial marking
+unfoldable pub loaded_from : PlainNet → List (Option Initial) → Reading PlainLoaded
+loaded_from n initials = do
+  served ← check (is_served n) not_served
+  marking ← each_from (start_of n) 0 initials
+  read (record { net = n; initial = marking })

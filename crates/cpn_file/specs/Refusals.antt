@@ -1,28 +1,178 @@
 -- Refusals as an error line tells them: the number, the name and the place of each. Source: own choice.
 use Rattle.std.specs.Prelude.{ℕ, List, [], ◌∷◌, ◌++◌, codes}
 use Rattle.std.specs.Fmt.{decimal}
-use Rattle.cpn_file.specs.Reading.{Refusal, not_json, not_yet}
+use Rattle.cpn_definitions.specs.Outcome.{Fault, overflow, divide_by_zero, empty_list, no_case, not_in_colour, bad_coefficient, bad_delay, too_large}
+use Rattle.cpn_lex.specs.declared.refusals.LexError.{LexError}
+use Rattle.cpn_lex.specs.declared.refusals.LexError.TheVariants as lex
+use Rattle.cpn_syntax.specs.declared.refusals.SyntaxError.{SyntaxError}
+use Rattle.cpn_syntax.specs.declared.refusals.SyntaxError.TheVariants as syntax_error
+use Rattle.cpn_typing.specs.Names.{Limit, depth, nodes, variables, Refusal as TypeRefusal, unknown, duplicate, mismatch, not_closed, not_bindable, input_delay, time_not_allowed, too_many, empty_colour}
+use Rattle.cpn_file.specs.Reading.{TextRefusal, lexical, syntactic, typing, Refusal, not_json, not_yet, inscription, init}
+use Rattle.cpn_file.specs.declared.refusals.Pointer.{Pointer}
+use Rattle.cpn_file.specs.declared.refusals.Pointer.TheVariants.{Root, Declaration, Colour, Initial, Guard, Delay, Expr, Transition}
 
--- the number of a refusal among all those of documents
-abbrev pub refusal_number : Refusal → ℕ
-refusal_number not_json = 1
-refusal_number (not_yet place) = 7
+-- ---- places of a document
 
-abbrev pub refusal_name : Refusal → List ℕ
-refusal_name not_json = codes "not_json"
-refusal_name (not_yet place) = codes "not_yet"
+-- the JSON pointer of what stands in a list of the module at a number, and at a key of it
+abbrev pub item_pointer : List ℕ → ℕ → List ℕ
+item_pointer list i = codes "/modules/0/" ++ list ++ codes "/" ++ decimal i
 
--- the place in the document that the refusal speaks of, as a JSON pointer; empty where it is the whole
-abbrev pub pointer : Refusal → List ℕ
-pointer not_json = []
-pointer (not_yet place) = place
+abbrev pub key_pointer : List ℕ → ℕ → List ℕ → List ℕ
+key_pointer list i key = item_pointer list i ++ codes "/" ++ key
+
+-- A place of a document, as a JSON pointer; that of the whole document is empty.
+abbrev pub pointer_text : Pointer → List ℕ
+pointer_text Root = []
+pointer_text (Declaration i) = codes "/declarations/" ++ decimal i
+pointer_text (Colour i) = key_pointer (codes "places") i (codes "colour")
+pointer_text (Initial i) = key_pointer (codes "places") i (codes "initial")
+pointer_text (Guard i) = key_pointer (codes "transitions") i (codes "guard")
+pointer_text (Delay i) = key_pointer (codes "transitions") i (codes "delay")
+pointer_text (Expr i) = key_pointer (codes "arcs") i (codes "expr")
+pointer_text (Transition i) = item_pointer (codes "transitions") i
 
 -- a space and the text, or nothing where the text is empty
 abbrev pub with_space : List ℕ → List ℕ
 with_space [] = []
 with_space (byte ∷ bytes) = codes " " ++ byte ∷ bytes
 
--- The error line of a refusal: `error document `, the number, a space and the name; then a space and the place where it
--- is not the whole document; a line feed.
-unfoldable pub document_line : Refusal → List ℕ
-document_line refusal = codes "error document " ++ decimal (refusal_number refusal) ++ codes " " ++ refusal_name refusal ++ with_space (pointer refusal) ++ codes "\n"
+-- ---- texts that are refused
+
+-- the part of the language whose rule a text breaks
+abbrev pub part_name : TextRefusal → List ℕ
+part_name (lexical e) = codes "lex"
+part_name (syntactic e) = codes "syntax"
+part_name (typing r) = codes "type"
+
+-- the number of a refusal in its part, and its name; want of memory is none
+abbrev pub lexical_number : LexError → ℕ
+lexical_number lex.Memory = 0
+lexical_number (lex.BadByte at) = 1
+lexical_number (lex.OpenString at) = 2
+lexical_number (lex.NumberTooLarge at) = 3
+lexical_number lex.TooLong = 4
+
+abbrev pub lexical_name : LexError → List ℕ
+lexical_name lex.Memory = []
+lexical_name (lex.BadByte at) = codes "bad_byte"
+lexical_name (lex.OpenString at) = codes "open_string"
+lexical_name (lex.NumberTooLarge at) = codes "number_too_large"
+lexical_name lex.TooLong = codes "too_long"
+
+abbrev pub syntactic_number : SyntaxError → ℕ
+syntactic_number syntax_error.Memory = 0
+syntactic_number (syntax_error.Unexpected at) = 1
+syntactic_number syntax_error.EndOfText = 2
+syntactic_number syntax_error.TooDeep = 3
+
+abbrev pub syntactic_name : SyntaxError → List ℕ
+syntactic_name syntax_error.Memory = []
+syntactic_name (syntax_error.Unexpected at) = codes "unexpected"
+syntactic_name syntax_error.EndOfText = codes "end_of_text"
+syntactic_name syntax_error.TooDeep = codes "too_deep"
+
+abbrev pub typing_number : TypeRefusal → ℕ
+typing_number (unknown n) = 1
+typing_number (duplicate n) = 2
+typing_number (mismatch at) = 3
+typing_number (not_closed n) = 4
+typing_number (not_bindable n) = 5
+typing_number (input_delay at) = 6
+typing_number (time_not_allowed at) = 7
+typing_number (too_many limit) = 8
+typing_number (empty_colour n) = 9
+
+abbrev pub typing_name : TypeRefusal → List ℕ
+typing_name (unknown n) = codes "unknown"
+typing_name (duplicate n) = codes "duplicate"
+typing_name (mismatch at) = codes "mismatch"
+typing_name (not_closed n) = codes "not_closed"
+typing_name (not_bindable n) = codes "not_bindable"
+typing_name (input_delay at) = codes "input_delay"
+typing_name (time_not_allowed at) = codes "time_not_allowed"
+typing_name (too_many limit) = codes "too_many"
+typing_name (empty_colour n) = codes "empty_colour"
+
+abbrev pub limit_name : Limit → List ℕ
+limit_name depth = codes "depth"
+limit_name nodes = codes "nodes"
+limit_name variables = codes "variables"
+
+-- what a refusal carries: an offset in the text, a name, or what there are too many of; empty where it carries nothing
+abbrev pub lexical_detail : LexError → List ℕ
+lexical_detail lex.Memory = []
+lexical_detail (lex.BadByte at) = decimal at
+lexical_detail (lex.OpenString at) = decimal at
+lexical_detail (lex.NumberTooLarge at) = decimal at
+lexical_detail lex.TooLong = []
+
+abbrev pub syntactic_detail : SyntaxError → List ℕ
+syntactic_detail syntax_error.Memory = []
+syntactic_detail (syntax_error.Unexpected at) = decimal at
+syntactic_detail syntax_error.EndOfText = []
+syntactic_detail syntax_error.TooDeep = []
+
+abbrev pub typing_detail : TypeRefusal → List ℕ
+typing_detail (unknown n) = n
+typing_detail (duplicate n) = n
+typing_detail (mismatch at) = decimal at
+typing_detail (not_closed n) = n
+typing_detail (not_bindable n) = n
+typing_detail (input_delay at) = decimal at
+typing_detail (time_not_allowed at) = decimal at
+typing_detail (too_many limit) = limit_name limit
+typing_detail (empty_colour n) = n
+
+abbrev pub text_number : TextRefusal → ℕ
+text_number (lexical e) = lexical_number e
+text_number (syntactic e) = syntactic_number e
+text_number (typing r) = typing_number r
+
+abbrev pub text_name : TextRefusal → List ℕ
+text_name (lexical e) = lexical_name e
+text_name (syntactic e) = syntactic_name e
+text_name (typing r) = typing_name r
+
+abbrev pub text_detail : TextRefusal → List ℕ
+text_detail (lexical e) = lexical_detail e
+text_detail (syntactic e) = syntactic_detail e
+text_detail (typing r) = typing_detail r
+
+-- ---- error lines
+
+-- A document that is no JSON value, or not served yet: `error document `, the number, a space and the name; then a space and
+-- the place where it is not the whole document; a line feed.
+unfoldable pub document_line : ℕ → List ℕ → Pointer → List ℕ
+document_line number name place = codes "error document " ++ decimal number ++ codes " " ++ name ++ with_space (pointer_text place) ++ codes "\n"
+
+-- A text that is refused: `error inscription `, its place, the part, the number and the name, a space before each; then a
+-- space and what it carries where it carries something; a line feed.
+unfoldable pub line_with : List ℕ → List ℕ → ℕ → List ℕ → List ℕ → List ℕ
+line_with place part number name detail =
+    codes "error inscription " ++ place ++ codes " " ++ part ++ codes " " ++ decimal number ++ codes " " ++ name ++ with_space detail ++ codes "\n"
+
+-- the line of a refusal of the text, or of the transition, at a place
+abbrev pub inscription_line : Pointer → TextRefusal → List ℕ
+inscription_line place r = line_with (pointer_text place) (part_name r) (text_number r) (text_name r) (text_detail r)
+
+-- the name of a fault
+abbrev pub fault_name : Fault → List ℕ
+fault_name overflow = codes "overflow"
+fault_name divide_by_zero = codes "divide_by_zero"
+fault_name empty_list = codes "empty_list"
+fault_name no_case = codes "no_case"
+fault_name not_in_colour = codes "not_in_colour"
+fault_name bad_coefficient = codes "bad_coefficient"
+fault_name bad_delay = codes "bad_delay"
+fault_name too_large = codes "too_large"
+
+-- An initial marking that has a fault: `error net flat 4 init `, the place's name, a space, the fault's name; a line feed.
+unfoldable pub init_line : List ℕ → Fault → List ℕ
+init_line place fault = codes "error net flat 4 init " ++ place ++ codes " " ++ fault_name fault ++ codes "\n"
+
+-- The error line of a refusal.
+abbrev pub refusal_line : Refusal → List ℕ
+refusal_line not_json = document_line 1 (codes "not_json") Root
+refusal_line (not_yet place) = document_line 7 (codes "not_yet") place
+refusal_line (inscription place r) = inscription_line place r
+refusal_line (init place fault) = init_line place fault

@@ -5,10 +5,10 @@ use Rattle.cpn_definitions.specs.Marking.{Marking}
 use Rattle.cpn_definitions.specs.Lone.{IsFoundOnTokens}
 use Rattle.cpn_definitions.specs.Named.{IsNamed}
 use Rattle.cpn_definitions.specs.Sound.{IsSound, IsMarking, IsUntimed}
-use Rattle.cpn_file.specs.Texts.{most_tokens}
+use Rattle.cpn_definitions.specs.Terms.{most_tokens}
 use Rattle.cpn_file.specs.Loading.{PlainLoaded}
 
--- whether each place has at most the most tokens that an initial marking may have
+-- whether each place has at most as many tokens as one inscription may have
 abbrev pub has_few_tokens : Marking → Bool
 has_few_tokens m = list_all (λ tokens. nat_le (length tokens) most_tokens) m
 

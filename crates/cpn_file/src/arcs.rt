@@ -1,77 +1,146 @@
-//! Arcs with what their inscriptions say.
+//! The arcs of the net.
 
-ghost use Rattle.std.specs.Prelude.{◌≡◌, map};
-ghost use Rattle.cpn_file.specs.Reading.{each};
-ghost use Rattle.cpn_file.specs.Loading.{inscription_in, arc_of as arc_in};
-ghost use Rattle.cpn_file.specs.Views.{joined_view};
-ghost use Rattle.cpn_file.specs.Answers.{Gives, Finds};
+ghost use Rattle.std.specs.Prelude.{◌<◌, map, length};
+ghost use Rattle.std.specs.List.{AllByRecursion};
+ghost use Rattle.cpn_core.specs.Colours.{colour_view};
+ghost use Rattle.cpn_core.specs.Nets.{arc_view, place_view as net_place_view};
+ghost use Rattle.cpn_syntax.specs.ParsedViews.{inscription_view};
+ghost use Rattle.cpn_types.specs.DeclsViews.{decls_view};
+ghost use Rattle.cpn_file.specs.Reading.{each_from};
+ghost use Rattle.cpn_file.specs.Accepted.{input_at, output_at, sides_of as sides_in, arc_of as arc_in};
+ghost use Rattle.cpn_file.specs.TreesViews.{arc_trees_view};
+ghost use Rattle.cpn_file.specs.AcceptedViews.{sides_view, sides_views};
+ghost use Rattle.cpn_file.specs.Answers.{Loads};
 
 use crate::document::Way;
-use crate::joins::Joined;
-use crate::names::Names;
-use crate::refusals::{DocError, NOT_SERVED, Refused};
-use crate::texts::number_of;
+use crate::refusals::{LoadError, Pointer, not_accepted, not_parsed};
+use crate::trees::ArcTrees;
+use cpn_core::{Colour, Place, PlaceArc};
+use cpn_syntax::Inscription;
+use cpn_types::{Decls, Side, check_arc};
 use std::alloc::Global;
 
-/// The inscription of an arc.
-#[derive(Clone, Copy)]
-pub enum Inscription {
-    /// A number.
-    Number(i64),
-    /// The variable of a number, from 0 in declaration order.
-    Variable(u32),
-}
-
-/// An arc, with its place and its transition by their numbers in the module.
-#[derive(Clone, Copy)]
-pub struct Arc {
-    /// The number of the place.
-    pub place: u32,
+/// An arc of the document as it is accepted: its transition, and the input arc and the output arc that it stands for.
+#[derive(Drop)]
+pub struct Sides {
     /// The number of the transition.
     pub transition: u32,
-    /// Whither the arc leads.
-    pub way: Way,
-    /// The inscription.
-    pub inscription: Inscription,
+    /// The input arc.
+    pub input: Option<PlaceArc>,
+    /// The output arc.
+    pub output: Option<PlaceArc>,
 }
 
-#[tactic(auto, unfolding(crate::specs::Loading::inscription_in))]
-fn inscription_of(variables: &Names, text: &str) -> Result<Inscription, Refused>
-    ensures reads { Finds (λ inscription. inscription) result (inscription_in variables.now text.now) }
+/// An input arc at a place of the colour set.
+#[tactic(auto, unfolding(crate::specs::Accepted::input_at))]
+fn input_of(
+    alloc: Global,
+    decls: &Decls,
+    colour: &Colour,
+    number: usize,
+    place: u32,
+    tree: &Inscription,
+) -> Result<PlaceArc, LoadError>
+    ensures reads { Loads arc_view result (input_at (decls_view decls.now) (colour_view colour.now) number place (inscription_view tree.now)) }
 {
-    match number_of(text) {
-        Some(number) => Ok(Inscription::Number(number as i64)),
-        None => match variables.number_of(text) {
-            Some(variable) => Ok(Inscription::Variable(variable)),
-            None => Err(NOT_SERVED),
-        },
+    match check_arc(alloc, decls, colour, Side::Input, tree) {
+        Ok(inscription) => Ok(PlaceArc { place, inscription }),
+        Err(error) => Err(not_accepted(Pointer::Expr(number), error)),
     }
 }
 
-#[tactic(auto, unfolding(crate::specs::Loading::arc_of))]
-fn arc_of(variables: &Names, arc: &Joined) -> Result<Arc, Refused>
-    ensures reads { Finds (λ arc. arc) result (arc_in variables.now (joined_view arc.now)) }
+/// An output arc at a place of the colour set.
+#[tactic(auto, unfolding(crate::specs::Accepted::output_at))]
+fn output_of(
+    alloc: Global,
+    decls: &Decls,
+    colour: &Colour,
+    number: usize,
+    place: u32,
+    tree: &Inscription,
+) -> Result<PlaceArc, LoadError>
+    ensures reads { Loads arc_view result (output_at (decls_view decls.now) (colour_view colour.now) number place (inscription_view tree.now)) }
 {
-    let inscription = inscription_of(variables, arc.expr)?;
-    Ok(Arc {
-        place: arc.place,
-        transition: arc.transition,
-        way: arc.way,
-        inscription,
-    })
+    match check_arc(alloc, decls, colour, Side::Output, tree) {
+        Ok(inscription) => Ok(PlaceArc { place, inscription }),
+        Err(error) => Err(not_accepted(Pointer::Expr(number), error)),
+    }
 }
 
-/// The arcs, in order, with what their inscriptions say, where these variables are declared.
+/// The arcs of the net that an arc with this tree stands for.
+#[tactic(auto, unfolding(crate::specs::Accepted::sides_of))]
+fn sides_of(
+    alloc: Global,
+    decls: &Decls,
+    colour: &Colour,
+    number: usize,
+    arc: &ArcTrees,
+    tree: &Inscription,
+) -> Result<Sides, LoadError>
+    ensures reads { Loads sides_view result (sides_in arc.now.way (decls_view decls.now) (colour_view colour.now) number (arc_trees_view arc.now) (inscription_view tree.now)) }
+{
+    let transition = arc.transition;
+    match arc.way {
+        Way::ToTransition => {
+            let input = input_of(alloc, decls, colour, number, arc.place, tree)?;
+            Ok(Sides {
+                transition,
+                input: Some(input),
+                output: None,
+            })
+        }
+        Way::ToPlace => {
+            let output = output_of(alloc, decls, colour, number, arc.place, tree)?;
+            Ok(Sides {
+                transition,
+                input: None,
+                output: Some(output),
+            })
+        }
+        Way::Both => {
+            let input = input_of(alloc, decls, colour, number, arc.place, tree)?;
+            let output = output_of(alloc, decls, colour, number, arc.place, tree)?;
+            Ok(Sides {
+                transition,
+                input: Some(input),
+                output: Some(output),
+            })
+        }
+    }
+}
+
+/// The arcs of the net that an arc, by its number, stands for.
+#[tactic(auto, unfolding(crate::specs::Accepted::arc_of))]
+fn arc_of(
+    alloc: Global,
+    decls: &Decls,
+    places: &[Place],
+    number: usize,
+    arc: &ArcTrees,
+) -> Result<Sides, LoadError>
+    requires at_place { arc.now.place < length places.now }
+    ensures reads { Loads sides_view result (arc_in (decls_view decls.now) (map net_place_view places.now) number (arc_trees_view arc.now)) }
+{
+    let colour = &places[arc.place as usize].colour;
+    match &arc.expr {
+        Ok(tree) => sides_of(alloc, decls, colour, number, arc, tree),
+        Err(error) => Err(not_parsed(Pointer::Expr(number), *error)),
+    }
+}
+
+/// The arcs of the net that each arc stands for.
 pub(crate) fn arcs_of(
     alloc: Global,
-    variables: &Names,
-    joined: &[Joined],
-) -> Result<Vec<Arc>, DocError>
-    ensures reads { Gives (λ arcs. arcs.items) result (each (arc_in variables.now) (map joined_view joined.now)) }
+    decls: &Decls,
+    places: &[Place],
+    arcs: &[ArcTrees],
+) -> Result<Vec<Sides>, LoadError>
+    requires at_places { AllByRecursion (λ arc. arc.place < length places.now) arcs.now }
+    ensures reads { Loads (λ sides. sides_views sides.items) result (each_from (arc_in (decls_view decls.now) (map net_place_view places.now)) 0 (map arc_trees_view arcs.now)) }
 {
-    let mut arcs = Vec::with_capacity(alloc, joined.len())?;
-    for arc in joined {
-        arcs.push(arc_of(variables, arc)?)?;
+    let mut sides = Vec::with_capacity(alloc, arcs.len())?;
+    for (number, arc) in arcs.iter().enumerate() {
+        sides.push(arc_of(alloc, decls, places, number, arc)?)?;
     }
-    Ok(arcs)
+    Ok(sides)
 }

@@ -1,45 +1,45 @@
-//! The declarations of a document.
+//! The declarations of a document, one after another.
 
-ghost use Rattle.cpn_file.specs.Loading.{variables_behind, variables_in};
-ghost use Rattle.std.specs.Prelude.{[]};
-ghost use Rattle.cpn_file.specs.Names.{texts_of as bytes_of};
-ghost use Rattle.cpn_file.specs.Answers.{Gives};
+ghost use Rattle.std.specs.Prelude.{map};
+ghost use Rattle.cpn_typing.specs.Names.{nothing_declared};
+ghost use Rattle.cpn_types.specs.DeclsViews.{decls_view};
+ghost use Rattle.cpn_file.specs.Accepted.{declared_with, declared_from};
+ghost use Rattle.cpn_file.specs.TreesViews.{declared_view};
+ghost use Rattle.cpn_file.specs.Answers.{Loads};
 
-use crate::names::Names;
-use crate::refusals::{DocError, NOT_SERVED};
-use crate::texts::variable_of;
+use crate::parsing::Parsing;
+use crate::refusals::{LoadError, Pointer, not_accepted, not_parsed};
+use cpn_syntax::Declaration;
+use cpn_types::{Decls, declare};
 use std::alloc::Global;
 
-/// The most variables that a document may declare.
-const MOST_VARIABLES: usize = 32;
-
-fn declared<'v>(alloc: Global, texts: &[&'v str]) -> Result<Names<'v>, DocError>
-    ensures reads { Gives (λ names. names) result (variables_behind [] (bytes_of texts.now)) }
+/// Adds a declaration, by its number, to what is declared.
+#[tactic(auto, unfolding(crate::specs::Accepted::declared_with))]
+fn declare_next(
+    alloc: Global,
+    decls: &mut Decls,
+    number: usize,
+    text: &Parsing<Declaration>,
+) -> Result<(), LoadError>
+    ensures reads { Loads (λ _. decls_view decls.new) result (declared_with number (decls_view decls.old) (declared_view text.now)) }
 {
-    let mut names = Names::new(alloc);
-    for text in texts {
-        match variable_of(text) {
-            Some(name) => {
-                if names.len() >= MOST_VARIABLES {
-                    return Err(DocError::from(NOT_SERVED));
-                }
-                if !names.add(name)? {
-                    return Err(DocError::from(NOT_SERVED));
-                }
-            },
-            None => return Err(DocError::from(NOT_SERVED)),
-        }
+    let place = Pointer::Declaration(number);
+    match text {
+        Ok(tree) => match declare(alloc, decls, tree) {
+            Ok(()) => Ok(()),
+            Err(error) => Err(not_accepted(place, error)),
+        },
+        Err(error) => Err(not_parsed(place, *error)),
     }
-    Ok(names)
 }
 
-/// The names of the declared variables, in order.
-#[tactic(auto, unfolding(crate::specs::Loading::variables_in))]
-pub(crate) fn variables_of<'v>(alloc: Global, texts: &[&'v str]) -> Result<Names<'v>, DocError>
-    ensures reads { Gives (λ names. names) result (variables_in (bytes_of texts.now)) }
+/// What is declared after all the declarations.
+pub(crate) fn declared(alloc: Global, texts: &[Parsing<Declaration>]) -> Result<Decls, LoadError>
+    ensures reads { Loads decls_view result (declared_from 0 nothing_declared (map declared_view texts.now)) }
 {
-    if texts.is_empty() || texts[0] != "colset INT = int;" {
-        return Err(DocError::from(NOT_SERVED));
+    let mut decls = Decls::new(alloc);
+    for (number, text) in texts.iter().enumerate() {
+        declare_next(alloc, &mut decls, number, text)?;
     }
-    declared(alloc, &texts[1..])
+    Ok(decls)
 }

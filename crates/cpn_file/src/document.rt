@@ -16,7 +16,7 @@ pub enum Way {
 pub struct PlaceTexts<'v> {
     /// Its name in its module.
     pub name: &'v str,
-    /// The text of its colour set.
+    /// The name of its colour set.
     pub colour: &'v str,
     /// The text of its initial marking, where one is written.
     pub initial: Option<&'v str>,
@@ -27,6 +27,10 @@ pub struct PlaceTexts<'v> {
 pub struct TransitionTexts<'v> {
     /// Its name in its module.
     pub name: &'v str,
+    /// The text of its guard, where one is written.
+    pub guard: Option<&'v str>,
+    /// The text of its delay, where one is written.
+    pub delay: Option<&'v str>,
 }
 
 /// An arc as it is written.
@@ -42,6 +46,19 @@ pub struct ArcTexts<'v> {
     pub expr: &'v str,
 }
 
+/// An arc with its place and its transition by their numbers in the module, and the text of its inscription.
+#[derive(Clone, Copy)]
+pub struct Joined<'v> {
+    /// The number of the place.
+    pub place: u32,
+    /// The number of the transition.
+    pub transition: u32,
+    /// Whither the arc leads.
+    pub way: Way,
+    /// The text of the inscription.
+    pub expr: &'v str,
+}
+
 /// A module as it is written.
 #[derive(Drop)]
 pub struct Module<'v> {
@@ -51,8 +68,8 @@ pub struct Module<'v> {
     pub places: Vec<PlaceTexts<'v>>,
     /// Its transitions, in order; no two have one name.
     pub transitions: Vec<TransitionTexts<'v>>,
-    /// Its arcs, in order.
-    pub arcs: Vec<ArcTexts<'v>>,
+    /// Its arcs, in order, each among the places and the transitions.
+    pub arcs: Vec<Joined<'v>>,
 }
 
 /// A document of one module, as it is written.
@@ -60,8 +77,6 @@ pub struct Module<'v> {
 pub struct Document<'v> {
     /// The texts of its declarations, in order.
     pub declarations: Vec<&'v str>,
-    /// The name of the module at the top.
-    pub top: &'v str,
     /// Its one module.
     pub module: Module<'v>,
 }

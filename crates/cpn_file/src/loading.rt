@@ -1,28 +1,32 @@
-//! The net and the initial marking that the texts of a document say.
+//! The net and the initial marking of a document.
 
-ghost use Rattle.std.specs.Prelude.{◌≡◌, ℕ, List, map, true, IfOk};
-ghost use Rattle.std.specs.List.{list_all};
-ghost use Rattle.cpn_core.specs.Nets.{place_view as net_place, transition_view, variable_view, net_view};
-ghost use Rattle.cpn_file.specs.Reading.{check, not_served};
-ghost use Rattle.cpn_file.specs.Loading.{PlainLoaded, has_int, place_of, variable_of, net_of as net_with, loaded_from};
-ghost use Rattle.cpn_file.specs.Formed.{IsFormed};
-ghost use Rattle.cpn_file.specs.Loads.{loaded_view};
-ghost use Rattle.cpn_file.specs.Names.{texts_of};
-ghost use Rattle.cpn_file.specs.Views.{places_view, module_view, document_view};
-ghost use Rattle.cpn_file.specs.Answers.{Gives, Finds};
+ghost use Rattle.std.specs.Prelude.{◌≡◌, ◌<◌, ◌^◌, map, length, IfOk};
+ghost use Rattle.std.specs.List.{AllByRecursion};
+ghost use Rattle.cpn_core.specs.Nets.{place_view, transition_view, net_view};
+ghost use Rattle.cpn_types.specs.DeclsViews.{decls_view};
+ghost use Rattle.cpn_file.specs.Accepted.{accepted_in};
+ghost use Rattle.cpn_file.specs.Loading.{net_from, loaded_from};
+ghost use Rattle.cpn_file.specs.Reads.{loaded_by};
+ghost use Rattle.cpn_file.specs.TreesViews.{document_trees_view};
+ghost use Rattle.cpn_file.specs.AcceptedViews.{initials_view};
+ghost use Rattle.cpn_file.specs.Starts.{IsMeant};
+ghost use Rattle.cpn_file.specs.WellAccepted.{IsWellAccepted};
+ghost use Rattle.cpn_file.specs.Loads.{accepted_view, loaded_view};
+ghost use Rattle.cpn_file.specs.Answers.{Loads, LoadsBy};
 
 use crate::arcs::arcs_of;
-use crate::declarations::variables_of;
-use crate::document::{Document, Module, PlaceTexts};
-use crate::initials::initials_of;
-use crate::joins::joined_arcs;
-use crate::marking::marked;
-use crate::names::Names;
-use crate::net_arcs::int_colour;
-use crate::refusals::{DocError, NOT_SERVED, Refused};
-use crate::transitions::{flattened, transitions_of};
-use cpn_core::{Funs, Net, Place, PlainMarking, Transition, Variable};
-use std::alloc::{AllocError, Global};
+use crate::bindable::check_variables;
+use crate::declarations::declared;
+use crate::joining::{join_arcs, with_variables};
+use crate::marking::marking_of;
+use crate::places::{initials_of, net_places};
+use crate::refusals::{DocError, LoadError, NOT_SERVED};
+use crate::served::is_served;
+use crate::transitions::bare_transitions;
+use crate::trees::DocumentTrees;
+use cpn_core::{ArcExpr, Memory, Net, Place, PlainMarking, Transition};
+use cpn_types::Decls;
+use std::alloc::Global;
 use std::sync::Arc;
 
 /// A net and its initial marking.
@@ -34,94 +38,93 @@ pub struct Loaded {
     pub initial: PlainMarking,
 }
 
-/// That the colour set of each place is INT.
-fn check_colours(places: &[PlaceTexts]) -> Result<(), Refused>
-    ensures reads { Finds (λ _. true) result (check (list_all has_int (places_view places.now)) not_served) }
-{
-    for place in places {
-        if place.colour != "INT" {
-            return Err(NOT_SERVED);
-        }
-    }
-    Ok(())
+/// What is accepted of a document.
+#[derive(Drop)]
+pub(crate) struct Accepted {
+    /// What is declared.
+    pub(crate) decls: Decls,
+    /// The places.
+    pub(crate) places: Vec<Place>,
+    /// Their initial markings, where one is written.
+    pub(crate) initials: Vec<Option<ArcExpr>>,
+    /// The transitions with their arcs; their variables are not listed yet.
+    pub(crate) transitions: Vec<Transition>,
 }
 
-fn net_places(alloc: Global, top: &str, places: &[PlaceTexts]) -> Result<Vec<Place>, AllocError>
-    ensures made { IfOk result (λ made. map net_place made.items ≡ map (place_of top.now) (places_view places.now)) }
+/// What is accepted of a document with the trees of its texts, or the first refusal.
+#[tactic(auto, unfolding(crate::specs::Accepted::accepted_in))]
+pub(crate) fn accepted_of(alloc: Global, trees: &DocumentTrees) -> Result<Accepted, LoadError>
+    requires at_places { AllByRecursion (λ arc. arc.place < length trees.now.places.items) trees.now.arcs.items }
+    ensures reads { Loads accepted_view result (accepted_in (document_trees_view trees.now)) }
 {
-    let mut made = Vec::with_capacity(alloc, places.len())?;
-    for place in places {
-        let name = flattened(alloc, top, place.name)?;
-        made.push(Place {
-            name,
-            colour: int_colour(),
-        })?;
-    }
-    Ok(made)
+    let decls = declared(alloc, trees.declarations.as_slice())?;
+    let places = net_places(alloc, &decls, trees.name, trees.places.as_slice())?;
+    let initials = initials_of(alloc, &decls, places.as_slice(), trees.places.as_slice())?;
+    let mut transitions = bare_transitions(
+        alloc,
+        &decls,
+        trees.name,
+        trees.transitions.as_slice(),
+    )?;
+    let arcs = arcs_of(alloc, &decls, places.as_slice(), trees.arcs.as_slice())?;
+    join_arcs(&mut transitions, arcs)?;
+    Ok(Accepted {
+        decls,
+        places,
+        initials,
+        transitions,
+    })
 }
 
-fn net_variables(alloc: Global, names: &Names) -> Result<Vec<Variable>, AllocError>
-    ensures made { IfOk result (λ made. map variable_view made.items ≡ map variable_of names.now) }
-{
-    let mut made = Vec::with_capacity(alloc, names.len())?;
-    for number in 0..names.len() {
-        let name = String::from_str(alloc, names.name(number))?;
-        made.push(Variable {
-            name,
-            colour: int_colour(),
-        })?;
-    }
-    Ok(made)
-}
-
-/// A net of the module's places, with these transitions and the variables of these names.
+/// A net of what is declared, with these places and transitions.
 fn net_of(
     alloc: Global,
-    top: &Module,
+    decls: Decls,
+    places: Vec<Place>,
     transitions: Vec<Transition>,
-    names: &Names,
-) -> Result<Net, AllocError>
-    ensures made { IfOk result (λ net. net_view net ≡ net_with (module_view top.now) (map transition_view transitions.items) names.now) }
+) -> Result<Net, Memory>
+    ensures made { IfOk result (λ net. net_view net ≡ net_from (decls_view decls) (map place_view places.items) (map transition_view transitions.items)) }
 {
-    let places = net_places(alloc, top.name, top.places.as_slice())?;
-    let variables = net_variables(alloc, names)?;
-    let funs = Funs {
-        functions: Vec::new(alloc),
-    };
-    let funs = Arc::new(alloc, funs)?;
+    let parts = decls.into_parts(alloc)?;
+    let funs = Arc::new(alloc, parts.funs)?;
     Ok(Net {
         places,
         transitions,
-        variables,
-        constants: Vec::new(alloc),
-        constructors: Vec::new(alloc),
+        variables: parts.variables,
+        constants: parts.constants,
+        constructors: parts.constructors,
         funs,
     })
 }
 
-/// The net and the initial marking that the texts of a document say.
+/// The net, if it is served, with its initial marking.
 #[tactic(auto, unfolding(crate::specs::Loading::loaded_from))]
-pub(crate) fn loaded_of(alloc: Global, document: &Document) -> Result<Loaded, DocError>
-    requires formed { IsFormed (document_view document.now).the_module }
-    ensures reads { Gives loaded_view result (loaded_from (document_view document.now)) }
+fn started(alloc: Global, net: Net, initials: &[Option<ArcExpr>]) -> Result<Loaded, LoadError>
+    requires as_many { length initials.now ≡ length net.places.items }
+    requires few { length initials.now < 2 ^ 32 }
+    requires meant { AllByRecursion (IsMeant (net_view net).functions) (initials_view initials.now) }
+    ensures reads { Loads loaded_view result (loaded_from (net_view net) (initials_view initials.now)) }
 {
-    let top = &document.module;
-    let names = variables_of(alloc, document.declarations.as_slice())?;
-    check_colours(top.places.as_slice())?;
-    if top.name != document.top {
-        return Err(DocError::from(NOT_SERVED));
+    if !is_served(&net) {
+        return Err(LoadError::Document(DocError::from(NOT_SERVED)));
     }
-    let joined = joined_arcs(alloc, top)?;
-    let initials = initials_of(alloc, top.places.as_slice())?;
-    let arcs = arcs_of(alloc, &names, joined.as_slice())?;
-    let transitions = transitions_of(
-        alloc,
-        names.len() as u32,
-        top.name,
-        top.transitions.as_slice(),
-        arcs.as_slice(),
-    )?;
-    let net = net_of(alloc, top, transitions, &names)?;
-    let initial = marked(alloc, initials.as_slice())?;
+    let initial = marking_of(alloc, &net, initials)?;
     Ok(Loaded { net, initial })
+}
+
+/// The net and the initial marking of what is accepted.
+pub(crate) fn loaded_from_accepted(alloc: Global, accepted: Accepted) -> Result<Loaded, LoadError>
+    requires well { IsWellAccepted (accepted_view accepted) }
+    ensures reads { LoadsBy loaded_view result (loaded_by (accepted_view accepted)) }
+{
+    let Accepted {
+        decls,
+        places,
+        initials,
+        transitions,
+    } = accepted;
+    let transitions = with_variables(alloc, transitions)?;
+    check_variables(alloc, &decls, transitions.as_slice())?;
+    let net = net_of(alloc, decls, places, transitions)?;
+    started(alloc, net, initials.as_slice())
 }

@@ -3,9 +3,11 @@
 ghost use Rattle.std.specs.Prelude.{◌≡◌, ◌+◌, ◌<◌, ◌^◌, ℕ, List, [], ◌∷◌, ◌++◌, length, slice_index_or, true, false, not, if◌then◌else◌, IfOk, OnOk, OnErr};
 ghost use Rattle.cpn_file.specs.Names.{texts_of as bytes_of};
 ghost use Rattle.cpn_file.specs.Parts.{is_one_of};
-ghost use Rattle.cpn_file.specs.Document.{are_apart as are_all_apart};
-ghost use Rattle.cpn_file.specs.Loading.{number_of_name};
+ghost use Rattle.cpn_file.specs.Document.{are_apart as are_all_apart, place_names as names_of_places, transition_names as names_of_transitions};
+ghost use Rattle.cpn_file.specs.Views.{places_view, written_views};
+ghost use Rattle.cpn_file.specs.Document.{number_of_name};
 
+use crate::document::{PlaceTexts, TransitionTexts};
 use indexmap::IndexSet;
 use std::alloc::{AllocError, Global};
 use std::marker::Model;
@@ -103,4 +105,32 @@ pub(crate) fn are_apart(alloc: Global, texts: &[&str]) -> Result<bool, AllocErro
         }
     }
     Ok(true)
+}
+
+/// The names of places, in order.
+pub(crate) fn place_names<'v>(
+    alloc: Global,
+    places: &[PlaceTexts<'v>],
+) -> Result<Vec<&'v str>, AllocError>
+    ensures names { IfOk result (λ names. bytes_of names.items ≡ names_of_places (places_view places.now)) }
+{
+    let mut names = Vec::with_capacity(alloc, places.len())?;
+    for place in places {
+        names.push(place.name)?;
+    }
+    Ok(names)
+}
+
+/// The names of transitions, in order.
+pub(crate) fn transition_names<'v>(
+    alloc: Global,
+    transitions: &[TransitionTexts<'v>],
+) -> Result<Vec<&'v str>, AllocError>
+    ensures names { IfOk result (λ names. bytes_of names.items ≡ names_of_transitions (written_views transitions.now)) }
+{
+    let mut names = Vec::with_capacity(alloc, transitions.len())?;
+    for transition in transitions {
+        names.push(transition.name)?;
+    }
+    Ok(names)
 }

@@ -1,167 +1,136 @@
-//! The transitions of the net, with their variables.
+//! The transitions of the net, before their arcs are joined to them.
 
-ghost use Rattle.std.specs.Prelude.{◌≡◌, List, length, map, string_bytes, IfOk};
-ghost use Rattle.cpn_core.specs.Inscriptions.{expr_view, multiset_view};
-ghost use Rattle.cpn_core.specs.Nets.{arcs_view, transition_view};
-ghost use Rattle.cpn_definitions.specs.Inscription.{one};
-ghost use Rattle.cpn_definitions.specs.Lone.{is_variable};
-ghost use Rattle.cpn_file.specs.Loading.{flattened as flattened_name, stands_on as is_on, variables_on as variables_in, transition_with as transition_in, transitions_from};
-ghost use Rattle.cpn_file.specs.Document.{transition_names};
-ghost use Rattle.cpn_file.specs.Views.{written_views};
-ghost use Rattle.cpn_file.specs.Groups.{HoldsArcs};
-ghost use Rattle.cpn_file.specs.declared.arcs.Arc.{Arc as TheArc};
-ghost use Rattle.cpn_file.specs.Answers.{Gives};
+ghost use Rattle.std.specs.Prelude.{map, option_map, Some};
+ghost use Rattle.cpn_core.specs.Inscriptions.{expr_view};
+ghost use Rattle.cpn_core.specs.Nets.{transition_view};
+ghost use Rattle.cpn_types.specs.DeclsViews.{decls_view};
+ghost use Rattle.cpn_file.specs.Reading.{each_from};
+ghost use Rattle.cpn_file.specs.Accepted.{guard_at, delay_at, bare_transition as bare_transition_in};
+ghost use Rattle.cpn_file.specs.TreesViews.{tree_view, conjuncts_view, transition_trees_view};
+ghost use Rattle.cpn_file.specs.Answers.{Loads};
 
-use crate::arcs::Arc;
-use crate::document::TransitionTexts;
-use crate::grouping::grouped;
-use crate::net_arcs::{inputs_among, outputs_among};
-use crate::refusals::{DocError, NOT_SERVED};
-use cpn_core::{Expr, Guard, MExpr, PlaceArc, Transition};
-use std::alloc::{AllocError, Global};
+use crate::parsing::Parsing;
+use crate::places::flattened;
+use crate::refusals::{LoadError, Pointer, not_accepted, not_parsed};
+use crate::trees::TransitionTrees;
+use cpn_core::{Expr, Guard, Transition};
+use cpn_syntax::Inscription;
+use cpn_types::{Decls, check_delay, check_guard};
+use std::alloc::Global;
 
-/// The most arcs of one transition, where an arc both ways counts two.
-const MOST_ARCS: usize = 64;
-
-/// The name of a place or a transition in the net: the module's name, `/`, its name.
-pub(crate) fn flattened(alloc: Global, top: &str, name: &str) -> Result<String, AllocError>
-    ensures text { IfOk result (λ text. string_bytes text ≡ flattened_name top.now name.now) }
-{
-    let mut text = String::from_str(alloc, top)?;
-    text.push_str("/")?;
-    text.push_str(name)?;
-    Ok(text)
-}
-
-/// Whether the inscription is the variable.
-fn is_variable(expr: &Expr, variable: u32) -> bool
-    ensures exact { result ≡ is_variable variable (one (expr_view expr.now)) }
-{
-    match expr {
-        Expr::Var(other) => variable == *other,
-        Expr::Lit(_) => false,
-        Expr::Local(_) => false,
-        Expr::Time => false,
-        Expr::Op(_, _) => false,
-        Expr::And(_, _) => false,
-        Expr::Or(_, _) => false,
-        Expr::If(_, _, _) => false,
-        Expr::Case(_, _) => false,
-        Expr::Let(_, _) => false,
-        Expr::Fold { .. } => false,
-        Expr::Tuple(_) => false,
-        Expr::List(_) => false,
-        Expr::Con(_, _) => false,
-        Expr::Call(_, _) => false,
-    }
-}
-
-/// Whether the inscription of an arc is one token of the variable's value.
-fn binds(variable: u32, inscription: &MExpr) -> bool
-    ensures exact { result ≡ is_variable variable (multiset_view inscription.now) }
-{
-    match inscription {
-        MExpr::One(expr) => is_variable(expr, variable),
-        MExpr::Empty => false,
-        MExpr::Times(_, _) => false,
-        MExpr::Sum(_) => false,
-        MExpr::Later(_, _) => false,
-        MExpr::At(_, _) => false,
-        MExpr::If(_, _, _) => false,
-        MExpr::Case(_, _) => false,
-        MExpr::Let(_, _) => false,
-    }
-}
-
-/// Whether a variable stands on one of the arcs.
-fn stands_on(arcs: &[PlaceArc], variable: u32) -> bool
-    ensures exact { result ≡ is_on (arcs_view arcs.now) variable }
-{
-    for arc in arcs {
-        if binds(variable, &arc.inscription.expr) {
-            return true;
-        }
-    }
-    false
-}
-
-/// The variables, of so many, that stand on one of the arcs, each of them on an input arc.
-#[tactic(auto, unfolding(crate::specs::Loading::variables_on))]
-fn variables_on(
+/// The guard that is written.
+#[tactic(auto, unfolding(crate::specs::Accepted::guard_at))]
+fn written_guard(
     alloc: Global,
-    count: u32,
-    inputs: &[PlaceArc],
-    outputs: &[PlaceArc],
-) -> Result<Vec<u32>, DocError>
-    ensures reads { Gives (λ vars. vars.items) result (variables_in count (arcs_view inputs.now) (arcs_view outputs.now)) }
+    decls: &Decls,
+    number: usize,
+    text: &Parsing<cpn_syntax::Guard>,
+) -> Result<Guard, LoadError>
+    ensures reads { Loads (λ guard. map expr_view guard.conjuncts.items) result (guard_at (decls_view decls.now) number (Some (conjuncts_view text.now))) }
 {
-    let mut vars = Vec::new(alloc);
-    for variable in 0..count {
-        if stands_on(inputs, variable) {
-            vars.push(variable)?;
-        } else if stands_on(outputs, variable) {
-            return Err(DocError::from(NOT_SERVED));
-        }
+    let place = Pointer::Guard(number);
+    match text {
+        Ok(tree) => match check_guard(alloc, decls, tree) {
+            Ok(guard) => Ok(guard),
+            Err(error) => Err(not_accepted(place, error)),
+        },
+        Err(error) => Err(not_parsed(place, *error)),
     }
-    Ok(vars)
 }
 
-#[tactic(auto, unfolding(crate::specs::Loading::transition_with))]
-fn transition_with(
+/// The guard of a transition; without a conjunct where none is written.
+#[tactic(auto, unfolding(crate::specs::Accepted::guard_at))]
+fn guard_of(
     alloc: Global,
-    count: u32,
-    name: String,
-    arcs: &[Arc],
-) -> Result<Transition, DocError>
-    ensures reads { Gives transition_view result (transition_in count (string_bytes name) arcs.now) }
+    decls: &Decls,
+    number: usize,
+    text: &Option<Parsing<cpn_syntax::Guard>>,
+) -> Result<Guard, LoadError>
+    ensures reads { Loads (λ guard. map expr_view guard.conjuncts.items) result (guard_at (decls_view decls.now) number (option_map conjuncts_view text.now)) }
 {
-    let inputs = inputs_among(alloc, arcs)?;
-    let outputs = outputs_among(alloc, arcs)?;
-    if inputs.len() > MOST_ARCS || outputs.len() > MOST_ARCS - inputs.len() {
-        return Err(DocError::from(NOT_SERVED));
+    match text {
+        Some(text) => written_guard(alloc, decls, number, text),
+        None => Ok(Guard {
+            conjuncts: Vec::new(alloc),
+        }),
     }
-    let vars = variables_on(alloc, count, inputs.as_slice(), outputs.as_slice())?;
-    let guard = Guard {
-        conjuncts: Vec::new(alloc),
-    };
+}
+
+/// The delay that is written.
+#[tactic(auto, unfolding(crate::specs::Accepted::delay_at))]
+fn written_delay(
+    alloc: Global,
+    decls: &Decls,
+    number: usize,
+    text: &Parsing<Inscription>,
+) -> Result<Expr, LoadError>
+    ensures reads { Loads (λ delay. Some (expr_view delay)) result (delay_at (decls_view decls.now) number (Some (tree_view text.now))) }
+{
+    let place = Pointer::Delay(number);
+    match text {
+        Ok(tree) => match check_delay(alloc, decls, tree) {
+            Ok(delay) => Ok(delay),
+            Err(error) => Err(not_accepted(place, error)),
+        },
+        Err(error) => Err(not_parsed(place, *error)),
+    }
+}
+
+/// The delay of a transition, where one is written.
+#[tactic(auto, unfolding(crate::specs::Accepted::delay_at))]
+fn delay_of(
+    alloc: Global,
+    decls: &Decls,
+    number: usize,
+    text: &Option<Parsing<Inscription>>,
+) -> Result<Option<Expr>, LoadError>
+    ensures reads { Loads (λ delay. option_map expr_view delay) result (delay_at (decls_view decls.now) number (option_map tree_view text.now)) }
+{
+    match text {
+        Some(text) => {
+            let delay = written_delay(alloc, decls, number, text)?;
+            Ok(Some(delay))
+        }
+        None => Ok(None),
+    }
+}
+
+/// A transition of the net, by its number, without its arcs and variables.
+#[tactic(auto, unfolding(crate::specs::Accepted::bare_transition))]
+fn bare_transition(
+    alloc: Global,
+    decls: &Decls,
+    top: &str,
+    number: usize,
+    transition: &TransitionTrees,
+) -> Result<Transition, LoadError>
+    ensures reads { Loads transition_view result (bare_transition_in (decls_view decls.now) top.now number (transition_trees_view transition.now)) }
+{
+    let guard = guard_of(alloc, decls, number, &transition.guard)?;
+    let delay = delay_of(alloc, decls, number, &transition.delay)?;
+    let name = flattened(alloc, top, transition.name)?;
     Ok(Transition {
         name,
         guard,
-        delay: None,
-        inputs,
-        outputs,
-        vars,
+        delay,
+        inputs: Vec::new(alloc),
+        outputs: Vec::new(alloc),
+        vars: Vec::new(alloc),
     })
 }
 
-fn transitions_with(
+/// The transitions of the net, without their arcs and variables.
+pub(crate) fn bare_transitions(
     alloc: Global,
-    count: u32,
+    decls: &Decls,
     top: &str,
-    written: &[TransitionTexts],
-    groups: &[Vec<Arc>],
-) -> Result<Vec<Transition>, DocError>
-    requires as_many { length groups.now ≡ length written.now }
-    ensures reads { (arcs : List TheArc) → HoldsArcs groups.now (length written.now) arcs → Gives (λ transitions. map transition_view transitions.items) result (transitions_from count top.now arcs 0 (transition_names (written_views written.now))) }
+    transitions: &[TransitionTrees],
+) -> Result<Vec<Transition>, LoadError>
+    ensures reads { Loads (λ made. map transition_view made.items) result (each_from (bare_transition_in (decls_view decls.now) top.now) 0 (map transition_trees_view transitions.now)) }
 {
-    let mut transitions = Vec::new(alloc);
-    for (number, transition) in written.iter().enumerate() {
-        let name = flattened(alloc, top, transition.name)?;
-        transitions.push(transition_with(alloc, count, name, groups[number].as_slice())?)?;
+    let mut made = Vec::with_capacity(alloc, transitions.len())?;
+    for (number, transition) in transitions.iter().enumerate() {
+        made.push(bare_transition(alloc, decls, top, number, transition)?)?;
     }
-    Ok(transitions)
-}
-
-/// The transitions that are written, each with its own of the arcs.
-pub(crate) fn transitions_of(
-    alloc: Global,
-    count: u32,
-    top: &str,
-    written: &[TransitionTexts],
-    arcs: &[Arc],
-) -> Result<Vec<Transition>, DocError>
-    ensures reads { Gives (λ transitions. map transition_view transitions.items) result (transitions_from count top.now arcs.now 0 (transition_names (written_views written.now))) }
-{
-    let groups = grouped(alloc, arcs, written.len())?;
-    transitions_with(alloc, count, top, written, groups.as_slice())
+    Ok(made)
 }

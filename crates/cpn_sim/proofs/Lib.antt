@@ -1,5 +1,6 @@
 pub mod Readings
 pub mod RefusalCauses
+pub mod RefusedDocuments
 pub mod OneReport
 pub mod WrittenReports
 pub mod PrintableReports

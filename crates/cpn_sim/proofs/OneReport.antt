@@ -5,20 +5,20 @@ use Rattle.cpn_runs.proofs.OneRun.{one_run}
 use Rattle.cpn_file.specs.Loading.{PlainLoaded}
 use Rattle.cpn_file.specs.Reading.{Refusal, read, refused}
 use Rattle.cpn_file.specs.Reads.{IsReadAs}
-use Rattle.cpn_file.specs.OneReading.{one_reading}
 use Rattle.cpn_report.specs.Report.{report_text}
 use Rattle.cpn_sim.specs.Limits.{most_bytes}
 use Rattle.cpn_sim.specs.Options.{PlainOptions, options_from}
 use Rattle.cpn_runs.specs.Run.{PlainFinished}
+use Rattle.cpn_sim.specs.Causes.{HaveOneReading}
 use Rattle.cpn_sim.specs.Reported.{IsReport, IsReportUnder, IsReportOf, setup_from, status_after}
 use Rattle.cpn_sim.specs.declared.statuses.Status.{Status}
 
 -- what is read is not refused
-pub read_not_refused : (bytes : List ℕ) (loaded : PlainLoaded) (r : Refusal) → IsReadAs bytes (read loaded) → IsReadAs bytes (refused r) → ⊥
-read_not_refused bytes loaded r a b = let e : read loaded ≡ refused r = one_reading bytes (read loaded) (refused r) a b in cc
+pub read_not_refused : (bytes : List ℕ) → HaveOneReading bytes → (loaded : PlainLoaded) (r : Refusal) → IsReadAs bytes (read loaded) → IsReadAs bytes (refused r) → ⊥
+read_not_refused bytes one loaded r a b = let e : read loaded ≡ refused r = one (read loaded) (refused r) a b in cc
 
-one_loaded : (bytes : List ℕ) (l l' : PlainLoaded) → IsReadAs bytes (read l) → IsReadAs bytes (read l') → l ≡ l'
-one_loaded bytes l l' a b = let e : read l ≡ read l' = one_reading bytes (read l) (read l') a b in cc
+one_loaded : (bytes : List ℕ) → HaveOneReading bytes → (l l' : PlainLoaded) → IsReadAs bytes (read l) → IsReadAs bytes (read l') → l ≡ l'
+one_loaded bytes once l l' a b = let e : read l ≡ read l' = once (read l) (read l') a b in cc
 
 -- Two reports with their statuses are the same.
 pub record IsSameReport (status status' : Status) (report other : List ℕ) : Type 0 where
@@ -33,26 +33,26 @@ of_one_net loaded options s s' report other one a b =
       statuses = a.status_is ∙ ap (λ (run : PlainFinished). status_after run.cause) same ∙ sym b.status_is;
     }
 
-under_one : (bytes : List ℕ) (options : PlainOptions) (s s' : Status) (report other : List ℕ) → options.workers ≡ 1 → IsReportUnder bytes options s report → IsReportUnder bytes options s' other → IsSameReport s s' report other
-under_one bytes options s s' report other one a b =
+under_one : (bytes : List ℕ) → HaveOneReading bytes → (options : PlainOptions) (s s' : Status) (report other : List ℕ) → options.workers ≡ 1 → IsReportUnder bytes options s report → IsReportUnder bytes options s' other → IsSameReport s s' report other
+under_one bytes once options s s' report other one a b =
     let P : PlainLoaded → Type 0 = λ l. IsReportOf l options s report in
-    of_one_net b.loaded options s s' report other one (subst P (one_loaded bytes a.loaded b.loaded a.reads b.reads) a.is_report) b.is_report
+    of_one_net b.loaded options s s' report other one (subst P (one_loaded bytes once a.loaded b.loaded a.reads b.reads) a.is_report) b.is_report
 
 -- the words ask for one worker
 abbrev AskForOne : List (List ℕ) → Type 0
 AskForOne words = (options : PlainOptions) → options_from words ≡ Some options → options.workers ≡ 1
 
 -- a document has one report under the words
-pub one_report : (bytes : List ℕ) (words : List (List ℕ)) (s s' : Status) (report other : List ℕ) → AskForOne words → IsReport bytes words s report → IsReport bytes words s' other → IsSameReport s s' report other
-one_report bytes words s s' report other one a b =
+pub one_report : (bytes : List ℕ) → HaveOneReading bytes → (words : List (List ℕ)) (s s' : Status) (report other : List ℕ) → AskForOne words → IsReport bytes words s report → IsReport bytes words s' other → IsSameReport s s' report other
+one_report bytes once words s s' report other one a b =
     let P : PlainOptions → Type 0 = λ o. IsReportUnder bytes o s report in
-    under_one bytes b.options s s' report other (one b.options b.words_are) (subst P (same_Some a.options b.options (sym a.words_are ∙ b.words_are)) a.is_report) b.is_report
+    under_one bytes once b.options s s' report other (one b.options b.words_are) (subst P (same_Some a.options b.options (sym a.words_are ∙ b.words_are)) a.is_report) b.is_report
 
 -- what holds of a report holds of every report of the same document and words, and each has its status
-pub of_every_report : (words : List (List ℕ)) (left : Option (List ℕ)) (status : Status) (report : List ℕ) (P : List ℕ → Type 0) → AskForOne words
+pub of_every_report : (words : List (List ℕ)) (left : Option (List ℕ)) (status : Status) (report : List ℕ) (P : List ℕ → Type 0) → AskForOne words → IfSome left HaveOneReading
     → IfSome left (λ bytes. (length bytes ≤ most_bytes) × IsReport bytes words status report) → P report
     → IfSome left (λ bytes. (other_status : Status) → (other : List ℕ) → IsReport bytes words other_status other → (status ≡ other_status) × P other)
-of_every_report words None status report P one reported holds = tt
-of_every_report words (Some bytes) status report P one reported holds = λ other_status other is.
-    let same = one_report bytes words status other_status report other one reported.1 is in
+of_every_report words None status report P one once reported holds = tt
+of_every_report words (Some bytes) status report P one once reported holds = λ other_status other is.
+    let same = one_report bytes once words status other_status report other one reported.1 is in
     (same.statuses, subst P same.reports holds)

@@ -1,15 +1,16 @@
 -- What follows from a refusal that has its cause, and from what was written of it.
-use Rattle.std.proofs.Common.{◌≡◌, ℕ, ◌<◌, ◌≤◌, ◌⊎◌, List, length, Option, Some, None, IfSome, refl, sym, ap, ◌∙◌, subst, inl, inr, ⊎_elim, arith}
+use Rattle.std.proofs.Common.{◌≡◌, Bool, true, false, ℕ, ◌<◌, ◌≤◌, ◌⊎◌, List, length, Option, Some, None, IfSome, refl, sym, ap, ◌∙◌, subst, inl, inr, ⊎_elim, arith}
+use Rattle.std.proofs.lemmas.Option.{same_Some}
 use Rattle.std.specs.Option.{MatchOption}
 use Rattle.std.specs.Io.KnownBytes.{Appends}
 use Rattle.cpn_file.specs.Loading.{PlainLoaded}
-use Rattle.cpn_file.specs.Reading.{Refusal, read, refused}
+use Rattle.cpn_file.specs.Reading.{Refusal, not_json, not_yet, inscription, init, Reading, read, refused}
 use Rattle.cpn_file.specs.Reads.{IsReadAs}
-use Rattle.cpn_file.specs.Refusals.{document_line}
+use Rattle.cpn_file.specs.Refusals.{refusal_line}
 use Rattle.cpn_io.specs.Outside.{Rose}
 use Rattle.cpn_sim.specs.Limits.{most_bytes}
 use Rattle.cpn_sim.specs.Options.{PlainOptions, options_from}
-use Rattle.cpn_sim.specs.Causes.{PlainRefusal, bad_words, read_fault, too_long, bad_document, HasCause, error_line, status_of, IsOrExcused, IsReportedOrExcused, IsRefused}
+use Rattle.cpn_sim.specs.Causes.{PlainRefusal, bad_words, read_fault, too_long, bad_document, HasCause, HaveOneReading, IsReadOnce, error_line, status_of, status_of_document, IsOrExcused, IsReportedOrExcused, IsRefused}
 use Rattle.cpn_sim.specs.Reported.{IsReported}
 use Rattle.cpn_sim.specs.declared.refusals.Refusal.{Refusal as TheRefusal}
 use Rattle.cpn_sim.specs.declared.refusals.Refusal.TheVariants as refusals
@@ -57,30 +58,54 @@ cause_of_document (bad_document r) words left before now cause options some byte
 
 -- ---- statuses
 
+-- whether a status is that of a refusal of the document
+abbrev pub is_of_document : Status → Bool
+is_of_document statuses.Done = false
+is_of_document statuses.BadWords = false
+is_of_document statuses.ReadFault = false
+is_of_document statuses.BadDocument = true
+is_of_document statuses.BadInscription = true
+is_of_document statuses.BadNet = true
+is_of_document statuses.RunFault = false
+is_of_document statuses.WriteFault = false
+is_of_document statuses.Memory = false
+is_of_document statuses.TooLong = false
+
+of_its_status : (r : Refusal) → is_of_document (status_of_document r) ≡ true
+of_its_status not_json = refl
+of_its_status (not_yet place) = refl
+of_its_status (inscription place reason) = refl
+of_its_status (init place fault) = refl
+
+-- a status that is no document's is not that of one
+no_document : {A : Type 0} (r : Refusal) (status : Status) → is_of_document status ≡ false → status_of_document r ≡ status → A
+no_document r status none is = let e : true ≡ false = sym (of_its_status r) ∙ ap is_of_document is ∙ none in absurd cc
+
 -- the refusal of a status
 of_words : (refusal : PlainRefusal) → status_of refusal ≡ statuses.BadWords → refusal ≡ bad_words
 of_words bad_words is = refl
 of_words read_fault is = absurd cc
 of_words too_long is = absurd cc
-of_words (bad_document r) is = absurd cc
+of_words (bad_document r) is = no_document r statuses.BadWords refl is
 
 of_read : (refusal : PlainRefusal) → status_of refusal ≡ statuses.ReadFault → refusal ≡ read_fault
 of_read bad_words is = absurd cc
 of_read read_fault is = refl
 of_read too_long is = absurd cc
-of_read (bad_document r) is = absurd cc
+of_read (bad_document r) is = no_document r statuses.ReadFault refl is
 
 of_length : (refusal : PlainRefusal) → status_of refusal ≡ statuses.TooLong → refusal ≡ too_long
 of_length bad_words is = absurd cc
 of_length read_fault is = absurd cc
 of_length too_long is = refl
-of_length (bad_document r) is = absurd cc
+of_length (bad_document r) is = no_document r statuses.TooLong refl is
 
-of_document : (refusal : PlainRefusal) → status_of refusal ≡ statuses.BadDocument → (r : Refusal) × (refusal ≡ bad_document r)
-of_document bad_words is = absurd cc
-of_document read_fault is = absurd cc
-of_document too_long is = absurd cc
-of_document (bad_document r) is = (r, refl)
+-- the refusal of a status of the document is one of the document
+of_document : (refusal : PlainRefusal) (s : Status) → is_of_document s ≡ true → status_of refusal ≡ s → (r : Refusal) × (refusal ≡ bad_document r) × (status_of_document r ≡ s)
+of_document bad_words s its is = let e : false ≡ true = ap is_of_document is ∙ its in absurd cc
+of_document read_fault s its is = let e : false ≡ true = ap is_of_document is ∙ its in absurd cc
+of_document too_long s its is = let e : false ≡ true = ap is_of_document is ∙ its in absurd cc
+of_document (bad_document r) s its is = (r, refl, is)
 
 is_no_report : (refusal : PlainRefusal) → IsReported (status_of refusal) → ⊥
 is_no_report bad_words (inl is) = cc
@@ -89,24 +114,32 @@ is_no_report read_fault (inl is) = cc
 is_no_report read_fault (inr is) = cc
 is_no_report too_long (inl is) = cc
 is_no_report too_long (inr is) = cc
-is_no_report (bad_document r) (inl is) = cc
-is_no_report (bad_document r) (inr is) = cc
+is_no_report (bad_document r) (inl is) = no_document r statuses.Done refl is
+is_no_report (bad_document r) (inr is) = no_document r statuses.RunFault refl is
 
 -- the status of a report is no other
 pub is_reported : (status other : Status) → IsReported status → status ≡ other → (IsReported other → ⊥) → ⊥
 is_reported status other reported same not = not (subst IsReported same reported)
 
 -- a refusal that is not for want of memory is a plain one
-pub plain_of : {C W : PlainRefusal → Type 0} (refusal : TheRefusal) (view : Option PlainRefusal) → MatchOption view (refusal ≡ refusals.Memory) C → IfSome view W → (refusal ≡ refusals.Memory → ⊥) → (plain : PlainRefusal) × C plain × W plain
-plain_of refusal None memory written not_memory = absurd (not_memory memory)
-plain_of refusal (Some plain) cause written not_memory = (plain, cause, written)
+pub plain_of : {C O W : PlainRefusal → Type 0} (refusal : TheRefusal) (view : Option PlainRefusal) → MatchOption view (refusal ≡ refusals.Memory) C → IfSome view O → IfSome view W → (refusal ≡ refusals.Memory → ⊥) → (plain : PlainRefusal) × C plain × O plain × W plain
+plain_of refusal None memory once written not_memory = absurd (not_memory memory)
+plain_of refusal (Some plain) cause once written not_memory = (plain, cause, once, written)
+
+-- the refusal that is read, if one is
+abbrev the_refusal : Reading PlainLoaded → Option Refusal
+the_refusal (read loaded) = None
+the_refusal (refused r) = Some r
+
+same_refusal : (bytes : List ℕ) → HaveOneReading bytes → (r r' : Refusal) → IsReadAs bytes (refused r) → IsReadAs bytes (refused r') → r ≡ r'
+same_refusal bytes one r r' a b = same_Some r r' (ap the_refusal (one (refused r) (refused r') a b))
 
 -- the status of the refusal, or an excuse
 excused : (refusal : PlainRefusal) (status wanted : Status) (old new : Option (List ℕ)) (faults now : ℕ) (fault : Type 0) → IsRefused refusal status old new faults now → status_of refusal ≡ wanted → IsOrExcused status wanted fault (Rose faults now)
 excused refusal status wanted old new faults now fault written is =
     ⊎_elim (λ same. inl (same ∙ is)) (λ other. ⊎_elim (λ memory. inr (inl memory)) (λ write. inr (inr (inr (written.fault write)))) other) written.outcome
 
-module _ (refusal : PlainRefusal) (words : List (List ℕ)) (left : Option (List ℕ)) (before after : ℕ) (status : Status) (old new : Option (List ℕ)) (faults now : ℕ) (cause : HasCause refusal words left before after) (written : IsRefused refusal status old new faults now) where
+module _ (refusal : PlainRefusal) (words : List (List ℕ)) (left : Option (List ℕ)) (before after : ℕ) (status : Status) (old new : Option (List ℕ)) (faults now : ℕ) (cause : HasCause refusal words left before after) (once : IsReadOnce refusal left) (written : IsRefused refusal status old new faults now) where
   -- a status that tells of no want of memory and of no fault of the sink is that of the refusal
   told : (s : Status) → (s ≡ statuses.Memory → ⊥) → (s ≡ statuses.WriteFault → ⊥) → status ≡ s → status_of refusal ≡ s
   told s not_memory not_write is =
@@ -132,12 +165,12 @@ module _ (refusal : PlainRefusal) (words : List (List ℕ)) (left : Option (List
   pub long_told : status ≡ statuses.TooLong → HasCause too_long words left before after × Appends old new (error_line too_long)
   long_told is = let same = told statuses.TooLong (λ e. cc) (λ e. cc) is in having statuses.TooLong too_long is same (of_length refusal same)
 
-  pub document_told : status ≡ statuses.BadDocument → (r : Refusal) × HasCause (bad_document r) words left before after × Appends old new (document_line r)
-  document_told is =
-      let same = told statuses.BadDocument (λ e. cc) (λ e. cc) is in
-      let which = of_document refusal same in
-      let both = having statuses.BadDocument (bad_document which.0) is same which.1 in
-      (which.0, both.0, both.1)
+  pub document_told : (s : Status) → is_of_document s ≡ true → (s ≡ statuses.Memory → ⊥) → (s ≡ statuses.WriteFault → ⊥) → status ≡ s → (r : Refusal) × HasCause (bad_document r) words left before after × (status_of_document r ≡ s) × Appends old new (refusal_line r)
+  document_told s its not_memory not_write is =
+      let same = told s not_memory not_write is in
+      let which = of_document refusal s its same in
+      let both = having s (bad_document which.0) is same which.1 in
+      (which.0, both.0, which.2, both.1)
 
   pub refused_words : options_from words ≡ None → (status ≡ statuses.BadWords) ⊎ ((status ≡ statuses.Memory) ⊎ Rose faults now)
   refused_words none =
@@ -149,12 +182,20 @@ module _ (refusal : PlainRefusal) (words : List (List ℕ)) (left : Option (List
       ⊎_elim (λ which. excused refusal status statuses.TooLong old new faults now (Rose before after) written (ap status_of which)) (λ rose. inr (inr (inl rose)))
       (cause_of_length refusal words left before after cause options some bytes is long)
 
-  pub refused_document : (options : PlainOptions) → options_from words ≡ Some options → (bytes : List ℕ) → left ≡ Some bytes → length bytes ≤ most_bytes → IsOrExcused status statuses.BadDocument (Rose before after) (Rose faults now)
-  refused_document options some bytes is short =
-      ⊎_elim (λ which. excused refusal status statuses.BadDocument old new faults now (Rose before after) written (ap status_of which.1)) (λ rose. inr (inr (inl rose)))
+  -- the document that is left has one reading, where its refusal is the cause
+  read_once : (bytes : List ℕ) → left ≡ Some bytes → (r : Refusal) → refusal ≡ bad_document r → HaveOneReading bytes
+  read_once bytes is r which = given_left HaveOneReading left bytes is (let Q : PlainRefusal → Type 0 = λ q. IsReadOnce q left in subst Q which once)
+
+  pub refused_document : (wanted : Status) (options : PlainOptions) → options_from words ≡ Some options → (bytes : List ℕ) → left ≡ Some bytes → length bytes ≤ most_bytes → (r : Refusal) → IsReadAs bytes (refused r) → status_of_document r ≡ wanted → IsOrExcused status wanted (Rose before after) (Rose faults now)
+  refused_document wanted options some bytes is short r reads its =
+      ⊎_elim
+      (λ which.
+      let same : which.0 ≡ r = same_refusal bytes (read_once bytes is which.0 which.1) which.0 r which.2 reads in
+      excused refusal status wanted old new faults now (Rose before after) written (ap status_of which.1 ∙ ap status_of_document same ∙ its))
+      (λ rose. inr (inr (inl rose)))
       (cause_of_document refusal words left before after cause options some bytes is short)
 
   pub refused_complete : (options : PlainOptions) → options_from words ≡ Some options → (bytes : List ℕ) → left ≡ Some bytes → length bytes ≤ most_bytes → (loaded : PlainLoaded) → IsReadAs bytes (read loaded) → IsReportedOrExcused status (Rose before after) (Rose faults now)
   refused_complete options some bytes is short loaded reads =
-      ⊎_elim (λ which. absurd (read_not_refused bytes loaded which.0 reads which.2)) (λ rose. inr (inr (inl rose)))
+      ⊎_elim (λ which. absurd (read_not_refused bytes (read_once bytes is which.0 which.1) loaded which.0 reads which.2)) (λ rose. inr (inr (inl rose)))
       (cause_of_document refusal words left before after cause options some bytes is short)

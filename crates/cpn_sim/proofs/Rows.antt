@@ -33,6 +33,6 @@ unfolding trace_of
 no_trace_yes = refl
 
 statuses_are
-    : map exit_number (statuses.Done ∷ statuses.BadWords ∷ statuses.ReadFault ∷ statuses.BadDocument ∷ statuses.WriteFault ∷ statuses.Memory ∷ statuses.TooLong ∷ [])
-    ≡ 0 ∷ 1 ∷ 2 ∷ 3 ∷ 7 ∷ 8 ∷ 9 ∷ []
+    : map exit_number (statuses.Done ∷ statuses.BadWords ∷ statuses.ReadFault ∷ statuses.BadDocument ∷ statuses.BadInscription ∷ statuses.BadNet ∷ statuses.RunFault ∷ statuses.WriteFault ∷ statuses.Memory ∷ statuses.TooLong ∷ [])
+    ≡ 0 ∷ 1 ∷ 2 ∷ 3 ∷ 4 ∷ 5 ∷ 6 ∷ 7 ∷ 8 ∷ 9 ∷ []
 statuses_are = refl

@@ -5,7 +5,7 @@ use Rattle.cpn_file.specs.Reading.{Refusal, refused}
 use Rattle.cpn_file.specs.Reads.{IsReadAs}
 use Rattle.cpn_sim.specs.Limits.{most_bytes}
 use Rattle.cpn_sim.specs.Options.{options_from}
-use Rattle.cpn_sim.specs.Causes.{GiveOptions}
+use Rattle.cpn_sim.specs.Causes.{GiveOptions, HaveOneReading}
 use Rattle.cpn_sim.specs.Reported.{IsReported, IsReport}
 use Rattle.cpn_sim.specs.declared.statuses.Status.{Status}
 use Rattle.cpn_sim.specs.declared.statuses.Status.TheVariants as statuses
@@ -17,6 +17,8 @@ is_of_report statuses.Done = true
 is_of_report statuses.BadWords = false
 is_of_report statuses.ReadFault = false
 is_of_report statuses.BadDocument = false
+is_of_report statuses.BadInscription = false
+is_of_report statuses.BadNet = false
 is_of_report statuses.RunFault = true
 is_of_report statuses.WriteFault = false
 is_of_report statuses.Memory = false
@@ -57,5 +59,8 @@ module _ (words : List (List ℕ)) (left : Option (List ℕ)) (status : Status) 
   not_too_long long = let short : length bytes ≤ most_bytes = of_these.0 in omega arith
 
   -- and they are not refused
-  pub not_refused : (r : Refusal) → IsReadAs bytes (refused r) → ⊥
-  not_refused r refused_so = let is_report = of_these.1.is_report in read_not_refused bytes is_report.loaded r is_report.reads refused_so
+  pub not_refused : IfSome left HaveOneReading → (r : Refusal) → IsReadAs bytes (refused r) → ⊥
+  not_refused once r refused_so =
+      let one : HaveOneReading bytes = subst (λ (o : Option (List ℕ)). IfSome o HaveOneReading) is once in
+      let is_report = of_these.1.is_report in
+      read_not_refused bytes one is_report.loaded r is_report.reads refused_so

@@ -1,9 +1,10 @@
 -- Why there is no report, and the line and the status that say so. The causes are tried in their order: the words, the
 -- reading of the source, its length, the document. Source: own choice.
 use Rattle.std.specs.Prelude.{◌≡◌, ℕ, ◌<◌, ◌≤◌, ◌⊎◌, List, length, codes, Option, Some, None, IfSome}
-use Rattle.cpn_file.specs.Reading.{Refusal, refused}
+use Rattle.cpn_file.specs.Loading.{PlainLoaded}
+use Rattle.cpn_file.specs.Reading.{Refusal, not_json, not_yet, inscription, init, Reading, refused}
 use Rattle.cpn_file.specs.Reads.{IsReadAs}
-use Rattle.cpn_file.specs.Refusals.{document_line}
+use Rattle.cpn_file.specs.Refusals.{refusal_line}
 use Rattle.cpn_io.specs.Outside.{Rose, AppendsProperPrefix}
 use Rattle.std.specs.Io.KnownBytes.{Appends}
 use Rattle.cpn_sim.specs.Limits.{most_bytes}
@@ -33,19 +34,38 @@ HasCause too_long words left before now = GiveOptions words × IfSome left (λ b
 HasCause (bad_document refusal) words left before now =
     GiveOptions words × IfSome left (λ bytes. (length bytes ≤ most_bytes) × IsReadAs bytes (refused refusal))
 
+-- the bytes have one reading
+abbrev pub HaveOneReading : List ℕ → Type 0
+HaveOneReading bytes = (reading other : Reading PlainLoaded) → IsReadAs bytes reading → IsReadAs bytes other → reading ≡ other
+
+-- a document that is refused has been read, and has one reading; of the other refusals nothing is said
+abbrev pub IsReadOnce : PlainRefusal → Option (List ℕ) → Type 0
+IsReadOnce bad_words left = Unit {0}
+IsReadOnce read_fault left = Unit {0}
+IsReadOnce too_long left = Unit {0}
+IsReadOnce (bad_document refusal) left = IfSome left HaveOneReading
+
 -- the line of a refusal, with its line feed
 abbrev pub error_line : PlainRefusal → List ℕ
 error_line bad_words = codes "error words\n"
 error_line read_fault = codes "error read\n"
 error_line too_long = codes "error long\n"
-error_line (bad_document refusal) = document_line refusal
+error_line (bad_document refusal) = refusal_line refusal
+
+-- The status of a refusal of the document: of what is no JSON value or is not served yet, of a text or the variables of a
+-- transition, or of an initial marking.
+abbrev pub status_of_document : Refusal → Status
+status_of_document not_json = statuses.BadDocument
+status_of_document (not_yet place) = statuses.BadDocument
+status_of_document (inscription place reason) = statuses.BadInscription
+status_of_document (init place fault) = statuses.BadNet
 
 -- the status of a refusal
 abbrev pub status_of : PlainRefusal → Status
 status_of bad_words = statuses.BadWords
 status_of read_fault = statuses.ReadFault
 status_of too_long = statuses.TooLong
-status_of (bad_document refusal) = statuses.BadDocument
+status_of (bad_document refusal) = status_of_document refusal
 
 -- The text that is to be written: the report of a run of the document, or the line of a refusal that has its
 -- cause.

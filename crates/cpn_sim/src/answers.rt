@@ -8,17 +8,17 @@ ghost use Rattle.cpn_sim.specs.Options.{PlainOptions, options_from};
 ghost use Rattle.cpn_sim.specs.OptionsView.{options_view};
 ghost use Rattle.cpn_runs.specs.Views.{end_view};
 ghost use Rattle.cpn_sim.specs.Reported.{status_after, IsReported, IsReport, IsReportOf};
-ghost use Rattle.cpn_sim.specs.Causes.{HasCause, GiveOptions};
+ghost use Rattle.cpn_sim.specs.Causes.{HasCause, GiveOptions, HaveOneReading, IsReadOnce};
 ghost use Rattle.cpn_sim.specs.RefusalViews.{refusal_view};
 
 use crate::no_options::NoOptions;
 use crate::options::Options;
-use crate::refusals::Refusal;
+use crate::refusals::{Refusal, of_document};
 use crate::statuses::Status;
 use crate::words::options_from;
 use cpn_book::Book;
 use cpn_core::Memory;
-use cpn_file::{DocError, Loaded, read_document};
+use cpn_file::{Loaded, load};
 use cpn_io::{ReadError, Source, read_all};
 use cpn_report::report;
 use cpn_runs::{End, Limits, Setup};
@@ -40,6 +40,9 @@ pub fn answer<S: Source>(alloc: Global, words: &[String], source: &mut S) -> Res
     ensures options { OnOk result (GiveOptions (map string_bytes words.now)) }
     ensures one_worker { OnOk result ((options : PlainOptions) → options_from (map string_bytes words.now) ≡ Some options → options.workers ≡ 1) }
     ensures cause { IfErr result (λ refusal. MatchOption (refusal_view refusal) (refusal ≡ Refusal.Memory) (λ plain. HasCause plain (map string_bytes words.now) (S.left source.old) (S.faults source.old) (S.faults source.new))) }
+    // What was read has one reading.
+    ensures one_reading { OnOk result (IfSome (S.left source.old) HaveOneReading) }
+    ensures read_once { IfErr result (λ refusal. IfSome (refusal_view refusal) (λ plain. IsReadOnce plain (S.left source.old))) }
 {
     let options = match options_from(alloc, words) {
         Ok(options) => options,
@@ -52,10 +55,9 @@ pub fn answer<S: Source>(alloc: Global, words: &[String], source: &mut S) -> Res
         Err(ReadError::Failed) => return Err(Refusal::Read),
         Err(ReadError::TooLong) => return Err(Refusal::Long),
     };
-    let loaded = match read_document(alloc, &bytes) {
+    let loaded = match load(alloc, &bytes) {
         Ok(loaded) => loaded,
-        Err(DocError::Memory) => return Err(Refusal::Memory),
-        Err(error) => return Err(Refusal::Document(error)),
+        Err(error) => return Err(of_document(error)),
     };
     match report_of(alloc, &options, loaded) {
         Ok(report) => Ok(report),

@@ -1,14 +1,13 @@
 //! Why there is no report, and the line that says so.
 
-ghost use Rattle.std.specs.Prelude.{◌≡◌, ◌++◌, IfSome, IfOk, OnOk, string_bytes};
-ghost use Rattle.cpn_file.specs.Answers.{refusal_of};
-ghost use Rattle.cpn_file.specs.Refusals.{with_space, document_line};
-ghost use Rattle.cpn_sim.specs.Causes.{error_line, status_of};
+ghost use Rattle.std.specs.Prelude.{◌≡◌, None, IfSome, IfOk, OnOk, option_map, string_bytes};
+ghost use Rattle.cpn_file.specs.Answers.{load_refusal_of};
+ghost use Rattle.cpn_sim.specs.Causes.{bad_document, error_line, status_of, status_of_document};
 ghost use Rattle.cpn_sim.specs.RefusalViews.{refusal_view};
 
 use crate::statuses::Status;
 use cpn_core::Memory;
-use cpn_file::DocError;
+use cpn_file::LoadError;
 use std::alloc::Global;
 
 /// Why there is no report.
@@ -21,9 +20,20 @@ pub enum Refusal {
     /// The document has more than 16,777,216 bytes.
     Long,
     /// The document is not read.
-    Document(DocError),
+    Document(LoadError),
     /// Memory ran out.
     Memory,
+}
+
+/// Why there is no report of a document that is not read.
+pub fn of_document(error: LoadError) -> Refusal
+    ensures refusal { refusal_view result ≡ option_map bad_document (load_refusal_of error) }
+    ensures memory { refusal_view result ≡ None → result ≡ Refusal.Memory }
+{
+    if error.is_memory() {
+        return Refusal::Memory;
+    }
+    Refusal::Document(error)
 }
 
 /// The line that the words are refused.
@@ -38,33 +48,11 @@ pub fn line_of(alloc: Global, refusal: &Refusal) -> Result<String, Memory>
         Refusal::Words => WORDS_LINE,
         Refusal::Read => "error read\n",
         Refusal::Long => "error long\n",
-        Refusal::Document(error) => return document_line(alloc, error),
+        Refusal::Document(error) => return error.line(alloc),
         Refusal::Memory => return Err(Memory),
     };
     let line = String::from_str(alloc, fixed)?;
     Ok(line)
-}
-
-/// The line of a document that is not read.
-fn document_line(alloc: Global, error: &DocError) -> Result<String, Memory>
-    ensures line { IfOk result (λ line. IfSome (refusal_of error.now) (λ plain. string_bytes line ≡ document_line plain)) }
-{
-    let place = error.pointer();
-    let space = space_before(place);
-    let number = error.number();
-    let name = error.name();
-    let line = format!(in alloc; "error document {number} {name}{space}{place}\n")?;
-    Ok(line)
-}
-
-/// What stands before the place: a space, or nothing where the place is empty.
-fn space_before(place: &str) -> &'static str
-    ensures space { result.now ++ place.now ≡ with_space place.now }
-{
-    if place.is_empty() {
-        return "";
-    }
-    " "
 }
 
 /// The status of the refusal.
@@ -75,7 +63,19 @@ pub fn status_of(refusal: &Refusal) -> Status
         Refusal::Words => Status::BadWords,
         Refusal::Read => Status::ReadFault,
         Refusal::Long => Status::TooLong,
-        Refusal::Document(_) => Status::BadDocument,
+        Refusal::Document(error) => status_of_document(error),
         Refusal::Memory => Status::Memory,
+    }
+}
+
+/// The status of a document that is not read.
+fn status_of_document(error: &LoadError) -> Status
+    ensures status { IfSome (load_refusal_of error.now) (λ refusal. result ≡ status_of_document refusal) }
+{
+    match error {
+        LoadError::Memory => Status::Memory,
+        LoadError::Document(_) => Status::BadDocument,
+        LoadError::Inscription(_, _) => Status::BadInscription,
+        LoadError::Init(_, _) => Status::BadNet,
     }
 }

@@ -5,12 +5,12 @@ ghost use Rattle.std.specs.Io.KnownBytes.{Appends};
 ghost use Rattle.cpn_file.specs.Loading.{PlainLoaded};
 ghost use Rattle.cpn_file.specs.Reading.{Refusal as DocumentRefusal, read, refused};
 ghost use Rattle.cpn_file.specs.Reads.{IsReadAs};
-ghost use Rattle.cpn_file.specs.Refusals.{document_line};
+ghost use Rattle.cpn_file.specs.Refusals.{refusal_line};
 ghost use Rattle.cpn_io.specs.Outside.{Rose, AppendsProperPrefix};
 ghost use Rattle.cpn_sim.specs.Limits.{most_bytes};
 ghost use Rattle.cpn_sim.specs.Options.{PlainOptions, options_from};
 ghost use Rattle.cpn_sim.specs.Reported.{IsReported, IsReport};
-ghost use Rattle.cpn_sim.specs.Causes.{bad_words, read_fault, too_long, GiveOptions, error_line, IsToBeWritten, IsOrExcused, IsReportedOrExcused, IsRefused};
+ghost use Rattle.cpn_sim.specs.Causes.{bad_words, read_fault, too_long, GiveOptions, status_of_document, error_line, IsToBeWritten, IsOrExcused, IsReportedOrExcused, IsRefused};
 ghost use Rattle.cpn_sim.specs.RefusalViews.{refusal_view};
 
 use crate::answers::answer;
@@ -43,8 +43,16 @@ pub fn simulate<S: Source, K: Sink>(
     ensures words { result ≡ Status.BadWords → options_from (map string_bytes words.now) ≡ None }
     ensures read { result ≡ Status.ReadFault → GiveOptions (map string_bytes words.now) × Rose (S.faults source.old) (S.faults source.new) }
     ensures long { result ≡ Status.TooLong → GiveOptions (map string_bytes words.now) × IfSome (S.left source.old) (λ bytes. most_bytes < length bytes) }
+    // The document is refused: as no JSON value or not served yet, for a text or the variables of a transition, or for an
+    // initial marking.
     ensures document { result ≡ Status.BadDocument → GiveOptions (map string_bytes words.now) × ((refusal : DocumentRefusal)
-        × Appends (K.held sink.old) (K.held sink.new) (document_line refusal)
+        × (status_of_document refusal ≡ Status.BadDocument) × Appends (K.held sink.old) (K.held sink.new) (refusal_line refusal)
+        × IfSome (S.left source.old) (λ bytes. (length bytes ≤ most_bytes) × IsReadAs bytes (refused refusal))) }
+    ensures inscription { result ≡ Status.BadInscription → GiveOptions (map string_bytes words.now) × ((refusal : DocumentRefusal)
+        × (status_of_document refusal ≡ Status.BadInscription) × Appends (K.held sink.old) (K.held sink.new) (refusal_line refusal)
+        × IfSome (S.left source.old) (λ bytes. (length bytes ≤ most_bytes) × IsReadAs bytes (refused refusal))) }
+    ensures net { result ≡ Status.BadNet → GiveOptions (map string_bytes words.now) × ((refusal : DocumentRefusal)
+        × (status_of_document refusal ≡ Status.BadNet) × Appends (K.held sink.old) (K.held sink.new) (refusal_line refusal)
         × IfSome (S.left source.old) (λ bytes. (length bytes ≤ most_bytes) × IsReadAs bytes (refused refusal))) }
     ensures write { result ≡ Status.WriteFault → Rose (K.faults sink.old) (K.faults sink.new) }
 
@@ -65,8 +73,16 @@ pub fn simulate<S: Source, K: Sink>(
         → IsOrExcused result Status.TooLong (Rose (S.faults source.old) (S.faults source.new)) (Rose (K.faults sink.old) (K.faults sink.new)) }
     ensures bad_document { (options : PlainOptions) → options_from (map string_bytes words.now) ≡ Some options
         → (bytes : List ℕ) → S.left source.old ≡ Some bytes → length bytes ≤ most_bytes
-        → (refusal : DocumentRefusal) → IsReadAs bytes (refused refusal)
+        → (refusal : DocumentRefusal) → IsReadAs bytes (refused refusal) → status_of_document refusal ≡ Status.BadDocument
         → IsOrExcused result Status.BadDocument (Rose (S.faults source.old) (S.faults source.new)) (Rose (K.faults sink.old) (K.faults sink.new)) }
+    ensures bad_inscription { (options : PlainOptions) → options_from (map string_bytes words.now) ≡ Some options
+        → (bytes : List ℕ) → S.left source.old ≡ Some bytes → length bytes ≤ most_bytes
+        → (refusal : DocumentRefusal) → IsReadAs bytes (refused refusal) → status_of_document refusal ≡ Status.BadInscription
+        → IsOrExcused result Status.BadInscription (Rose (S.faults source.old) (S.faults source.new)) (Rose (K.faults sink.old) (K.faults sink.new)) }
+    ensures bad_net { (options : PlainOptions) → options_from (map string_bytes words.now) ≡ Some options
+        → (bytes : List ℕ) → S.left source.old ≡ Some bytes → length bytes ≤ most_bytes
+        → (refusal : DocumentRefusal) → IsReadAs bytes (refused refusal) → status_of_document refusal ≡ Status.BadNet
+        → IsOrExcused result Status.BadNet (Rose (S.faults source.old) (S.faults source.new)) (Rose (K.faults sink.old) (K.faults sink.new)) }
 
     // Good input is never refused.
     ensures complete { (options : PlainOptions) → options_from (map string_bytes words.now) ≡ Some options

@@ -17,6 +17,10 @@ pub enum Status {
     ReadFault = 2,
     /// The document is no JSON value, or none that is served yet.
     BadDocument = 3,
+    /// A text of the document, or the variables of a transition, are not accepted.
+    BadInscription = 4,
+    /// An initial marking of the document has a fault.
+    BadNet = 5,
     /// The whole report was written, and its run ended by the fault of an element's outputs.
     RunFault = 6,
     /// The sink had a fault.

@@ -1,10 +1,13 @@
 -- What was read, before what the rest is read as, is what the whole list is read as.
 use Rattle.std.proofs.Common.{◌≡◌, drop, map}
-use Rattle.cpn_file.specs.Views.{joined_view}
-use Rattle.cpn_file.specs.Loading.{arc_of}
-use Rattle.cpn_file.specs.Reading.{each}
+use Rattle.cpn_file.specs.AcceptedViews.{sides_view}
+use Rattle.cpn_file.specs.TreesViews.{arc_trees_view}
+use Rattle.cpn_types.specs.DeclsViews.{decls_view}
+use Rattle.cpn_file.specs.Accepted.{arc_of}
+use Rattle.cpn_core.specs.Nets.{place_view}
+use Rattle.cpn_file.specs.Reading.{each_from}
 use Rattle.cpn_file.proofs.ReadLists.{with_front}
 use Rattle.cpn_file.proofs.arcs.arcs_of.Given as goal
 
-abbrev pub invariant-loop-arc : goal.invariant-loop-arc
-invariant-loop-arc l = with_front (l.arcs.items) (each (arc_of l.variables) (map joined_view (drop l.arc-index l.joined))) ≡ each (arc_of l.variables) (map joined_view l.joined)
+abbrev pub invariant-loop-number : goal.invariant-loop-number
+invariant-loop-number l = with_front (map sides_view l.sides.items) (each_from (arc_of (decls_view l.decls) (map place_view l.places)) l.number (map arc_trees_view (drop l.number l.arcs))) ≡ each_from (arc_of (decls_view l.decls) (map place_view l.places)) 0 (map arc_trees_view l.arcs)

@@ -1,8 +1,10 @@
--- What the texts that are left declare, behind the names that were declared, is what all of them declare.
-use Rattle.std.proofs.Common.{◌≡◌, ◌≤◌, [], drop, length}
-use Rattle.cpn_file.specs.Loading.{variables_behind}
-use Rattle.cpn_file.specs.Names.{texts_of}
+-- What is declared so far, and the rest.
+use Rattle.std.proofs.Common.{◌≡◌, drop, map}
+use Rattle.cpn_typing.specs.Names.{nothing_declared}
+use Rattle.cpn_types.specs.DeclsViews.{decls_view}
+use Rattle.cpn_file.specs.Accepted.{declared_from}
+use Rattle.cpn_file.specs.TreesViews.{declared_view}
 use Rattle.cpn_file.proofs.declarations.declared.Given as goal
 
-abbrev pub invariant-loop-text : goal.invariant-loop-text
-invariant-loop-text l = record { few : length l.names ≤ 32; same : variables_behind l.names (texts_of (drop l.text-index l.texts)) ≡ variables_behind [] (texts_of l.texts) }
+abbrev pub invariant-loop-number : goal.invariant-loop-number
+invariant-loop-number l = declared_from l.number (decls_view l.decls) (map declared_view (drop l.number l.texts)) ≡ declared_from 0 nothing_declared (map declared_view l.texts)

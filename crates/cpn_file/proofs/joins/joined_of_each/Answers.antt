@@ -2,8 +2,8 @@
 use Rattle.std.proofs.Common.{◌∙◌, [], ◌∷◌, map, arith}
 use Rattle.std.proofs.lemmas.Result.{err_from_is_err_and}
 use Rattle.std.proofs.lemmas.List.{map-append}
-use Rattle.cpn_file.specs.Views.{arc_texts_view, joined_view}
-use Rattle.cpn_file.specs.Loading.{joined_in}
+use Rattle.cpn_file.specs.Views.{arc_texts_view, joined_view, joined_views}
+use Rattle.cpn_file.specs.Document.{joined_in}
 use Rattle.cpn_file.specs.Reading.{each}
 use Rattle.cpn_file.specs.Answers.{refusal_of, refused_view}
 use Rattle.cpn_file.proofs.ReadLists.{each_more_at, each_refused_at, each_done, refuses_same}

@@ -1,12 +1,12 @@
--- The tokens of one value stand one beside another.
-use Rattle.cpn_definitions.specs.Value.{int}
+-- One token more, at its place in the order.
+use Rattle.std.proofs.Common.{◌∙◌}
 use Rattle.cpn_definitions.specs.Marking.{token_at}
-use Rattle.cpn_file.proofs.InitialMarkings.{none_added, one_added}
+use Rattle.cpn_core.specs.Views.{value_view}
+use Rattle.cpn_file.proofs.StartTokens.{one_added}
 use Rattle.cpn_file.proofs.marking.add_tokens.Goals as goal
 
-pub loop-token-init : goal.loop-token-init
-loop-token-init c = none_added c.args.marking.now c.args.place (token_at (int c.args.written.value) 0) c.requires.empty
-
 pub loop-token-preserved : goal.loop-token-preserved
-loop-token-preserved c =
-    rw (c.in_ok-add.ensures.added, c.value_of.ensures.made, c.loop-token.invariant) (one_added c.args.marking.now c.args.place (token_at (int c.args.written.value) 0) c.loop-token._token c.requires.in_range)
+loop-token-preserved c = record {
+  tokens = rw (c.in_ok-add.ensures.added, c.in_ok-copy.ensures.same, c.loop-token.invariant.tokens) (one_added c.args.marking.now c.args.place (token_at (value_view c.args.value.now) c.args.stamp) c.requires.in_range c.loop-token._token);
+  long = c.in_ok-add.ensures.places ∙ c.loop-token.invariant.long;
+}

@@ -1,8 +1,12 @@
 -- So many tokens were added.
-use Rattle.std.proofs.Common.{◌≡◌, replicate, set}
-use Rattle.cpn_definitions.specs.Value.{int}
-use Rattle.cpn_definitions.specs.Marking.{token_at}
+use Rattle.std.proofs.Common.{◌≡◌, [], length, replicate, set, get_or}
+use Rattle.cpn_definitions.specs.Lists.{with_items}
+use Rattle.cpn_definitions.specs.Marking.{token_at, token_cmp}
+use Rattle.cpn_core.specs.Views.{value_view}
 use Rattle.cpn_file.proofs.marking.add_tokens.Given as goal
 
 abbrev pub invariant-loop-token : goal.invariant-loop-token
-invariant-loop-token l = l.marking ≡ set l.fn.marking l.place (replicate l._token (token_at (int l.written.value) 0))
+invariant-loop-token l = record {
+  tokens : l.marking ≡ set l.fn.marking l.place (with_items token_cmp (replicate l._token (token_at (value_view l.value) l.stamp)) (get_or l.fn.marking l.place []));
+  long : length l.marking ≡ length l.fn.marking;
+}

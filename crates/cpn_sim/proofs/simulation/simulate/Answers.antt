@@ -1,7 +1,7 @@
 -- What a report and a refusal give.
 use Rattle.std.proofs.Common.{ℕ, List, map, string_bytes, inl, inr, refl, subst}
 use Rattle.std.specs.Io.KnownBytes.{Appends}
-use Rattle.cpn_sim.specs.Causes.{PlainRefusal, HasCause, error_line, IsRefused}
+use Rattle.cpn_sim.specs.Causes.{PlainRefusal, HasCause, IsReadOnce, error_line, IsRefused}
 use Rattle.cpn_sim.proofs.RefusalCauses.{plain_of, no_report, words_told, read_told, long_told, document_told, refused_words, refused_long, refused_document, refused_complete}
 use Rattle.cpn_sim.specs.declared.statuses.Status.TheVariants as statuses
 use Rattle.cpn_sim.proofs.OneReport.{of_every_report}
@@ -23,12 +23,14 @@ returns-in-Ok-write_all g c =
     record {
       done = λ is. is_written words left statuses.Done status text old new reported is appended;
       run_fault = λ is. is_written words left statuses.RunFault status text old new reported is appended;
-      only = λ _. of_every_report words left status text P c.in-Ok.ensures.one_worker reported appended;
+      only = λ _. of_every_report words left status text P c.in-Ok.ensures.one_worker c.in-Ok.ensures.one_reading reported appended;
       read_to_end = λ _. c.in-Ok.ensures.end;
       words = λ is. no_other status statuses.BadWords is_of refl is;
       read = λ is. no_other status statuses.ReadFault is_of refl is;
       long = λ is. no_other status statuses.TooLong is_of refl is;
       document = λ is. no_other status statuses.BadDocument is_of refl is;
+      inscription = λ is. no_other status statuses.BadInscription is_of refl is;
+      net = λ is. no_other status statuses.BadNet is_of refl is;
       write = λ is. no_other status statuses.WriteFault is_of refl is;
       words_line = λ is. no_other status statuses.BadWords is_of refl is;
       read_line = λ is. no_other status statuses.ReadFault is_of refl is;
@@ -37,7 +39,9 @@ returns-in-Ok-write_all g c =
       write_part = λ is. no_other status statuses.WriteFault is_of refl is;
       bad_words = λ none. absurd (not_refused_words words c.in-Ok.ensures.options none);
       too_long = λ options some bytes is long. absurd (not_too_long words left status text bytes is reported long);
-      bad_document = λ options some bytes is short refusal reads. absurd (not_refused words left status text bytes is reported refusal reads);
+      bad_document = λ options some bytes is short refusal reads its. absurd (not_refused words left status text bytes is reported c.in-Ok.ensures.one_reading refusal reads);
+      bad_inscription = λ options some bytes is short refusal reads its. absurd (not_refused words left status text bytes is reported c.in-Ok.ensures.one_reading refusal reads);
+      bad_net = λ options some bytes is short refusal reads its. absurd (not_refused words left status text bytes is reported c.in-Ok.ensures.one_reading refusal reads);
       complete = λ options some bytes is short loaded reads. inl is_of;
     }
 
@@ -51,28 +55,33 @@ returns-in-Ok-line_of g c =
     let new = g.K.Sink.held c.refuse.new.sink in
     let faults = g.K.Sink.faults c.args.sink.now in
     let now = g.K.Sink.faults c.refuse.new.sink in
-    let given : (plain : PlainRefusal) × HasCause plain words left before after × IsRefused plain c.refuse.result old new faults now =
-    plain_of c.in-Err.refusal _ c.in-Err.ensures.cause c.refuse.ensures.refused c.in-Ok-line_of.ensures.memory in
+    let given : (plain : PlainRefusal) × HasCause plain words left before after × IsReadOnce plain left × IsRefused plain c.refuse.result old new faults now =
+    plain_of c.in-Err.refusal _ c.in-Err.ensures.cause c.in-Err.ensures.read_once c.refuse.ensures.refused c.in-Ok-line_of.ensures.memory in
     let plain = given.0 in
     let cause = given.1 in
-    let written = given.2 in
+    let once = given.2 in
+    let written = given.3 in
     record {
-      done = λ is. absurd (no_report plain words left before after c.refuse.result old new faults now cause written (inl is));
-      run_fault = λ is. absurd (no_report plain words left before after c.refuse.result old new faults now cause written (inr is));
-      only = λ is. absurd (no_report plain words left before after c.refuse.result old new faults now cause written is);
-      read_to_end = λ is. absurd (no_report plain words left before after c.refuse.result old new faults now cause written is);
-      words = λ is. (words_told plain words left before after c.refuse.result old new faults now cause written is).0;
-      read = λ is. (read_told plain words left before after c.refuse.result old new faults now cause written is).0;
-      long = λ is. (long_told plain words left before after c.refuse.result old new faults now cause written is).0;
-      document = λ is. let told = document_told plain words left before after c.refuse.result old new faults now cause written is in (told.1.0, (told.0, told.2, told.1.1));
+      done = λ is. absurd (no_report plain words left before after c.refuse.result old new faults now cause once written (inl is));
+      run_fault = λ is. absurd (no_report plain words left before after c.refuse.result old new faults now cause once written (inr is));
+      only = λ is. absurd (no_report plain words left before after c.refuse.result old new faults now cause once written is);
+      read_to_end = λ is. absurd (no_report plain words left before after c.refuse.result old new faults now cause once written is);
+      words = λ is. (words_told plain words left before after c.refuse.result old new faults now cause once written is).0;
+      read = λ is. (read_told plain words left before after c.refuse.result old new faults now cause once written is).0;
+      long = λ is. (long_told plain words left before after c.refuse.result old new faults now cause once written is).0;
+      document = λ is. let told = document_told plain words left before after c.refuse.result old new faults now cause once written statuses.BadDocument refl (λ e. cc) (λ e. cc) is in (told.1.0, (told.0, told.2, told.3, told.1.1));
+      inscription = λ is. let told = document_told plain words left before after c.refuse.result old new faults now cause once written statuses.BadInscription refl (λ e. cc) (λ e. cc) is in (told.1.0, (told.0, told.2, told.3, told.1.1));
+      net = λ is. let told = document_told plain words left before after c.refuse.result old new faults now cause once written statuses.BadNet refl (λ e. cc) (λ e. cc) is in (told.1.0, (told.0, told.2, told.3, told.1.1));
       write = λ is. written.fault is;
-      words_line = λ is. (words_told plain words left before after c.refuse.result old new faults now cause written is).1;
-      read_line = λ is. (read_told plain words left before after c.refuse.result old new faults now cause written is).1;
-      long_line = λ is. (long_told plain words left before after c.refuse.result old new faults now cause written is).1;
+      words_line = λ is. (words_told plain words left before after c.refuse.result old new faults now cause once written is).1;
+      read_line = λ is. (read_told plain words left before after c.refuse.result old new faults now cause once written is).1;
+      long_line = λ is. (long_told plain words left before after c.refuse.result old new faults now cause once written is).1;
       memory = λ is. written.memory is;
       write_part = λ is. (error_line plain, inr (plain, cause, refl), written.part is);
-      bad_words = refused_words plain words left before after c.refuse.result old new faults now cause written;
-      too_long = refused_long plain words left before after c.refuse.result old new faults now cause written;
-      bad_document = λ options some bytes is short which reads. refused_document plain words left before after c.refuse.result old new faults now cause written options some bytes is short;
-      complete = refused_complete plain words left before after c.refuse.result old new faults now cause written;
+      bad_words = refused_words plain words left before after c.refuse.result old new faults now cause once written;
+      too_long = refused_long plain words left before after c.refuse.result old new faults now cause once written;
+      bad_document = refused_document plain words left before after c.refuse.result old new faults now cause once written statuses.BadDocument;
+      bad_inscription = refused_document plain words left before after c.refuse.result old new faults now cause once written statuses.BadInscription;
+      bad_net = refused_document plain words left before after c.refuse.result old new faults now cause once written statuses.BadNet;
+      complete = refused_complete plain words left before after c.refuse.result old new faults now cause once written;
     }

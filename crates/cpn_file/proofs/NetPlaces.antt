@@ -1,0 +1,10 @@
+-- A place of the net, as plain data.
+use Rattle.std.proofs.Common.{◌≡◌, ℕ, ◌<◌, List, length, get_or, map, sym, ap, ◌∙◌}
+use Rattle.std.proofs.lemmas.List.{get_or-map}
+use Rattle.cpn_core.specs.Nets.{place_view, net_view}
+use Rattle.cpn_core.specs.declared.nets.Place.{Place}
+use Rattle.cpn_core.specs.declared.nets.Net.{Net}
+use Rattle.cpn_definitions.specs.Net.{place_at, nothing}
+
+pub place_there : (n : Net) (p : ℕ) (place : Place) → p < length n.places.items → place ≡ get_or n.places.items p place → place_at (net_view n) p ≡ place_view place
+place_there n p place lt at = get_or-map place_view n.places.items p place nothing lt ∙ ap place_view (sym at)

@@ -1,0 +1,32 @@
+-- Each item is read as the next one of the list, or refused with it.
+use Rattle.std.proofs.Common.{◌≡◌, subst, ◌∙◌, [], ◌∷◌, map, arith}
+use Rattle.std.proofs.lemmas.Result.{err_from_is_err_and}
+use Rattle.std.proofs.lemmas.List.{map-append}
+use Rattle.std.specs.Prelude.{Option, option_map}
+use Rattle.cpn_core.specs.declared.inscriptions.ArcExpr.{ArcExpr}
+use Rattle.cpn_file.specs.AcceptedViews.{initial_view}
+use Rattle.cpn_file.specs.TreesViews.{place_trees_view}
+use Rattle.cpn_types.specs.DeclsViews.{decls_view}
+use Rattle.cpn_file.specs.Accepted.{initial_of, initial_at}
+use Rattle.cpn_core.specs.Nets.{place_view}
+use Rattle.cpn_file.specs.Answers.{load_refusal_of, Refuses}
+use Rattle.cpn_file.specs.Reading.{read}
+use Rattle.cpn_file.proofs.PlaceColours.{colour_there}
+use Rattle.cpn_file.proofs.NumberedLists.{numbered_more, numbered_refused, numbered_done}
+use Rattle.cpn_file.proofs.places.initials_of.Goals as goal
+
+pub returns-in_err-initial_of : goal.returns-in_err-initial_of
+returns-in_err-initial_of c = record {
+  reads = (
+      let p = err_from_is_err_and c.from_residual-in_err-initial_of.result c.from_residual-in_err-initial_of.ensures.1 in
+      rw (p.1, p.2) (numbered_refused place_trees_view (initial_of (decls_view c.args.decls.now) (map place_view c.args.places.now)) c.args.written.now c.loop-number.number c.index-written-number.result c.loop-number-test.true c.index-written-number.is (map (λ (initial : Option ArcExpr). option_map initial_view initial) c.loop-number.initials.items) (load_refusal_of c.in_err-initial_of.field-0.0) c.loop-number.invariant
+      (subst (λ colour. Refuses (load_refusal_of c.in_err-initial_of.field-0.0) (initial_at (decls_view c.args.decls.now) colour c.loop-number.number (place_trees_view c.index-written-number.result).initial)) (colour_there c.args.places.now c.loop-number.number c.index-places-number.result (omega (arith, c.requires.as_many, c.loop-number-test.true))) c.in_err-initial_of.ensures.reads)));
+}
+
+pub loop-number-preserved : goal.loop-number-preserved
+loop-number-preserved c =
+    rw (c.in_ok-push.ensures.items, map-append (λ (initial : Option ArcExpr). option_map initial_view initial) c.loop-number.initials.items (c.in_ok-initial_of.field-0 ∷ []))
+    (numbered_more place_trees_view (initial_of (decls_view c.args.decls.now) (map place_view c.args.places.now)) c.args.written.now c.loop-number.number c.index-written-number.result c.loop-number-test.true c.index-written-number.is (map (λ (initial : Option ArcExpr). option_map initial_view initial) c.loop-number.initials.items) ((λ (initial : Option ArcExpr). option_map initial_view initial) c.in_ok-initial_of.field-0) (subst (λ colour. initial_at (decls_view c.args.decls.now) colour c.loop-number.number (place_trees_view c.index-written-number.result).initial ≡ read (option_map initial_view c.in_ok-initial_of.field-0)) (colour_there c.args.places.now c.loop-number.number c.index-places-number.result (omega (arith, c.requires.as_many, c.loop-number-test.true))) c.in_ok-initial_of.ensures.reads) ∙ c.loop-number.invariant)
+
+pub returns : goal.returns
+returns c = record { reads = numbered_done place_trees_view (initial_of (decls_view c.args.decls.now) (map place_view c.args.places.now)) c.args.written.now c.loop-number.number (map (λ (initial : Option ArcExpr). option_map initial_view initial) c.loop-number.initials.items) (omega arith) c.loop-number.invariant }

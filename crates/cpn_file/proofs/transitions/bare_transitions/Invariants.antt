@@ -1,0 +1,12 @@
+-- What was read, before what the rest is read as, is what the whole list is read as.
+use Rattle.std.proofs.Common.{◌≡◌, drop, map}
+use Rattle.cpn_core.specs.Nets.{transition_view}
+use Rattle.cpn_file.specs.TreesViews.{transition_trees_view}
+use Rattle.cpn_types.specs.DeclsViews.{decls_view}
+use Rattle.cpn_file.specs.Accepted.{bare_transition}
+use Rattle.cpn_file.specs.Reading.{each_from}
+use Rattle.cpn_file.proofs.ReadLists.{with_front}
+use Rattle.cpn_file.proofs.transitions.bare_transitions.Given as goal
+
+abbrev pub invariant-loop-number : goal.invariant-loop-number
+invariant-loop-number l = with_front (map transition_view l.made.items) (each_from (bare_transition (decls_view l.decls) l.top) l.number (map transition_trees_view (drop l.number l.transitions))) ≡ each_from (bare_transition (decls_view l.decls) l.top) 0 (map transition_trees_view l.transitions)

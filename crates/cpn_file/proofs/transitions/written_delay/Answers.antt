@@ -1,0 +1,15 @@
+-- What the check refuses is refused where it stands.
+use Rattle.cpn_syntax.specs.ParsedViews.{inscription_view, guard_view}
+use Rattle.cpn_core.specs.Colours.{colour_view}
+use Rattle.cpn_types.specs.Answers.{refusal_of}
+use Rattle.cpn_types.specs.DeclsViews.{decls_view}
+use Rattle.cpn_typing.specs.GuardsAndDelays.{checked_delay}
+use Rattle.cpn_file.specs.Answers.{load_refusal_of}
+use Rattle.cpn_file.specs.Accepted.{delay_at}
+use Rattle.cpn_file.specs.declared.refusals.Pointer.TheVariants.{Delay}
+use Rattle.cpn_file.proofs.CheckedTexts.{refused_there, refused_then}
+use Rattle.cpn_file.proofs.transitions.written_delay.Goals as goal
+
+pub returns-in-Err-check_delay : goal.returns-in-Err-check_delay
+unfolding delay_at
+returns-in-Err-check_delay c = record { reads = rw c.in-Ok.is (refused_then (Delay c.args.number) (checked_delay (decls_view c.args.decls.now) (inscription_view c.in-Ok.tree)) _ (refusal_of c.in-Err-check_delay.error) (load_refusal_of c.not_accepted.result) c.not_accepted.ensures.refused c.in-Err-check_delay.ensures.exact) }

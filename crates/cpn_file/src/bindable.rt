@@ -1,0 +1,33 @@
+//! The variables of the transitions have to be bindable.
+
+ghost use Rattle.std.specs.Prelude.{◌≡◌, true, map};
+ghost use Rattle.std.specs.List.{AllByRecursion};
+ghost use Rattle.cpn_definitions.specs.Net.{PlainNet};
+ghost use Rattle.cpn_core.specs.Nets.{transition_view};
+ghost use Rattle.cpn_types.specs.DeclsViews.{decls_view};
+ghost use Rattle.cpn_file.specs.Loading.{AreBindable};
+ghost use Rattle.cpn_file.specs.Answers.{LoadsBy};
+ghost use Rattle.cpn_file.specs.Joining.{HasItsTerms};
+
+use crate::refusals::{LoadError, Pointer, not_accepted};
+use cpn_core::Transition;
+use cpn_types::{Decls, check_bindable};
+use std::alloc::Global;
+
+/// That the variables of each transition are bindable.
+pub(crate) fn check_variables(
+    alloc: Global,
+    decls: &Decls,
+    transitions: &[Transition],
+) -> Result<(), LoadError>
+    requires terms { AllByRecursion HasItsTerms (map transition_view transitions.now) }
+    ensures bindable { (n : PlainNet) → n.variables ≡ (decls_view decls.now).variables → LoadsBy (λ _. true) result (AreBindable n 0 (map transition_view transitions.now)) }
+{
+    for (number, transition) in transitions.iter().enumerate() {
+        match check_bindable(alloc, decls, transition) {
+            Ok(()) => {}
+            Err(error) => return Err(not_accepted(Pointer::Transition(number), error)),
+        }
+    }
+    Ok(())
+}

@@ -1,0 +1,72 @@
+-- What a document that is not read gives: its refusal, with the cause and the status of it, or want of memory.
+use Rattle.std.proofs.Common.{◌≡◌, ℕ, ◌≤◌, true, false, List, length, Option, Some, None, IfSome, refl, sym, subst}
+use Rattle.std.specs.Prelude.{option_map, not, is_some}
+use Rattle.std.specs.Option.{MatchOption}
+use Rattle.cpn_file.specs.Reading.{TextRefusal, Refusal, inscription, refused}
+use Rattle.cpn_file.specs.Reads.{IsReadAs}
+use Rattle.cpn_file.specs.Answers.{refusal_of}
+use Rattle.cpn_file.specs.declared.refusals.Pointer.{Pointer}
+use Rattle.cpn_file.specs.declared.refusals.DocError.{DocError}
+use Rattle.cpn_file.specs.declared.refusals.DocError.TheVariants.{Memory, NotJson, NotYet}
+use Rattle.cpn_sim.specs.Limits.{most_bytes}
+use Rattle.cpn_sim.specs.Causes.{PlainRefusal, bad_document, GiveOptions, HasCause, HaveOneReading, IsReadOnce, status_of_document}
+use Rattle.cpn_sim.specs.RefusalViews.{refusal_view}
+use Rattle.cpn_sim.specs.declared.refusals.Refusal.{Refusal as TheRefusal}
+use Rattle.cpn_sim.specs.declared.refusals.Refusal.TheVariants as refusals
+use Rattle.cpn_sim.specs.declared.statuses.Status.TheVariants as statuses
+
+-- ---- want of memory
+
+-- what is want of memory is no refusal
+pub no_refusal : (o : Option Refusal) → true ≡ not (is_some o) → None ≡ option_map bad_document o
+no_refusal None is = refl
+no_refusal (Some r) is = absurd cc
+
+-- and what is not is one
+pub a_refusal : {A : Type 0} (o : Option Refusal) → false ≡ not (is_some o) → option_map bad_document o ≡ None → A
+a_refusal None is none = absurd cc
+a_refusal (Some r) is none = absurd cc
+
+-- ---- statuses
+
+-- that of a document that is no JSON value or not served yet
+pub of_form : (e : DocError) → IfSome (refusal_of e) (λ r. statuses.BadDocument ≡ status_of_document r)
+of_form Memory = tt
+of_form NotJson = refl
+of_form (NotYet place) = refl
+
+-- that of one with a text that is refused
+pub of_text : (place : Pointer) (o : Option TextRefusal) → IfSome (option_map (inscription place) o) (λ r. statuses.BadInscription ≡ status_of_document r)
+of_text place None = tt
+of_text place (Some reason) = refl
+
+-- ---- causes
+
+-- what holds of the bytes that were read holds of those that were left
+in_left : (P : List ℕ → Type 0) (left : Option (List ℕ)) (bytes : List ℕ) → IfSome left (λ xs. bytes ≡ xs) → P bytes → IfSome left P
+in_left P None bytes same holds = tt
+in_left P (Some xs) bytes same holds = subst P same holds
+
+-- the bytes have one reading
+pub read_once : (left : Option (List ℕ)) (bytes : List ℕ) → IfSome left (λ xs. bytes ≡ xs) → HaveOneReading bytes → IfSome left HaveOneReading
+read_once left bytes same one = in_left HaveOneReading left bytes same one
+
+module _ (o : Option Refusal) (refusal : TheRefusal) (left : Option (List ℕ)) (bytes : List ℕ) (is : refusal_view refusal ≡ option_map bad_document o) (same : IfSome left (λ xs. bytes ≡ xs)) where
+  -- the refusal has its cause
+  pub its_cause : (words : List (List ℕ)) (before now : ℕ) → (refusal_view refusal ≡ None → refusal ≡ refusals.Memory) → GiveOptions words → length bytes ≤ most_bytes → IfSome o (λ r. IsReadAs bytes (refused r))
+      → MatchOption (refusal_view refusal) (refusal ≡ refusals.Memory) (λ plain. HasCause plain words left before now)
+  its_cause words before now memory given short refuses = by o is refuses
+    where
+      by : (p : Option Refusal) → refusal_view refusal ≡ option_map bad_document p → IfSome p (λ r. IsReadAs bytes (refused r)) → MatchOption (refusal_view refusal) (refusal ≡ refusals.Memory) (λ plain. HasCause plain words left before now)
+      by None e reads = subst (λ (v : Option PlainRefusal). MatchOption v (refusal ≡ refusals.Memory) (λ plain. HasCause plain words left before now)) (sym e) (memory e)
+      by (Some r) e reads =
+          subst (λ (v : Option PlainRefusal). MatchOption v (refusal ≡ refusals.Memory) (λ plain. HasCause plain words left before now)) (sym e)
+          (given, in_left (λ b. (length b ≤ most_bytes) × IsReadAs b (refused r)) left bytes same (short, reads))
+
+  -- and the document, one reading
+  pub its_reading : HaveOneReading bytes → IfSome (refusal_view refusal) (λ plain. IsReadOnce plain left)
+  its_reading one = by o is
+    where
+      by : (p : Option Refusal) → refusal_view refusal ≡ option_map bad_document p → IfSome (refusal_view refusal) (λ plain. IsReadOnce plain left)
+      by None e = subst (λ (v : Option PlainRefusal). IfSome v (λ plain. IsReadOnce plain left)) (sym e) tt
+      by (Some r) e = subst (λ (v : Option PlainRefusal). IfSome v (λ plain. IsReadOnce plain left)) (sym e) (in_left HaveOneReading left bytes same one)

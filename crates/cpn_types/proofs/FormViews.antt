@@ -1,0 +1,42 @@
+-- What a form of the program is, where its parts are lent.
+use Rattle.std.proofs.Common.{◌≡◌, ℕ, List, map, refl, Vec, Box, String, Global, rules, string_bytes}
+use Rattle.cpn_syntax.specs.declared.operators.Infix.{Infix}
+use Rattle.cpn_syntax.specs.declared.trees.Ast.{Ast}
+use Rattle.cpn_syntax.specs.declared.trees.LocalValue.{LocalValue}
+use Rattle.cpn_syntax.specs.declared.trees.Form.{Form, the_lemmas}
+use Rattle.cpn_syntax.specs.declared.trees.Form.TheVariants as form
+use Rattle.cpn_syntax.specs.Trees.{call, let_in, infixed, if_else, fold, asts_from}
+use Rattle.cpn_syntax.specs.AstViews.{form_view, ast_view, local_view, locals_from}
+
+view_call : (n : String Global) (parts : Vec Ast Global) → form_view (form.Call n parts) ≡ call (string_bytes n) (asts_from (map ast_view parts.items))
+view_call n parts = search (rules, the_lemmas)
+
+view_let : (values : Vec LocalValue Global) (body : Box Ast Global) → form_view (form.Let values body) ≡ let_in (locals_from (map local_view values.items)) (ast_view body.value)
+view_let values body = search (rules, the_lemmas)
+
+view_infix : (o : Infix) (s : ℕ) (a b : Box Ast Global) → form_view (form.Infix o s a b) ≡ infixed o s (ast_view a.value) (ast_view b.value)
+view_infix o s a b = search (rules, the_lemmas)
+
+view_if : (c a b : Box Ast Global) → form_view (form.If c a b) ≡ if_else (ast_view c.value) (ast_view a.value) (ast_view b.value)
+view_if c a b = search (rules, the_lemmas)
+
+view_fold : (item total : String Global) (a s b : Box Ast Global) → form_view (form.Fold item total a s b) ≡ fold (string_bytes item) (string_bytes total) (ast_view a.value) (ast_view s.value) (ast_view b.value)
+view_fold item total a s b = search (rules, the_lemmas)
+
+pub call_is : (f : Form) (n : String Global) (parts : Vec Ast Global) (name : List ℕ) → f ≡ form.Call n parts → name ≡ string_bytes n → form_view f ≡ call name (asts_from (map ast_view parts.items))
+call_is f n parts name e p = rw (e, p) (view_call n parts)
+
+pub let_is : (f : Form) (values : Vec LocalValue Global) (body : Box Ast Global) (vs : List LocalValue) (b : Ast) → f ≡ form.Let values body → vs ≡ values.items → b ≡ body.value
+    → form_view f ≡ let_in (locals_from (map local_view vs)) (ast_view b)
+let_is f values body vs b e p q = rw (e, p, q) (view_let values body)
+
+pub infix_is : (f : Form) (o : Infix) (s : ℕ) (l r : Box Ast Global) (a b : Ast) → f ≡ form.Infix o s l r → a ≡ l.value → b ≡ r.value → form_view f ≡ infixed o s (ast_view a) (ast_view b)
+infix_is f o s l r a b e p q = rw (e, p, q) (view_infix o s l r)
+
+pub if_is : (f : Form) (t l r : Box Ast Global) (c a b : Ast) → f ≡ form.If t l r → c ≡ t.value → a ≡ l.value → b ≡ r.value → form_view f ≡ if_else (ast_view c) (ast_view a) (ast_view b)
+if_is f t l r c a b e o p q = rw (e, o, p, q) (view_if t l r)
+
+pub fold_is : (f : Form) (item total : String Global) (l s b : Box Ast Global) (i t : List ℕ) (over start body : Ast) → f ≡ form.Fold item total l s b
+    → i ≡ string_bytes item → t ≡ string_bytes total → over ≡ l.value → start ≡ s.value → body ≡ b.value
+    → form_view f ≡ fold i t (ast_view over) (ast_view start) (ast_view body)
+fold_is f item total l s b i t over start body e m n o p q = rw (e, m, n, o, p, q) (view_fold item total l s b)

@@ -1,0 +1,112 @@
+-- The values of a `let` that are checked already, around what the rules say of the rest.
+use Rattle.std.proofs.Common.{◌≡◌, ℕ, suc, ◌+◌, ◌<◌, ◌≤◌, drop_of_length-le, List, [], ◌∷◌, ◌++◌, length, get_or, drop, map, refl, sym, ap, ◌∙◌, add-one, length-append, arith, rules, take, subst, Bor, Box, Global, string_bytes, drop-cons, Option, Some, None}
+use Rattle.std.proofs.lemmas.List.{take-append-le}
+use Rattle.cpn_syntax.specs.AstViews.{locals_from, local_view, ast_view}
+use Rattle.cpn_syntax.specs.declared.trees.LocalValue.{LocalValue}
+use Rattle.cpn_syntax.specs.declared.trees.LocalValue as local_value
+use Rattle.cpn_definitions.specs.Inscription.{PlainExpr, bind}
+use Rattle.cpn_core.specs.Inscriptions.{expr_view}
+use Rattle.cpn_core.specs.declared.inscriptions.Expr.{Expr, the_lemmas}
+use Rattle.cpn_core.specs.declared.inscriptions.Expr.TheVariants as exprs
+use Rattle.cpn_types.specs.declared.scopes.Local.{Local}
+use Rattle.cpn_types.specs.declared.typed.Typed as program
+use Rattle.cpn_types.specs.DeclsViews.{scope_view}
+use Rattle.cpn_types.specs.TypedViews.{typed_view}
+use Rattle.cpn_types.specs.TypeViews.{ty_view}
+use Rattle.cpn_typing.specs.Types.{PlainTy}
+use Rattle.cpn_typing.specs.Names.{Declared, Scope, local_of, Refusal, Checked, ok, refused, ◌>>=◌}
+use Rattle.cpn_typing.specs.Places.{Place}
+use Rattle.cpn_typing.specs.Rules.{Typed}
+use Rattle.cpn_typing.specs.Expressions.{typed, typed_let}
+use Rattle.cpn_types.specs.Answers.{Refuses}
+use Rattle.cpn_types.specs.Bindings.{bind_all}
+
+abbrev pub around_rest : List PlainExpr → Checked Typed → Checked Typed
+around_rest es (ok r) = ok (record { expr = bind_all es r.expr; type_of = r.type_of })
+around_rest es (refused r) = refused r
+
+pub bind_more : (es : List PlainExpr) (e body : PlainExpr) → bind_all (es ++ e ∷ []) body ≡ bind_all es (bind e body)
+bind_more [] e body = refl
+bind_more (x ∷ es) e body = ap (bind x) (bind_more es e body)
+
+value_in_front : (es : List PlainExpr) (r : Typed) (c : Checked Typed) → around_rest (es ++ r.expr ∷ []) c ≡ around_rest es (c >>= λ rest. ok (record { expr = bind r.expr rest.expr; type_of = rest.type_of }))
+value_in_front es r (ok x) = rw (bind_more es r.expr x.expr) refl
+value_in_front es r (refused x) = refl
+
+pub value_step : (ds : Declared) (place : Place) (now next : Scope) (values : List LocalValue) (i : ℕ) (x : LocalValue) (es es2 : List PlainExpr) (r : Typed) (body : Scope → Checked Typed) (all : Checked Typed)
+    → i < length values → x ≡ get_or values i x → typed ds place (local_view x).1 now None ≡ ok r
+    → es2 ≡ es ++ r.expr ∷ [] → next ≡ now ++ local_of (local_view x).0 r.type_of ∷ []
+    → around_rest es (typed_let ds place (locals_from (map local_view (drop i values))) now body) ≡ all
+    → around_rest es2 (typed_let ds place (locals_from (map local_view (drop (i + 1) values))) next body) ≡ all
+value_step ds place now next values i x es es2 r body all lt e f y n h =
+    let d : drop i values ≡ x ∷ drop (suc i) values = drop-cons values i x lt ∙ ap (λ z. z ∷ drop (suc i) values) (sym e) in
+    let k = rw (d, f) at h in
+    rw (add-one i, y, n) (value_in_front es r (typed_let ds place (locals_from (map local_view (drop (suc i) values))) (now ++ local_of (local_view x).0 r.type_of ∷ []) body) ∙ k)
+
+pub value_refused : (q : Option Refusal) (ds : Declared) (place : Place) (now : Scope) (values : List LocalValue) (i : ℕ) (x : LocalValue) (es : List PlainExpr) (body : Scope → Checked Typed) (all : Checked Typed)
+    → i < length values → x ≡ get_or values i x → Refuses q (typed ds place (local_view x).1 now None)
+    → around_rest es (typed_let ds place (locals_from (map local_view (drop i values))) now body) ≡ all → Refuses q all
+value_refused None ds place now values i x es body all lt e f h = tt
+value_refused (Some q) ds place now values i x es body all lt e f h =
+    let d : drop i values ≡ x ∷ drop (suc i) values = drop-cons values i x lt ∙ ap (λ z. z ∷ drop (suc i) values) (sym e) in
+    let k = rw (d, f) at h in
+    sym k
+
+-- where no value is left, the body is what is around
+pub values_done : (ds : Declared) (place : Place) (now : Scope) (values : List LocalValue) (i : ℕ) (body : Scope → Checked Typed) → length values ≤ i → typed_let ds place (locals_from (map local_view (drop i values))) now body ≡ body now
+values_done ds place now values i body le =
+    let d : drop i values ≡ [] = drop_of_length-le values le in
+    rw d refl
+
+pub body_refused : (q : Option Refusal) (es : List PlainExpr) (c : Checked Typed) → Refuses q c → Refuses q (around_rest es c)
+body_refused None es c h = tt
+body_refused (Some q) es c h = ap (around_rest es) h
+
+map_more : {A B : Type 0} (f : A → B) (xs : List A) (x : A) → map f (xs ++ x ∷ []) ≡ map f xs ++ f x ∷ []
+map_more f [] x = refl
+map_more f (y ∷ xs) x = ap (λ ys. f y ∷ ys) (map_more f xs x)
+
+view_let : (a b : Box Expr Global) → expr_view (exprs.Let a b) ≡ bind (expr_view a.value) (expr_view b.value)
+view_let a b = search (rules, the_lemmas)
+
+-- the last of the values around what has been made
+pub bind_last : (es rest : List Expr) (v e : Expr) (a b : Box Expr Global) (all : PlainExpr) → es ≡ rest ++ v ∷ [] → a.value ≡ v → b.value ≡ e
+    → bind_all (map expr_view es) (expr_view e) ≡ all → bind_all (map expr_view rest) (expr_view (exprs.Let a b)) ≡ all
+bind_last es rest v e a b all s p q h =
+    ap (bind_all (map expr_view rest)) (view_let a b ∙ ap (λ x. bind (expr_view x) (expr_view b.value)) p ∙ ap (λ x. bind (expr_view v) (expr_view x)) q)
+    ∙ sym (bind_more (map expr_view rest) (expr_view v) (expr_view e))
+    ∙ ap (λ xs. bind_all xs (expr_view e)) (sym (ap (map expr_view) s ∙ map_more expr_view rest v))
+    ∙ h
+
+pub bind_none : (es : List Expr) (e : PlainExpr) → length es ≡ 0 → bind_all (map expr_view es) e ≡ e
+bind_none [] e h = refl
+bind_none (x ∷ es) e h = absurd (omega arith)
+
+local_value_is : (x : LocalValue) → local_view x ≡ (string_bytes x.name, ast_view x.value)
+local_value_is x = search (rules, local_value.the_lemmas)
+
+-- one more value, which those behind it see
+pub values_step : (ds : Declared) (place : Place) (now now2 next : List Local) (values : List LocalValue) (i : ℕ) (x : LocalValue) (es es2 : List Expr) (r : program.Typed) (name : Bor (List ℕ)) (body : Scope → Checked Typed) (all : Checked Typed)
+    → i < length values → x ≡ get_or values i x → typed ds place (ast_view x.value) (scope_view now) None ≡ ok (typed_view r)
+    → es2 ≡ es ++ r.expr ∷ [] → now2 ≡ now → next ≡ now2 ++ record { name = name; ty = r.ty } ∷ [] → name.now ≡ string_bytes x.name
+    → around_rest (map expr_view es) (typed_let ds place (locals_from (map local_view (drop i values))) (scope_view now) body) ≡ all
+    → around_rest (map expr_view es2) (typed_let ds place (locals_from (map local_view (drop (i + 1) values))) (scope_view next) body) ≡ all
+values_step ds place now now2 next values i x es es2 r name body all lt e f y m n s h =
+    value_step ds place (scope_view now) (scope_view next) values i x (map expr_view es) (map expr_view es2) (typed_view r) body all lt e
+    (ap (λ p. typed ds place p.1 (scope_view now) None) (local_value_is x) ∙ f)
+    (ap (map expr_view) y ∙ map_more expr_view es r.expr)
+    (ap scope_view n ∙ ap (λ l. scope_view (l ++ record { name = name; ty = r.ty } ∷ [])) m ∙ map_more _ now (record { name = name; ty = r.ty })
+    ∙ ap (λ p. scope_view now ++ local_of p (ty_view r.ty) ∷ []) (s ∙ ap (λ p. p.0) (sym (local_value_is x))))
+    h
+
+pub take_front : {A : Type 0} (n : ℕ) (xs ys zs ws : List A) (x : A) → n ≤ length xs → ys ≡ xs → zs ≡ ys ++ x ∷ [] → take n xs ≡ ws → take n zs ≡ ws
+take_front n xs ys zs ws x le e f h = rw (f, e) (rw take-append-le h)
+
+pub further_front : {A : Type 0} (n : ℕ) (xs ys zs : List A) (x : A) → n ≤ length xs → ys ≡ xs → zs ≡ ys ++ x ∷ [] → n ≤ length zs
+further_front n xs ys zs x le e f = rw (f, e) (let k = length-append xs (x ∷ []) in omega arith)
+
+abbrev pub made_of : PlainExpr → PlainTy → Checked Typed
+made_of e t = ok (record { expr = e; type_of = t })
+
+pub bind_done : (es : List Expr) (e all : PlainExpr) (t u : PlainTy) → length es ≡ 0 → bind_all (map expr_view es) e ≡ all → t ≡ u → made_of all t ≡ made_of e u
+bind_done es e all t u z h s = ap (λ x. made_of x t) (sym h ∙ bind_none es e z) ∙ ap (made_of e) s

@@ -1,0 +1,10 @@
+-- What is accepted as an initial marking has terms or a fault.
+use Rattle.cpn_core.specs.Colours.{colour_view}
+use Rattle.cpn_core.specs.Inscriptions.{multiset_view}
+use Rattle.cpn_syntax.specs.ParsedViews.{inscription_view}
+use Rattle.cpn_types.specs.DeclsViews.{decls_view}
+use Rattle.cpn_types.proofs.TokenMeanings.{init_has_meaning}
+use Rattle.cpn_types.proofs.arcs.check_init.Goals as goal
+
+pub returns-clause-means : goal.returns-clause-means
+returns-clause-means c = init_has_meaning (decls_view c.args.decls.now) (colour_view c.args.colour.now) (inscription_view c.args.written.now) (multiset_view c.in_ok-expr.expr) c.in_ok-expr.ensures.exact

@@ -1,0 +1,10 @@
+-- The parameters that are left, behind the locals so far, make the scope of all.
+use Rattle.std.proofs.Common.{◌≡◌, [], map, drop}
+use Rattle.cpn_syntax.specs.DeclTrees.{parameter_view}
+use Rattle.cpn_typing.specs.Declarations.{scope_of}
+use Rattle.cpn_types.specs.DeclsViews.{decls_view, scope_view}
+use Rattle.cpn_types.proofs.functions.scope_of.Given as goal
+
+abbrev pub invariant-loop-parameter : goal.invariant-loop-parameter
+invariant-loop-parameter l =
+    scope_of (decls_view l.decls) (map parameter_view (drop l.parameter-index l.parameters)) (scope_view l.scope.items) ≡ scope_of (decls_view l.decls) (map parameter_view l.parameters) []

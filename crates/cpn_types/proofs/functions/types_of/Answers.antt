@@ -1,0 +1,12 @@
+-- At the end the types are those of all locals.
+use Rattle.std.proofs.Common.{◌≡◌, ◌∙◌, map, take, sym, ap, arith}
+use Rattle.std.proofs.lemmas.List.{take_all}
+use Rattle.cpn_typing.specs.Types.{types_from}
+use Rattle.cpn_types.specs.TypeViews.{ty_view}
+use Rattle.cpn_types.proofs.TypeLevels.{types_of_locals}
+use Rattle.cpn_types.proofs.functions.types_of.Goals as goal
+
+pub returns : goal.returns
+returns c =
+    let all : take c.loop-local.local-index c.args.scope.now ≡ c.args.scope.now = take_all c.loop-local.local-index c.args.scope.now (omega arith) in
+    record { exact = ap types_from (c.loop-local.invariant ∙ ap (map (λ local. ty_view local.ty)) all) ∙ sym (types_of_locals c.args.scope.now) }

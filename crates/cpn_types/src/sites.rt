@@ -1,0 +1,88 @@
+//! What is around an inscription of tokens, and which times may be told there.
+
+ghost use Rattle.std.specs.Prelude.{◌≡◌};
+ghost use Rattle.cpn_definitions.specs.Inscription.{later, stamped};
+ghost use Rattle.cpn_core.specs.Inscriptions.{expr_view, multiset_view};
+ghost use Rattle.cpn_typing.specs.Multisets.{delay_rule, stamp_rule};
+ghost use Rattle.cpn_typing.specs.Multisets as multisets;
+ghost use Rattle.cpn_types.specs.Answers.{Answers};
+ghost use Rattle.cpn_types.specs.PlaceViews.{side_view, place_view};
+
+use crate::decls::Decls;
+use crate::places::{Place, Side};
+use crate::refusals::TypeError;
+use crate::types::Ty;
+use cpn_core::{Expr, MExpr};
+use std::alloc::Global;
+
+/// What is around an inscription of tokens.
+#[derive(Clone, Copy)]
+pub(crate) struct Site<'d> {
+    /// Where memory comes from.
+    pub(crate) alloc: Global,
+    /// What is declared.
+    pub(crate) decls: &'d Decls,
+    /// Where the inscription stands.
+    pub(crate) side: Side,
+    /// The type of the place's tokens.
+    pub(crate) ty: &'d Ty,
+    /// Whether they carry time stamps.
+    pub(crate) timed: bool,
+}
+
+/// The place of what stands inside the inscription.
+pub(crate) fn inside(side: Side) -> Place
+    ensures exact { place_view result ≡ multisets.inside (side_view side) }
+{
+    match side {
+        Side::Input => Place::Input,
+        Side::Output => Place::Output,
+        Side::Initial => Place::Initial,
+    }
+}
+
+/// Tokens with a delay, where it may stand.
+pub(crate) fn delayed(
+    alloc: Global,
+    side: Side,
+    timed: bool,
+    sign: usize,
+    tokens: MExpr,
+    delay: Expr,
+) -> Result<MExpr, TypeError>
+    ensures exact { Answers multiset_view result (delay_rule (side_view side) timed sign (later (multiset_view tokens) (expr_view delay))) }
+{
+    match side {
+        Side::Input => Err(TypeError::InputDelay(sign)),
+        Side::Output => {
+            if !timed {
+                return Err(TypeError::TimeNotAllowed(sign));
+            }
+            Ok(MExpr::Later(Box::new(alloc, tokens)?, delay))
+        }
+        Side::Initial => Err(TypeError::TimeNotAllowed(sign)),
+    }
+}
+
+/// Tokens with a time stamp, where it may stand.
+pub(crate) fn at_time(
+    alloc: Global,
+    side: Side,
+    timed: bool,
+    sign: usize,
+    tokens: MExpr,
+    stamp: i64,
+) -> Result<MExpr, TypeError>
+    ensures exact { Answers multiset_view result (stamp_rule (side_view side) timed sign (stamped (multiset_view tokens) stamp)) }
+{
+    match side {
+        Side::Input => Err(TypeError::TimeNotAllowed(sign)),
+        Side::Output => Err(TypeError::TimeNotAllowed(sign)),
+        Side::Initial => {
+            if !timed {
+                return Err(TypeError::TimeNotAllowed(sign));
+            }
+            Ok(MExpr::At(Box::new(alloc, tokens)?, stamp))
+        }
+    }
+}

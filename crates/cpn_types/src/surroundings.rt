@@ -1,0 +1,529 @@
+//! Inscriptions of one value, form by form: a tree is checked against a wanted type where its place gives one, else its type
+//! is found.
+//!
+//! The calls go down the tree, which is at most 64 deep. What is not recursive stands elsewhere, so that each of them takes
+//! little of the machine's stack.
+
+ghost use Rattle.std.specs.Prelude.{◌≡◌, ◌≤◌, ◌++◌, map, drop, take, length, string_bytes, option_map};
+ghost use Rattle.cpn_syntax.specs.AstViews.{ast_view, form_view, arm_view, local_view, arms_from, locals_from};
+ghost use Rattle.cpn_syntax.specs.Trees.{asts_from};
+ghost use Rattle.cpn_typing.specs.Names.{found};
+ghost use Rattle.cpn_typing.specs.Expressions.{typed_parts, typed_items, typed_arms, typed_form, typed_let};
+ghost use Rattle.cpn_typing.specs.Rules.{part, if_rule, sides, any_type, fold_rule, call_rule, called_as, argument_rule, first_wanted};
+ghost use Rattle.cpn_types.specs.Answers.{Answers};
+ghost use Rattle.cpn_types.specs.DeclsViews.{decls_view, scope_view};
+ghost use Rattle.cpn_types.specs.PlaceViews.{place_view};
+ghost use Rattle.cpn_types.specs.TypeViews.{ty_view, tys_view};
+ghost use Rattle.cpn_types.specs.TypedViews.{typed_view};
+ghost use Rattle.cpn_types.specs.FormViews.{arms_view, branches_view, items_view, parts_view, spot_view, wanted_view};
+ghost use Rattle.cpn_types.specs.Operators.{from_sides};
+ghost use Rattle.cpn_types.specs.Calls.{from_arguments};
+ghost use Rattle.cpn_core.specs.Inscriptions.{expr_view};
+ghost use Rattle.cpn_types.specs.Around.{typed_in, arguments_in, body_in, typed_then};
+
+use crate::calls::{
+    Called, constructed, find_called, first_wanted_by, function_called, item_of, operation_makes,
+    others_wanted_by, parts_wanted, tuple_made,
+};
+use crate::decls::Decls;
+use crate::forms::{Arms, Branches, Items, Parts, Spot, copy_wanted, lent, meets};
+use crate::leaves::{check_name, check_time, text_literal};
+use crate::lookups::Predeclared;
+use crate::made::{chosen, folded, listed, nested, selected, tupled, two_locals};
+use crate::operators::{
+    Sides, check_side, is_right_first, item_wanted, operand_makes, operand_wanted, other_wanted,
+    side_wanted, sides_make, waits,
+};
+use crate::patterns::check_pattern;
+use crate::places::Place;
+use crate::refusals::TypeError;
+use crate::scopes::Local;
+use crate::typed::Typed;
+use crate::types::Ty;
+use cpn_core::{Expr, Value};
+use cpn_syntax::{Ast, Asts, Form, Infix, LocalValue};
+use std::alloc::Global;
+
+/// What is around an inscription: what is declared, and its place.
+#[derive(Clone, Copy)]
+pub(crate) struct Surroundings<'d> {
+    /// Where memory comes from.
+    pub(crate) alloc: Global,
+    /// What is declared.
+    pub(crate) decls: &'d Decls,
+    /// The place of the inscription.
+    pub(crate) place: Place,
+}
+
+/// The type that is wanted of the part at a place, if there is one.
+#[tactic(auto, using(crate::proofs::Fronts::wanted_there, crate::proofs::Fronts::none_wanted))]
+fn wanted_at(wanted: &[Ty], place: usize) -> Option<&Ty>
+    ensures exact { wanted_view result ≡ first_wanted (tys_view (drop place wanted.now)) }
+{
+    if place < wanted.len() {
+        Some(&wanted[place])
+    } else {
+        None
+    }
+}
+
+impl Surroundings<'_> {
+    /// The typed inscription of a tree among the locals of its place.
+    #[cycle(check)]
+    pub(crate) fn typed<'t>(
+        &self,
+        tree: &'t Ast,
+        scope: &mut Vec<Local<'t>>,
+        wanted: Option<&Ty>,
+    ) -> Result<Typed, TypeError>
+        ensures exact { Answers typed_view result (typed_in self.now tree.now scope.old.items (wanted_view wanted.entry)) }
+        ensures locals { scope.new.items ≡ scope.old.items }
+    {
+        self.form(&tree.form, tree.at, scope, wanted)
+    }
+
+    /// One form.
+    #[tactic(auto, using(crate::proofs::FormRules::infix_apart, crate::proofs::FormRules::prefix_apart))]
+    #[cycle(check)]
+    fn form<'t>(
+        &self,
+        form: &'t Form,
+        at: usize,
+        scope: &mut Vec<Local<'t>>,
+        wanted: Option<&Ty>,
+    ) -> Result<Typed, TypeError>
+        ensures exact { Answers typed_view result (typed_form (decls_view self.now.decls.now) (place_view self.now.place) (form_view form.now) at (scope_view scope.old.items) (wanted_view wanted.entry)) }
+        ensures locals { scope.new.items ≡ scope.old.items }
+    {
+        let spot = Spot {
+            place: self.place,
+            at,
+            wanted,
+        };
+        match form {
+            Form::Number(number) => { meets(wanted, at, Expr::Lit(Value::Int(*number)), Ty::Int) }
+            Form::Text(text) => text_literal(self.alloc, text, spot),
+            Form::Truth(truth) => meets(wanted, at, Expr::Lit(Value::Bool(*truth)), Ty::Bool),
+            Form::Empty => Err(TypeError::Mismatch {
+                at,
+                wanted: None,
+                found: None,
+            }),
+            Form::Time => check_time(spot),
+            Form::Name(name) => check_name(self.alloc, self.decls, name, scope, spot),
+            Form::Call {
+                function,
+                arguments,
+            } => self.call(function, arguments, scope, spot),
+            Form::Unit => meets(wanted, at, Expr::Lit(Value::Unit), Ty::Unit),
+            Form::Tuple(parts) => {
+                let parts = self.parts(parts, 0, scope, parts_wanted(wanted))?;
+                tupled(parts, spot)
+            }
+            Form::List(items) => {
+                let items = self.items(items, scope, item_wanted(wanted))?;
+                listed(self.alloc, items, spot)
+            }
+            Form::Let { values, body } => self.with_values(values, body, scope, wanted),
+            Form::Prefix { operator, operand } => {
+                let wanted = operand_wanted(*operator);
+                let typed = self.typed(operand, scope, lent(&wanted))?;
+                operand_makes(self.alloc, *operator, spot, operand.at, typed)
+            }
+            Form::Infix {
+                operator,
+                sign,
+                left,
+                right,
+            } => self.infix(*operator, *sign, left, right, scope, spot),
+            Form::Stamped {
+                term,
+                sign,
+                stamp: _,
+            } => {
+                let _term = self.typed(term, scope, None)?;
+                Err(self.place.misplaced_stamp(at, *sign))
+            }
+            Form::Sum(parts) => {
+                let _parts = self.parts(parts, 0, scope, &[])?;
+                Err(TypeError::Mismatch {
+                    at,
+                    wanted: None,
+                    found: None,
+                })
+            }
+            Form::If {
+                condition,
+                consequence,
+                alternative,
+            } => self.branches(condition, consequence, alternative, scope, wanted),
+            Form::Case { subject, arms } => {
+                let subject = self.typed(subject, scope, None)?;
+                let arms = self.arms(arms, scope, &subject.ty, wanted)?;
+                selected(self.alloc, at, subject.expr, arms)
+            }
+            Form::Fold {
+                item,
+                sum,
+                list,
+                start,
+                body,
+            } => self.fold(item, sum, list, start, body, scope, wanted),
+        }
+    }
+
+    /// The parts from an index on, with the types that are wanted of them by place.
+    #[cycle(check)]
+    fn parts<'t>(
+        &self,
+        parts: &'t [Ast],
+        from: usize,
+        scope: &mut Vec<Local<'t>>,
+        wanted: &[Ty],
+    ) -> Result<Parts, TypeError>
+        ensures exact { Answers parts_view result (typed_parts (decls_view self.now.decls.now) (place_view self.now.place) (asts_from (map ast_view (drop from parts.now))) (scope_view scope.old.items) (tys_view wanted.now)) }
+        ensures locals { scope.new.items ≡ scope.old.items }
+    {
+        let mut exprs = Vec::new(self.alloc);
+        let mut types = Vec::new(self.alloc);
+        for index in from..parts.len() {
+            let typed = self.typed(&parts[index], scope, wanted_at(wanted, index - from))?;
+            exprs.push(typed.expr)?;
+            types.push(typed.ty)?;
+        }
+        Ok(Parts { exprs, types })
+    }
+
+    /// The items of a list: the type of the first is wanted of those behind it.
+    #[cycle(check)]
+    fn items<'t>(
+        &self,
+        items: &'t [Ast],
+        scope: &mut Vec<Local<'t>>,
+        wanted: Option<&Ty>,
+    ) -> Result<Items, TypeError>
+        ensures exact { Answers items_view result (typed_items (decls_view self.now.decls.now) (place_view self.now.place) (asts_from (map ast_view items.now)) (scope_view scope.old.items) (wanted_view wanted.entry)) }
+        ensures locals { scope.new.items ≡ scope.old.items }
+    {
+        let mut ty = copy_wanted(wanted)?;
+        let mut exprs = Vec::new(self.alloc);
+        for tree in items {
+            let typed = self.typed(tree, scope, lent(&ty))?;
+            exprs.push(typed.expr)?;
+            ty = Some(typed.ty);
+        }
+        Ok(Items { exprs, ty })
+    }
+
+    /// An operator between its operands.
+    #[cycle(check)]
+    fn infix<'t>(
+        &self,
+        operator: Infix,
+        sign: usize,
+        left: &'t Ast,
+        right: &'t Ast,
+        scope: &mut Vec<Local<'t>>,
+        spot: Spot<'_>,
+    ) -> Result<Typed, TypeError>
+        ensures exact { Answers typed_view result (from_sides operator (spot_view spot.entry) sign (part (ast_view left.now) (typed_in self.now left.now scope.old.items)) (part (ast_view right.now) (typed_in self.now right.now scope.old.items))) }
+        ensures locals { scope.new.items ≡ scope.old.items }
+    {
+        let wanted = side_wanted(operator, spot.wanted)?;
+        if is_right_first(operator, spot.wanted, waits(left, right)) {
+            let second = self.typed(right, scope, lent(&wanted))?;
+            check_side(operator, &second.ty, right.at)?;
+            let other = other_wanted(self.alloc, operator, &second.ty)?;
+            let first = self.typed(left, scope, lent(&other))?;
+            return sides_make(
+                self.alloc,
+                operator,
+                spot,
+                sign,
+                Sides {
+                    left: first.expr,
+                    right: second.expr,
+                    first: second.ty,
+                    last: first.ty,
+                },
+            );
+        }
+        let first = self.typed(left, scope, lent(&wanted))?;
+        check_side(operator, &first.ty, left.at)?;
+        let other = other_wanted(self.alloc, operator, &first.ty)?;
+        let second = self.typed(right, scope, lent(&other))?;
+        sides_make(
+            self.alloc,
+            operator,
+            spot,
+            sign,
+            Sides {
+                left: first.expr,
+                right: second.expr,
+                first: first.ty,
+                last: second.ty,
+            },
+        )
+    }
+
+    /// `if`: a truth value, and two parts of one type.
+    #[cycle(check)]
+    fn branches<'t>(
+        &self,
+        condition: &'t Ast,
+        left: &'t Ast,
+        right: &'t Ast,
+        scope: &mut Vec<Local<'t>>,
+        wanted: Option<&Ty>,
+    ) -> Result<Typed, TypeError>
+        ensures exact { Answers typed_view result (if_rule (wanted_view wanted.entry) (part (ast_view condition.now) (typed_in self.now condition.now scope.old.items)) (part (ast_view left.now) (typed_in self.now left.now scope.old.items)) (part (ast_view right.now) (typed_in self.now right.now scope.old.items))) }
+        ensures locals { scope.new.items ≡ scope.old.items }
+    {
+        let test = self.typed(condition, scope, Some(&Ty::Bool))?;
+        let sides = self.sides(left, right, scope, wanted)?;
+        chosen(self.alloc, test.expr, sides)
+    }
+
+    /// Two parts of one type: the left one first, and the right one at its type; or the other way round where no type is wanted
+    /// and the left one alone is `[]`.
+    #[cycle(check)]
+    fn sides<'t>(
+        &self,
+        left: &'t Ast,
+        right: &'t Ast,
+        scope: &mut Vec<Local<'t>>,
+        wanted: Option<&Ty>,
+    ) -> Result<Branches, TypeError>
+        ensures exact { Answers branches_view result (sides any_type (wanted_view wanted.entry) (part (ast_view left.now) (typed_in self.now left.now scope.old.items)) (part (ast_view right.now) (typed_in self.now right.now scope.old.items))) }
+        ensures locals { scope.new.items ≡ scope.old.items }
+    {
+        if wanted.is_none() && waits(left, right) {
+            let second = self.typed(right, scope, None)?;
+            let first = self.typed(left, scope, Some(&second.ty))?;
+            return Ok(Branches {
+                left: first.expr,
+                right: second.expr,
+                ty: first.ty,
+            });
+        }
+        let first = self.typed(left, scope, wanted)?;
+        let second = self.typed(right, scope, Some(&first.ty))?;
+        Ok(Branches {
+            left: first.expr,
+            right: second.expr,
+            ty: second.ty,
+        })
+    }
+
+    /// The arms of a `case` over a subject of a type: the type of the first result is wanted of those behind it.
+    #[cycle(check)]
+    fn arms<'t>(
+        &self,
+        arms: &'t [cpn_syntax::Arm],
+        scope: &mut Vec<Local<'t>>,
+        subject: &Ty,
+        wanted: Option<&Ty>,
+    ) -> Result<Arms, TypeError>
+        ensures exact { Answers arms_view result (typed_arms (decls_view self.now.decls.now) (place_view self.now.place) (arms_from (map arm_view arms.now)) (scope_view scope.old.items) (ty_view subject.now) (wanted_view wanted.entry)) }
+        ensures locals { scope.new.items ≡ scope.old.items }
+    {
+        let mut ty = copy_wanted(wanted)?;
+        let mut typed_arms = Vec::new(self.alloc);
+        for arm in arms {
+            let pattern = check_pattern(self.alloc, self.decls, &arm.pattern, scope, subject)?;
+            let result = self.inside(&arm.result, pattern.locals, scope, lent(&ty))?;
+            typed_arms.push(cpn_core::Arm {
+                pat: pattern.pattern,
+                result: result.expr,
+            })?;
+            ty = Some(result.ty);
+        }
+        Ok(Arms {
+            arms: typed_arms,
+            ty,
+        })
+    }
+
+    /// The same among more locals, which are gone afterwards.
+    #[cycle(check)]
+    fn inside<'t>(
+        &self,
+        tree: &'t Ast,
+        locals: Vec<Local<'t>>,
+        scope: &mut Vec<Local<'t>>,
+        wanted: Option<&Ty>,
+    ) -> Result<Typed, TypeError>
+        ensures exact { Answers typed_view result (typed_then self.now tree.now (wanted_view wanted.entry) (scope_view scope.old.items ++ scope_view locals.entry.items)) }
+        ensures locals { scope.new.items ≡ scope.old.items }
+    {
+        let depth = scope.len();
+        let mut locals = locals;
+        scope.append(&mut locals)?;
+        let typed = self.typed(tree, scope, wanted);
+        scope.truncate(depth);
+        typed
+    }
+
+    /// `let`: the values, each seen by those behind it, and what follows in their scope.
+    #[cycle(check)]
+    fn with_values<'t>(
+        &self,
+        values: &'t [LocalValue],
+        body: &'t Ast,
+        scope: &mut Vec<Local<'t>>,
+        wanted: Option<&Ty>,
+    ) -> Result<Typed, TypeError>
+        ensures exact { Answers typed_view result (typed_let (decls_view self.now.decls.now) (place_view self.now.place) (locals_from (map local_view values.now)) (scope_view scope.old.items) (typed_then self.now body.now (wanted_view wanted.entry))) }
+        ensures locals { scope.new.items ≡ scope.old.items }
+    {
+        let depth = scope.len();
+        let typed = self.among_values(values, body, scope, wanted);
+        scope.truncate(depth);
+        typed
+    }
+
+    /// The same, with the values left in the scope.
+    #[cycle(check)]
+    fn among_values<'t>(
+        &self,
+        values: &'t [LocalValue],
+        body: &'t Ast,
+        scope: &mut Vec<Local<'t>>,
+        wanted: Option<&Ty>,
+    ) -> Result<Typed, TypeError>
+        ensures exact { Answers typed_view result (typed_let (decls_view self.now.decls.now) (place_view self.now.place) (locals_from (map local_view values.now)) (scope_view scope.old.items) (typed_then self.now body.now (wanted_view wanted.entry))) }
+        ensures further { length scope.old.items ≤ length scope.new.items }
+        ensures outer { take (length scope.old.items) scope.new.items ≡ scope.old.items }
+    {
+        let mut exprs = Vec::new(self.alloc);
+        for local in values {
+            let typed = self.typed(&local.value, scope, None)?;
+            exprs.push(typed.expr)?;
+            scope.push(Local {
+                name: local.name.as_str(),
+                ty: typed.ty,
+            })?;
+        }
+        let body = self.typed(body, scope, wanted)?;
+        nested(self.alloc, exprs, body)
+    }
+
+    /// `foldl`: a list, a start, and a body of the start's type over an item and what has been made so far.
+    #[cycle(check)]
+    fn fold<'t>(
+        &self,
+        item: &'t str,
+        total: &'t str,
+        list: &'t Ast,
+        start: &'t Ast,
+        body: &'t Ast,
+        scope: &mut Vec<Local<'t>>,
+        wanted: Option<&Ty>,
+    ) -> Result<Typed, TypeError>
+        ensures exact { Answers typed_view result (fold_rule (wanted_view wanted.entry) (part (ast_view list.now) (typed_in self.now list.now scope.old.items)) (part (ast_view start.now) (typed_in self.now start.now scope.old.items)) (body_in self.now item.now total.now body.now scope.old.items)) }
+        ensures locals { scope.new.items ≡ scope.old.items }
+    {
+        let list_typed = self.typed(list, scope, None)?;
+        let item_type = item_of(&list_typed.ty, list.at)?.copy()?;
+        let start = self.typed(start, scope, wanted)?;
+        let locals = two_locals(self.alloc, item, item_type, total, &start.ty)?;
+        let body = self.inside(body, locals, scope, Some(&start.ty))?;
+        folded(self.alloc, list_typed.expr, start, body.expr)
+    }
+
+    /// A call. What the name means comes before the arguments.
+    #[cycle(check)]
+    fn call<'t>(
+        &self,
+        name: &str,
+        arguments: &'t Asts,
+        scope: &mut Vec<Local<'t>>,
+        spot: Spot<'_>,
+    ) -> Result<Typed, TypeError>
+        ensures exact { Answers typed_view result (call_rule (called_as (found name.now (scope_view scope.old.items) (decls_view self.now.decls.now))) (spot_view spot.entry) name.now (asts_from (map ast_view arguments.now.items)) (arguments_in self.now arguments.now.items spot.entry.at scope.old.items)) }
+        ensures locals { scope.new.items ≡ scope.old.items }
+    {
+        match find_called(name, scope, self.decls) {
+            Called::Predeclared(function) => { self.predeclared(function, arguments, scope, spot) }
+            Called::Constructor {
+                union,
+                position,
+                argument,
+            } => {
+                let argument = self.argument(arguments, argument, scope, spot.at)?;
+                constructed(self.alloc, union, position, argument, spot)
+            }
+            Called::Function {
+                number,
+                parameters,
+                result: given,
+            } => {
+                if arguments.is_empty() {
+                    return Err(TypeError::Mismatch {
+                        at: spot.at,
+                        wanted: None,
+                        found: None,
+                    });
+                }
+                let arguments = self.parts(arguments, 0, scope, parameters)?;
+                function_called(number, parameters, given, arguments, spot)
+            }
+            Called::Nothing => Err(TypeError::Unknown(String::from_str(self.alloc, name)?)),
+        }
+    }
+
+    /// A call of a predeclared function.
+    #[tactic(auto, using(crate::proofs::CallFronts::first_is, crate::proofs::CallFronts::place_is, crate::proofs::CallFronts::rest_is, crate::proofs::CallFronts::none_first))]
+    #[cycle(check)]
+    fn predeclared<'t>(
+        &self,
+        function: Predeclared,
+        arguments: &'t Asts,
+        scope: &mut Vec<Local<'t>>,
+        spot: Spot<'_>,
+    ) -> Result<Typed, TypeError>
+        ensures exact { Answers typed_view result (from_arguments function (spot_view spot.entry) (arguments_in self.now arguments.now.items spot.entry.at scope.old.items)) }
+        ensures locals { scope.new.items ≡ scope.old.items }
+    {
+        if arguments.is_empty() {
+            return Err(TypeError::Mismatch {
+                at: spot.at,
+                wanted: None,
+                found: None,
+            });
+        }
+        let wanted = first_wanted_by(function);
+        let first = self.typed(&arguments[0], scope, lent(&wanted))?;
+        let others = others_wanted_by(self.alloc, function, &first.ty, arguments[0].at)?;
+        let rest = self.parts(arguments, 1, scope, &others)?;
+        operation_makes(function, spot, first, &others, rest)
+    }
+
+    /// The argument of a constructor: one part is the argument, several are the parts of a tuple.
+    #[cycle(check)]
+    fn argument<'t>(
+        &self,
+        arguments: &'t Asts,
+        wanted: &Ty,
+        scope: &mut Vec<Local<'t>>,
+        at: usize,
+    ) -> Result<Expr, TypeError>
+        ensures exact { Answers expr_view result (argument_rule (asts_from (map ast_view arguments.now.items)) (ty_view wanted.now) (arguments_in self.now arguments.now.items at scope.old.items)) }
+        ensures locals { scope.new.items ≡ scope.old.items }
+    {
+        if arguments.is_empty() {
+            return Err(TypeError::Mismatch {
+                at,
+                wanted: None,
+                found: None,
+            });
+        }
+        if arguments.len() < 2 {
+            let argument = self.typed(&arguments[0], scope, Some(wanted))?;
+            return Ok(argument.expr);
+        }
+        let first = arguments[0].at;
+        let parts = self.parts(arguments, 0, scope, parts_wanted(Some(wanted)))?;
+        tuple_made(wanted, first, parts)
+    }
+}

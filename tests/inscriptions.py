@@ -1,0 +1,144 @@
+"""The rows of tests/texts/*.txt and of the blocks ```texts of docs/*.md: a text of the inscription language at one place of
+nets/every_colour.json, and what becomes of it.
+
+    PLACE: TEXT ==> ANSWER
+
+PLACE   decl            a further declaration, behind the others
+        colour          the colour set of the place Here
+        init COLOUR     the initial marking of Here, of that colour set
+        out COLOUR      the arc from t to Here, of that colour set
+        in COLOUR       an arc from Here to t instead
+        both COLOUR     an arc both ways instead
+        guard           the guard of t
+        delay           the delay of t
+ANSWER  TOKENS          the document is served, and these tokens are on Here at the end
+        ok              it is served, and there is 1`7 on Here, as without the text
+        idle            it is served, and t is not enabled, as there is no token on Here
+        fault NAME      the inscription of the arc, or the initial marking, has that fault
+        not yet         the text is accepted, but the document is not served: error document 7 not_yet
+        PART K NAME ..  the text is refused: error inscription POINTER PART K NAME .., with the pointer of the text, or with
+                        that of t where its variables are refused
+
+A line `declared: DECLARATION; DECLARATION; ..` puts declarations behind those of the net, for the rows that follow it, up to
+a blank line; each ends with its `;`, and no other `;` stands in it. A line that begins with # is a comment. In declarations
+and texts \\xNN stands for a byte, and <1..3: a#> stands for a1a2a3.
+"""
+import json
+import re
+
+NET = "nets/every_colour.json"
+ROW = re.compile(r"(\w+(?: \w+)?): (.*) ==> (.*)")
+FAULTS = "overflow divide_by_zero empty_list no_case not_in_colour bad_coefficient bad_delay too_large".split()
+TOKENS = {
+    "x": "7",
+    "y": "~2",
+    "b": "true",
+    "s": '"ab"',
+    "c": "amber",
+    "p": '(1,"a")',
+    "l": "[1,2,3]",
+    "r": "some(5)",
+    "d": "2",
+    "u": "()",
+}
+ELEMENT = "Top/t {" + ", ".join(f"{name}={value}" for name, value in TOKENS.items()) + "}"
+ARC = "/modules/0/arcs/0/expr"
+POINTERS = {
+    "colour": "/modules/0/places/0/colour",
+    "init": "/modules/0/places/0/initial",
+    "out": ARC,
+    "in": ARC,
+    "both": ARC,
+    "guard": "/modules/0/transitions/0/guard",
+    "delay": "/modules/0/transitions/0/delay",
+}
+OF_VARIABLES = re.compile(r"type (5 not_bindable|8 too_many variables)\b")
+
+
+class Row:
+    """A row, with the declarations above it."""
+
+    def __init__(self, place, declared, line):
+        found = ROW.fullmatch(line)
+        if not found:
+            raise ValueError(f"{place}: no row: {line}")
+        self.place, self.line, self.declared = place, line, declared
+        self.kind, _, self.colour = found[1].partition(" ")
+        self.text, self.answer = found[2], found[3]
+
+
+def rows_of(name, lines):
+    """Yields the rows of some lines, which are numbered."""
+    declared = []
+    for number, line in lines:
+        if not line:
+            declared = []
+        elif line.startswith("declared: "):
+            declared = [*declared, line.removeprefix("declared: ")]
+        elif not line.startswith("#"):
+            yield Row(f"{name}:{number}", declared, line)
+
+
+def document_of(row, net, written):
+    """Returns the row's document; `written` gives a text's bytes, with its repetitions written out."""
+
+    def text(cell):
+        return written(cell).decode()
+
+    document = json.loads(net)
+    module = document["modules"][0]
+    here, arc = module["places"][0], module["arcs"][0]
+    if row.declared:
+        document["declarations"] += re.findall(r"[^\s;][^;]*;", text(" ".join(row.declared)))
+    if row.colour:
+        here["colour"] = row.colour
+    if row.kind == "decl":
+        document["declarations"].append(text(row.text))
+    elif row.kind == "colour":
+        here["colour"] = text(row.text)
+    elif row.kind == "init":
+        here["initial"] = text(row.text)
+        del module["arcs"][0]
+    elif row.kind in ("out", "in", "both"):
+        arc |= {"to": {"out": "place", "in": "transition", "both": "both"}[row.kind], "expr": text(row.text)}
+    elif row.kind in ("guard", "delay"):
+        module["transitions"][0][row.kind] = text(row.text)
+    else:
+        raise ValueError(f"{row.kind} is no place of a text")
+    return document
+
+
+def answer_of(row, document):
+    """Returns what the row's document prints without a trace, and the exit status."""
+    answer = row.answer
+    if answer == "not yet":
+        return "error document 7 not_yet\n", 3
+    if re.match("(lex|syntax|type) ", answer):
+        return f"error inscription {pointer_of(row, document)} {answer}\n", 4
+    if answer.startswith("fault "):
+        name = answer.removeprefix("fault ")
+        if row.kind == "init":
+            return f"error net flat 4 init Top/Here {name}\n", 5
+        return report_of(f"fault {FAULTS.index(name) + 1} {name} {ELEMENT}", "empty", False, True), 6
+    if answer == "idle":
+        return report_of("dead", "empty", False, False), 0
+    return report_of("dead", "1`7" if answer == "ok" else answer, True, False), 0
+
+
+def pointer_of(row, document):
+    """Returns the pointer that the refusal of the row's text has."""
+    if OF_VARIABLES.match(row.answer):
+        return "/modules/0/transitions/0"
+    if row.kind == "decl":
+        return f"/declarations/{len(document['declarations']) - 1}"
+    return POINTERS[row.kind]
+
+
+def report_of(end, here, occurs, ready):
+    """Returns the report of a run of which the transition occurs once or not at all, and is enabled at the end or not."""
+    start = int(occurs or ready)
+    lines = ["report 1", f"run 0 initial 0 ready {start} next {0 if start else 'none'}", f"end {end}"]
+    lines += [f"occurrences {int(occurs)}", "clock 0", f"place Top/Here {here}"]
+    lines += [f"place Top/{name.upper()} " + ("empty" if occurs else f"1`{value}") for name, value in TOKENS.items()]
+    lines += [f"ready {int(ready)}", f"next {0 if ready else 'none'}", f"total {int(occurs)}"]
+    return "\n".join(lines) + "\n"
