@@ -1,9 +1,10 @@
--- The transition of the tests: it takes a from the first place and a and b from the second, and puts c there and 3 back.
+-- The transition of the tests: it takes a from the second place and b and a from the first, and puts c there, 3 back, and a
+-- there again, later by the time and the fourth variable.
 use Rattle.std.specs.Prelude.{◌≡◌, ℕ, ℤ, pos, Bool, true, false, List, [], ◌∷◌, Some}
 use Rattle.cpn_definitions.specs.Value.{boolean, int}
 use Rattle.cpn_definitions.specs.Colour.{PlainColour, int_shape}
 use Rattle.cpn_definitions.specs.Meaning.{PlainBinding}
-use Rattle.cpn_definitions.specs.Inscription.{PlainExpr, literal, variable, one}
+use Rattle.cpn_definitions.specs.Inscription.{PlainExpr, literal, variable, the_time, one, later}
 use Rattle.cpn_definitions.specs.Net.{PlainArc, PlainTransition}
 
 -- the integers from 0 to 9
@@ -14,12 +15,16 @@ digits timed = record { shape = int_shape (pos 0) (pos 9); timed = timed }
 abbrev pub plain_arc : ℕ → Bool → PlainExpr → PlainArc
 plain_arc place timed e = record { place = place; colour = digits timed; expr = one e; terms = [] }
 
+-- an arc of one token that has two delays: the time, and another
+abbrev pub later_arc : ℕ → PlainExpr → PlainExpr → PlainArc
+later_arc place e delay = record { place = place; colour = digits true; expr = later (later (one e) the_time) delay; terms = [] }
+
 -- its arcs
 abbrev pub worked_inputs : List PlainArc
 worked_inputs = plain_arc 1 true (variable 0) ∷ plain_arc 0 false (variable 1) ∷ plain_arc 0 false (variable 0) ∷ []
 
 abbrev pub worked_outputs : List PlainArc
-worked_outputs = plain_arc 1 true (variable 2) ∷ plain_arc 0 false (literal (int (pos 3))) ∷ []
+worked_outputs = plain_arc 1 true (variable 2) ∷ plain_arc 0 false (literal (int (pos 3))) ∷ later_arc 1 (variable 0) (variable 3) ∷ []
 
 -- its guard is the fifth variable, its delay the fourth
 pub record IsWorked (t : PlainTransition) : Type 0 where

@@ -5,7 +5,7 @@ ghost use Rattle.cpn_definitions.specs.Net.{transition_at};
 ghost use Rattle.cpn_core.specs.Colours.{colour_view};
 ghost use Rattle.cpn_core.specs.Inscriptions.{expr_view};
 ghost use Rattle.cpn_core.specs.Nets.{arc_view, net_view, transition_view};
-ghost use Rattle.cpn_elements.specs.Worked.{IsFive, IsWorked, digits, plain_arc};
+ghost use Rattle.cpn_elements.specs.Worked.{IsFive, IsWorked, digits, plain_arc, later_arc};
 
 use super::*;
 use cpn_core::{
@@ -39,6 +39,20 @@ fn arc(alloc: Global, place: u32, timed: bool, expr: Expr) -> PlaceArc
     PlaceArc { place, inscription }
 }
 
+// An arc of one token that is later by the time, and by another delay.
+fn later_arc(alloc: Global, place: u32, expr: Expr, delay: Expr) -> Result<PlaceArc, Memory>
+    ensures arc { IfOk result (λ arc. arc_view arc ≡ later_arc place (expr_view expr) (expr_view delay)) }
+{
+    let token = Box::new(alloc, MExpr::One(expr))?;
+    let later = Box::new(alloc, MExpr::Later(token, Expr::Time))?;
+    let inscription = ArcExpr {
+        colour: digits(true),
+        expr: MExpr::Later(later, delay),
+        terms: Vec::new(alloc),
+    };
+    Ok(PlaceArc { place, inscription })
+}
+
 fn transition(alloc: Global) -> Result<Transition, Memory>
     ensures worked { IfOk result (λ transition. IsWorked (transition_view transition)) }
 {
@@ -51,6 +65,7 @@ fn transition(alloc: Global) -> Result<Transition, Memory>
     let outputs = [
         arc(alloc, 1, true, Expr::Var(2)),
         arc(alloc, 0, false, three),
+        later_arc(alloc, 1, Expr::Var(0), Expr::Var(3))?,
     ];
     let conjuncts = Vec::from_array(alloc, [Expr::Var(4)])?;
     let inputs = Vec::from_array(alloc, inputs)?;
@@ -176,17 +191,30 @@ fn needs_and_outputs_are_those_of_the_table(rt: HostRuntime) -> Result<(), Fail>
     let alloc = rt.alloc();
     let net = net(alloc)?;
     let table = [
-        ([1, 2, 4, 5], true, "true 0:1+0 0:2+0 1:1+0 0:3@0 1:4@15"),
-        ([2, 1, 9, 0], false, "false 0:1+0 0:2+0 1:2+0 0:3@0 1:9@10"),
         (
-            [7, 7, 0, 1 << 62],
+            [1, 2, 4, 5],
             true,
-            "true 0:7+0 0:7+0 1:7+0 0:3@0 1:0@4611686018427387914",
+            "true 0:1+0 0:2+0 1:1+0 0:3@0 1:1@30 1:4@15",
+        ),
+        (
+            [2, 1, 9, 0],
+            false,
+            "false 0:1+0 0:2+0 1:2+0 0:3@0 1:2@20 1:9@10",
+        ),
+        (
+            [7, 7, 0, (1 << 62) - 10],
+            true,
+            "true 0:7+0 0:7+0 1:7+0 0:3@0 1:0@4611686018427387904 1:7@9223372036854775808",
+        ),
+        (
+            [7, 7, 0, (1 << 62) - 9],
+            true,
+            "true 0:7+0 0:7+0 1:7+0 a fault: BadDelay",
         ),
         (
             [10, 2, 4, 5],
             true,
-            "true a fault: NotInColour 0:3@0 1:4@15",
+            "true a fault: NotInColour a fault: NotInColour",
         ),
         (
             [1, -1, 4, -5],

@@ -14,3 +14,4 @@ pub mod KeptTerms
 pub mod SumTerms
 pub mod BackwardLists
 pub mod SpareLocals
+pub mod LeafOperands

@@ -4,9 +4,9 @@ use Rattle.std.proofs.lemmas.List.{append-nil, map-append, length-map, take-map}
 use Rattle.std.proofs.Math.Seq.{take-append_seam}
 use Rattle.cpn_definitions.specs.Value.{PlainValue, boolean, applied}
 use Rattle.cpn_definitions.specs.Outcome.{Outcome, gives, faults, no_meaning, ◌>>=◌}
-use Rattle.cpn_definitions.specs.Inscription.{Head, constructing, PlainExpr, PlainExprs, no_exprs, more_exprs, arms_from, apply, conjunction, disjunction, choose, bind, select, accumulate}
+use Rattle.cpn_definitions.specs.Inscription.{Head, constructing, PlainExpr, PlainExprs, PlainArms, no_exprs, more_exprs, arms_from, apply, conjunction, disjunction, choose, bind, select, accumulate}
 use Rattle.cpn_definitions.specs.Operations.{sized, items_in, truth_in}
-use Rattle.cpn_definitions.specs.Meaning.{done_with, constructed, meant_each, meant_among, arm_or, with_first}
+use Rattle.cpn_definitions.specs.Meaning.{Setting, done_with, constructed, meant, meant_each, meant_among, arm_or, with_first}
 use Rattle.cpn_definitions.specs.Matching.{matched}
 use Rattle.cpn_core.specs.declared.values.Value.{Value}
 use Rattle.cpn_core.specs.declared.inscriptions.Expr.{Expr}
@@ -103,6 +103,9 @@ arm_missed (Some ws) found missed h = cc
 -- what comes of it may be said in another way
 pub goes_same : (w : World) (m : Machine) (r : Result Now NoValue) (o p : Outcome State) → o ≡ p → Goes w m r o → Goes w m r p
 goes_same w m r o p e h = let P : Outcome State → Type 0 = λ x. Goes w m r x in subst P e h
+
+pub stops_same : (reason : NoValue) (o p : Outcome State) → o ≡ p → Stops reason o → Stops reason p
+stops_same reason o p h r = let P : Outcome State → Type 0 = λ x. Stops reason x in subst P h r
 
 -- the same at equal places
 pub moved
@@ -240,49 +243,82 @@ enter_goes w m m' k args caller callers body hv hl hf hb hc =
     ∙ ap (after_outcome w m) (sym hc)
 
 -- the arms from an index on
-abbrev pub arms_after : World → Machine → List Arm → ℕ → PlainValue → Outcome PlainValue
-arms_after w m cases i v = meant_among (arms_from (map arm_view (drop i cases))) v (setting_in w m.visible) (locals_of m)
+abbrev pub arms_after : List Arm → ℕ → PlainValue → Setting → List PlainValue → Outcome PlainValue
+arms_after cases i v s ls = meant_among (arms_from (map arm_view (drop i cases))) v s ls
 
-pub arms_split
-    : (w : World) (m : Machine) (cases : List Arm) (i : ℕ) (arm : Arm) (v : PlainValue)
+arms_split
+    : (cases : List Arm) (i : ℕ) (arm : Arm) (v : PlainValue) (s : Setting) (ls : List PlainValue)
     → i < length cases
     → arm ≡ get_or cases i arm
-    → arms_after w m cases i v ≡ arm_or (matched (pattern_view arm.pat) v) (λ vs. meant_at w m.visible (locals_of m ++ vs) (expr_view arm.result)) (arms_after w m cases (i + 1) v)
-arms_split w m cases i arm v hi ha =
+    → arms_after cases i v s ls ≡ arm_or (matched (pattern_view arm.pat) v) (λ vs. meant (expr_view arm.result) s (ls ++ vs)) (arms_after cases (i + 1) v s ls)
+arms_split cases i arm v s ls hi ha =
     let split : drop i cases ≡ arm ∷ drop (i + 1) cases = rw add-one (drop-cons cases i arm hi ∙ ap (λ x. x ∷ drop (suc i) cases) (sym ha)) in
     rw (split, view_arm arm) refl
 
+pub arm_taken
+    : (cases : List Arm) (i : ℕ) (arm : Arm) (v : PlainValue) (found : List Value) (s : Setting) (ls : List PlainValue)
+    → i < length cases
+    → arm ≡ get_or cases i arm
+    → with_front [] (matched (pattern_view arm.pat) v) ≡ Some (map value_view found)
+    → arms_after cases i v s ls ≡ meant (expr_view arm.result) s (ls ++ map value_view found)
+arm_taken cases i arm v found s ls hi ha hb =
+    arms_split cases i arm v s ls hi ha
+    ∙ arm_found (matched (pattern_view arm.pat) v) (map value_view found) (λ vs. meant (expr_view arm.result) s (ls ++ vs)) (arms_after cases (i + 1) v s ls) hb
+
+pub arm_passed
+    : (cases : List Arm) (i : ℕ) (arm : Arm) (v : PlainValue) (s : Setting) (ls : List PlainValue)
+    → i < length cases
+    → arm ≡ get_or cases i arm
+    → with_front [] (matched (pattern_view arm.pat) v) ≡ None
+    → arms_after cases i v s ls ≡ arms_after cases (i + 1) v s ls
+arm_passed cases i arm v s ls hi ha hb =
+    arms_split cases i arm v s ls hi ha
+    ∙ arm_missed (matched (pattern_view arm.pat) v) (λ vs. meant (expr_view arm.result) s (ls ++ vs)) (arms_after cases (i + 1) v s ls) hb
+
 pub arm_goes
-    : (w : World) (m m' : Machine) (cases : List Arm) (i : ℕ) (arm : Arm) (v : PlainValue) (found : List Value) (count : ℕ)
+    : (w : World) (m m' : Machine) (body : PlainExpr) (found : List Value) (count : ℕ)
     → m'.visible ≡ m.visible
     → locals_of m' ≡ locals_of m ++ map value_view found
     → m'.frames.items ≡ m.frames.items ++ frames.Forget count ∷ []
     → count ≡ length m.locals.items
-    → i < length cases
-    → arm ≡ get_or cases i arm
-    → with_front [] (matched (pattern_view arm.pat) v) ≡ Some (map value_view found)
-    → after_outcome w m' (meant_at w m'.visible (locals_of m') (expr_view arm.result)) ≡ after_outcome w m (arms_after w m cases i v)
-arm_goes w m m' cases i arm v found count hv hl hf hc hi ha hb =
-    let here : arms_after w m cases i v ≡ meant_at w m.visible (locals_of m ++ map value_view found) (expr_view arm.result) =
-    arms_split w m cases i arm v hi ha ∙ arm_found (matched (pattern_view arm.pat) v) (map value_view found) (λ vs. meant_at w m.visible (locals_of m ++ vs) (expr_view arm.result)) (arms_after w m cases (i + 1) v) hb in
-    moved w (λ n ls. meant_at w n ls (expr_view arm.result)) m.visible m'.visible (locals_of m ++ map value_view found) (locals_of m') (frames_of m ++ forget (length (locals_of m)) ∷ []) (frames_of m') hv hl (forget_last m m' count hf hc)
-    ∙ forgets w (frames_of m) m.visible (locals_of m) (map value_view found) (meant_at w m.visible (locals_of m ++ map value_view found) (expr_view arm.result))
-    ∙ ap (after_outcome w m) (sym here)
-
-pub arms_next
-    : (w : World) (m : Machine) (cases : List Arm) (i : ℕ) (arm : Arm) (v : PlainValue)
-    → i < length cases
-    → arm ≡ get_or cases i arm
-    → with_front [] (matched (pattern_view arm.pat) v) ≡ None
-    → arms_after w m cases i v ≡ arms_after w m cases (i + 1) v
-arms_next w m cases i arm v hi ha hb =
-    arms_split w m cases i arm v hi ha ∙ arm_missed (matched (pattern_view arm.pat) v) (λ vs. meant_at w m.visible (locals_of m ++ vs) (expr_view arm.result)) (arms_after w m cases (i + 1) v) hb
+    → after_outcome w m' (meant_at w m'.visible (locals_of m') body) ≡ after_outcome w m (meant_at w m.visible (locals_of m ++ map value_view found) body)
+arm_goes w m m' body found count hv hl hf hc =
+    moved w (λ n ls. meant_at w n ls body) m.visible m'.visible (locals_of m ++ map value_view found) (locals_of m') (frames_of m ++ forget (length (locals_of m)) ∷ []) (frames_of m') hv hl (forget_last m m' count hf hc)
+    ∙ forgets w (frames_of m) m.visible (locals_of m) (map value_view found) (meant_at w m.visible (locals_of m ++ map value_view found) body)
 
 pub match_found : (before : List Value) (b : Bool) (o : Option (List PlainValue)) (after : List PlainValue) → before ≡ [] → b ≡ true → with_front (map value_view before) o ≡ (if b then Some after else None) → with_front [] o ≡ Some after
 match_found before b o after hb ht h = rw (hb, ht) at h
 
 pub match_missed : (before : List Value) (b : Bool) (o : Option (List PlainValue)) (after : List PlainValue) → before ≡ [] → b ≡ false → with_front (map value_view before) o ≡ (if b then Some after else None) → with_front [] o ≡ None
 match_missed before b o after hb hf h = rw (hb, hf) at h
+
+-- a subject that stands somewhere
+selected
+    : (w : World) (m : Machine) (subject : PlainExpr) (cases : PlainArms) (v : PlainValue)
+    → meant_at w m.visible (locals_of m) subject ≡ gives v
+    → after_outcome w m (meant_among cases v (setting_in w m.visible) (locals_of m)) ≡ after_waiting w m (arms cases) (meant_at w m.visible (locals_of m) subject)
+selected w m subject cases v h =
+    back_goes w m (arms cases) v (meant_among cases v (setting_in w m.visible) (locals_of m)) refl ∙ ap (after_waiting w m (arms cases)) (sym h)
+
+pub selected_goes
+    : (w : World) (m : Machine) (subject body : PlainExpr) (cases : PlainArms) (v : PlainValue) (found : List PlainValue)
+    → meant_at w m.visible (locals_of m) subject ≡ gives v
+    → meant_among cases v (setting_in w m.visible) (locals_of m) ≡ meant_at w m.visible (locals_of m ++ found) body
+    → after_outcome w m (meant_at w m.visible (locals_of m ++ found) body) ≡ after_waiting w m (arms cases) (meant_at w m.visible (locals_of m) subject)
+selected_goes w m subject body cases v found h chosen = ap (after_outcome w m) (sym chosen) ∙ selected w m subject cases v h
+
+pub stops_then : {A B : Type 0} (reason : NoValue) (o : Outcome A) (f : A → Outcome B) → Stops reason o → Stops reason (o >>= f)
+stops_then reasons.Memory o f h = tt
+stops_then reasons.Untyped o f h = rw h refl
+stops_then (reasons.Fault g) o f h = rw h refl
+
+pub selected_stops
+    : (w : World) (m : Machine) (subject : PlainExpr) (cases : PlainArms) (v : PlainValue) (reason : NoValue)
+    → meant_at w m.visible (locals_of m) subject ≡ gives v
+    → Stops reason (meant_among cases v (setting_in w m.visible) (locals_of m))
+    → Stops reason (after_waiting w m (arms cases) (meant_at w m.visible (locals_of m) subject))
+selected_stops w m subject cases v reason h stopped =
+    stops_same reason _ _ (selected w m subject cases v h) (stops_then reason (meant_among cases v (setting_in w m.visible) (locals_of m)) (after_value w m) stopped)
 
 -- ---- expressions that are begun
 
@@ -412,6 +448,3 @@ stopped_before reasons.Untyped n ls no_meaning p h r = refl
 stopped_before (reasons.Fault g) n ls (gives v) p h r = let no : faults (fault_view g) ≡ gives (at n ls v) = sym r ∙ h in cc
 stopped_before (reasons.Fault g) n ls (faults f) p h r = let same : faults f ≡ faults (fault_view g) = sym h ∙ r in cc
 stopped_before (reasons.Fault g) n ls no_meaning p h r = let no : faults (fault_view g) ≡ no_meaning = sym r ∙ h in cc
-
-pub stops_same : (reason : NoValue) (o p : Outcome State) → o ≡ p → Stops reason o → Stops reason p
-stops_same reason o p h r = let P : Outcome State → Type 0 = λ x. Stops reason x in subst P h r

@@ -28,6 +28,12 @@ abbrev pub Tells : {X A : Type 0} → (X → A) → Result X NoValue → Outcome
 Tells view (Ok x) outcome = outcome ≡ gives (view x)
 Tells view (Err reason) outcome = Stops reason outcome
 
+-- the same of a value that may be left to be found in another way
+abbrev pub MayTell : {X A : Type 0} → (X → A) → Result (Option X) NoValue → Outcome A → Type 0
+MayTell view (Ok None) outcome = Unit {0}
+MayTell view (Ok (Some x)) outcome = outcome ≡ gives (view x)
+MayTell view (Err reason) outcome = Stops reason outcome
+
 -- a list, if it is given, behind what came before it
 abbrev pub with_front : {A : Type 0} → List A → Option (List A) → Option (List A)
 with_front front rest = option_map (λ xs. front ++ xs) rest

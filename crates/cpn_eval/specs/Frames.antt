@@ -2,7 +2,7 @@
 use Rattle.std.specs.Prelude.{ℕ, ◌≡◌, true, false, cond, List, [], ◌∷◌, ◌++◌, map, take, Result, Ok, Err}
 use Rattle.cpn_definitions.specs.Value.{PlainValue, boolean, applied}
 use Rattle.cpn_definitions.specs.Outcome.{Outcome, gives, ◌>>=◌}
-use Rattle.cpn_definitions.specs.Inscription.{Head, operation, tupling, listing, calling, PlainExpr, PlainExprs, PlainArms, arms_from}
+use Rattle.cpn_definitions.specs.Inscription.{Head, operation, tupling, listing, calling, PlainExpr, PlainExprs, no_exprs, PlainArms, arms_from}
 use Rattle.cpn_definitions.specs.Operations.{sized, truth_in, items_in}
 use Rattle.cpn_definitions.specs.Meaning.{Setting, Calls, calls_below, setting_below, meant, meant_each, meant_among, done_with, accumulated}
 use Rattle.cpn_core.specs.Views.{value_view}
@@ -104,6 +104,7 @@ head_view (heads.Call k) = calling k
 
 abbrev pub frame_view : Frame → PlainFrame
 frame_view (frames.Parts head done rest) = parts (head_view head) (all_held done) (exprs_view rest.now)
+frame_view (frames.Beside o v) = parts (operation (op_view o)) (value_view v.now ∷ []) no_exprs
 frame_view (frames.Argument k) = argument k
 frame_view (frames.Also f) = also (expr_view f.now)
 frame_view (frames.Otherwise f) = otherwise (expr_view f.now)

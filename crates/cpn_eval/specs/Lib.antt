@@ -5,3 +5,5 @@ pub mod Terms
 pub mod Arms
 pub mod Held
 pub mod Spare
+pub mod Leaves
+pub mod Choices

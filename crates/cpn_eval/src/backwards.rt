@@ -1,15 +1,18 @@
 //! Lists that are kept backwards.
 
-ghost use Rattle.std.specs.Prelude.{◌≡◌, ◌++◌, map, IfOk};
-ghost use Rattle.cpn_definitions.specs.Operations.{consed};
+ghost use Rattle.std.specs.Prelude.{◌≡◌, ◌∷◌, [], ◌++◌, map, IfOk};
+ghost use Rattle.cpn_definitions.specs.Operations.{consed, operated};
+ghost use Rattle.cpn_definitions.specs.Outcome.{gives};
 ghost use Rattle.cpn_core.specs.Views.{value_view};
-ghost use Rattle.cpn_eval.specs.Answers.{Tells};
+ghost use Rattle.cpn_core.specs.Inscriptions.{op_view};
+ghost use Rattle.cpn_eval.specs.Answers.{MayTell, Tells};
+ghost use Rattle.cpn_eval.specs.Operands.{head_of, length_of};
 ghost use Rattle.cpn_eval.specs.Held.{backwards_view, held_view, all_held};
 
 use crate::held::{Backwards, Held};
 use crate::kinds::{MOST_NODES, items_in};
 use crate::refusals::NoValue;
-use cpn_core::{EvalFault, Memory, Value, Values, copy_values};
+use cpn_core::{EvalFault, Memory, Op, Value, Values, copy_values};
 
 impl Backwards {
     /// The list as a value.
@@ -31,6 +34,35 @@ impl Backwards {
             nodes: self.nodes,
             items,
         })
+    }
+
+    /// What an operation gives for the list, if it only looks at the first item or counts them.
+    pub fn read(&self, op: Op) -> Result<Option<Value>, NoValue>
+        ensures value { MayTell value_view result (operated (op_view op) (backwards_view self.now ∷ [])) }
+    {
+        match op {
+            Op::Head => Ok(Some(self.first()?)),
+            Op::Length => Ok(Some(self.length())),
+            _ => Ok(None),
+        }
+    }
+
+    /// A copy of the first item.
+    #[tactic(auto, using(crate::proofs::BackwardLists::no_first, crate::proofs::BackwardLists::first_there))]
+    fn first(&self) -> Result<Value, NoValue>
+        ensures item { Tells value_view result (head_of (backwards_view self.now)) }
+    {
+        match self.items.last() {
+            None => Err(NoValue::Fault(EvalFault::EmptyList)),
+            Some(item) => Ok(item.copy()?),
+        }
+    }
+
+    /// How many items there are.
+    fn length(&self) -> Value
+        ensures number { length_of (backwards_view self.now) ≡ gives (value_view result) }
+    {
+        Value::Int(self.items.len() as i64)
     }
 
     /// The list with an item before it, where it is not too large then.

@@ -34,6 +34,8 @@ pub enum Head {
 pub enum Frame<'w> {
     /// The parts before the value, and those behind it.
     Parts(Head, Vec<Held>, &'w [Expr]),
+    /// An operation, and the value of its first operand, which stands somewhere.
+    Beside(Op, &'w Value),
     /// The constructor of a position, to be applied to the value.
     Argument(u32),
     /// What is evaluated where the value is true.

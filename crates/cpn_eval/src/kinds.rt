@@ -108,6 +108,65 @@ pub fn components_in(value: Value) -> Result<Values, NoValue>
     }
 }
 
+/// The string that the value is, where it stands.
+pub fn string_of(value: &Value) -> Result<&Text, NoValue>
+    ensures string { Tells (λ bytes. bytes.now) result (string_in (value_view value.now)) }
+{
+    match value {
+        Value::Unit => Err(NoValue::Untyped),
+        Value::Bool(_) => Err(NoValue::Untyped),
+        Value::Int(_) => Err(NoValue::Untyped),
+        Value::Enum(_) => Err(NoValue::Untyped),
+        Value::Text(found) => Ok(found),
+        Value::Tuple(_) => Err(NoValue::Untyped),
+        Value::Con(_, argument) => match argument {
+            None => Err(NoValue::Untyped),
+            Some(_) => Err(NoValue::Untyped),
+        },
+        Value::List(_) => Err(NoValue::Untyped),
+    }
+}
+
+/// The items of the list that the value is, where they stand.
+#[tactic(auto, using(crate::proofs::ValueLists::items_in_list))]
+pub fn items_of(value: &Value) -> Result<&[Value], NoValue>
+    ensures items { Tells (λ vs. map value_view vs.now) result (items_in (value_view value.now)) }
+{
+    match value {
+        Value::Unit => Err(NoValue::Untyped),
+        Value::Bool(_) => Err(NoValue::Untyped),
+        Value::Int(_) => Err(NoValue::Untyped),
+        Value::Enum(_) => Err(NoValue::Untyped),
+        Value::Text(_) => Err(NoValue::Untyped),
+        Value::Tuple(_) => Err(NoValue::Untyped),
+        Value::Con(_, argument) => match argument {
+            None => Err(NoValue::Untyped),
+            Some(_) => Err(NoValue::Untyped),
+        },
+        Value::List(found) => Ok(found),
+    }
+}
+
+/// The components of the tuple that the value is, where they stand.
+#[tactic(auto, using(crate::proofs::ValueLists::components_in_tuple))]
+pub fn components_of(value: &Value) -> Result<&[Value], NoValue>
+    ensures components { Tells (λ vs. map value_view vs.now) result (components_in (value_view value.now)) }
+{
+    match value {
+        Value::Unit => Err(NoValue::Untyped),
+        Value::Bool(_) => Err(NoValue::Untyped),
+        Value::Int(_) => Err(NoValue::Untyped),
+        Value::Enum(_) => Err(NoValue::Untyped),
+        Value::Text(_) => Err(NoValue::Untyped),
+        Value::Tuple(found) => Ok(found),
+        Value::Con(_, argument) => match argument {
+            None => Err(NoValue::Untyped),
+            Some(_) => Err(NoValue::Untyped),
+        },
+        Value::List(_) => Err(NoValue::Untyped),
+    }
+}
+
 /// The value, if it is not too large.
 pub fn sized(value: Value) -> Result<Value, NoValue>
     ensures sized { Tells value_view result (sized (value_view value)) }

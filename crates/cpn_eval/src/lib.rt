@@ -7,10 +7,12 @@ mod amounts;
 mod arithmetic;
 mod arms;
 mod backwards;
+mod choices;
 mod comparisons;
 mod frames;
 mod held;
 mod kinds;
+mod leaves;
 mod lists;
 mod locals;
 mod lone_terms;
@@ -19,12 +21,11 @@ mod matching;
 mod multisets;
 mod operations;
 mod reach;
+mod reading;
 mod refusals;
 mod running;
 mod spare;
 mod term;
-#[cfg(test)]
-mod tests;
 
 pub use multisets::eval_mset;
 pub use refusals::Refused;

@@ -9,7 +9,7 @@ ghost use Rattle.cpn_core.specs.Views.{value_view};
 ghost use Rattle.cpn_eval.specs.Answers.{Tells};
 ghost use Rattle.cpn_eval.specs.Operands.{head_of, tail_of, length_of, reversed, component_of, size_of};
 
-use crate::kinds::{components_in, items_in, sized, string_in};
+use crate::kinds::{components_in, components_of, items_in, items_of, sized, string_in, string_of};
 use crate::refusals::NoValue;
 use cpn_core::{EvalFault, Value};
 
@@ -58,11 +58,21 @@ pub fn tail_of(list: Value) -> Result<Value, NoValue>
     Ok(Value::List(items))
 }
 
-/// How many items the list has.
-pub fn length_of(list: Value) -> Result<Value, NoValue>
-    ensures number { Tells value_view result (length_of (value_view list)) }
+/// A copy of the first item of the list.
+pub fn first_of(list: &Value) -> Result<Value, NoValue>
+    ensures item { Tells value_view result (head_of (value_view list.now)) }
 {
-    let items = items_in(list)?;
+    match items_of(list)? {
+        [] => Err(NoValue::Fault(EvalFault::EmptyList)),
+        [item, ..] => Ok(item.copy()?),
+    }
+}
+
+/// How many items the list has.
+pub fn length_of(list: &Value) -> Result<Value, NoValue>
+    ensures number { Tells value_view result (length_of (value_view list.now)) }
+{
+    let items = items_of(list)?;
     Ok(Value::Int(items.len() as i64))
 }
 
@@ -89,19 +99,31 @@ fn has(items: &[Value], wanted: &Value) -> bool
 }
 
 /// Whether the list has the item.
-pub fn member_of(list: Value, item: &Value) -> Result<Value, NoValue>
-    ensures truth { Tells value_view result (member_of (value_view list) (value_view item.now)) }
+pub fn member_of(list: &Value, item: &Value) -> Result<Value, NoValue>
+    ensures truth { Tells value_view result (member_of (value_view list.now) (value_view item.now)) }
 {
-    let items = items_in(list)?;
-    Ok(Value::Bool(has(&items, item)))
+    let items = items_of(list)?;
+    Ok(Value::Bool(has(items, item)))
 }
 
 /// How many bytes the string has.
-pub fn size_of(string: Value) -> Result<Value, NoValue>
-    ensures number { Tells value_view result (size_of (value_view string)) }
+pub fn size_of(string: &Value) -> Result<Value, NoValue>
+    ensures number { Tells value_view result (size_of (value_view string.now)) }
 {
-    let bytes = string_in(string)?;
-    Ok(Value::Int(bytes.len() as i64))
+    let text = string_of(string)?;
+    Ok(Value::Int(text.bytes().len() as i64))
+}
+
+/// A copy of the component of the tuple at the position, from 1.
+#[tactic(auto, using(crate::proofs::ValueLists::no_component))]
+pub fn part_of(position: u32, tuple: &Value) -> Result<Value, NoValue>
+    ensures component { Tells value_view result (component_of position (value_view tuple.now)) }
+{
+    let components = components_of(tuple)?;
+    if position == 0 || components.len() < position as usize {
+        return Err(NoValue::Untyped);
+    }
+    Ok(components[position as usize - 1].copy()?)
 }
 
 /// The component of the tuple at the position, from 1.

@@ -1,25 +1,27 @@
 //! The turns of an evaluation.
 
 ghost use Rattle.std.specs.Prelude.{slice_get, ◌≡◌, ◌≤◌, ◌<◌, ◌^◌, ℕ, List, [], ◌∷◌, ◌++◌, map, length};
-ghost use Rattle.cpn_definitions.specs.Inscription.{arms_from};
+ghost use Rattle.cpn_definitions.specs.Inscription.{arms_from, operation, apply};
 ghost use Rattle.cpn_definitions.specs.Outcome.{given};
 ghost use Rattle.cpn_definitions.specs.Meaning.{meant_among, done_with};
 ghost use Rattle.cpn_definitions.specs.Times.{last_time};
 ghost use Rattle.cpn_core.specs.Views.{value_view};
 ghost use Rattle.cpn_eval.specs.Held.{held_view, all_held};
 ghost use Rattle.cpn_core.specs.Inscriptions.{op_view, expr_view, exprs_view, arm_view};
-ghost use Rattle.cpn_eval.specs.Frames.{rest_of, folded, one, through, at, after_outcome, after_value, after_frame, after_waiting, locals_of, calls_in, setting_in, meant_at, chosen_by, ahead, Goes, Turned, head_view, frame_view};
+ghost use Rattle.cpn_eval.specs.Frames.{arms, rest_of, folded, one, through, at, after_outcome, after_value, after_frame, after_waiting, locals_of, calls_in, setting_in, meant_at, chosen_by, ahead, Goes, Turned, head_view, frame_view};
 
 use crate::backwards::{hold_all, values_of};
+use crate::choices::{Choice, choice_of};
 use crate::frames::{Frame, Head, Machine, Now, Turn, World};
 use crate::held::Held;
 use crate::kinds::{items_in, sized, truth_in};
+use crate::leaves::beside;
 use crate::locals::{copied, variable};
-use crate::matching::matches;
 use crate::operations::operate;
+use crate::reading::read_two;
 use crate::refusals::NoValue;
 use crate::spare::{is_spare, taken};
-use cpn_core::{Arm, EvalFault, Expr, Value};
+use cpn_core::{Arm, Expr, Op, Value};
 use std::collections::VecDeque;
 use std::mem;
 
@@ -51,7 +53,7 @@ impl<'w> Machine<'w> {
             Expr::Var(number) => Ok(Now::Given(Held::Plain(variable(world.binding, *number)?))),
             Expr::Local(number) => self.local(world, *number),
             Expr::Time => Ok(Now::Given(Held::Plain(Value::Int(world.time as i64)))),
-            Expr::Op(op, parts) => self.parts(world, Head::Op(*op), Vec::new(self.alloc), parts),
+            Expr::Op(op, parts) => self.operation(world, *op, parts),
             Expr::Tuple(parts) => self.parts(world, Head::Tuple, Vec::new(self.alloc), parts),
             Expr::List(parts) => self.parts(world, Head::List, Vec::new(self.alloc), parts),
             Expr::Call(function, parts) => {
@@ -61,12 +63,70 @@ impl<'w> Machine<'w> {
                 None => Ok(Now::Given(Held::Plain(Value::Con(*position, None)))),
                 Some(inner) => self.wait(world, Frame::Argument(*position), inner),
             },
-            Expr::And(first, second) => self.wait(world, Frame::Also(second), first),
-            Expr::Or(first, second) => self.wait(world, Frame::Otherwise(second), first),
-            Expr::If(condition, yes, no) => self.wait(world, Frame::Branches(yes, no), condition),
-            Expr::Case(subject, arms) => self.wait(world, Frame::Arms(arms), subject),
+            Expr::And(first, second) => self.test(world, Frame::Also(second), first),
+            Expr::Or(first, second) => self.test(world, Frame::Otherwise(second), first),
+            Expr::If(condition, yes, no) => self.test(world, Frame::Branches(yes, no), condition),
+            Expr::Case(subject, arms) => self.select(world, subject, arms),
             Expr::Let(bound, body) => self.wait(world, Frame::Body(body), bound),
             Expr::Fold { list, start, body } => self.wait(world, Frame::Start(start, body), list),
+        }
+    }
+
+    /// Begins an operation. One whose operands are read where they stand is done with it.
+    fn operation(
+        &mut self,
+        world: &World<'w>,
+        op: Op,
+        parts: &'w [Expr],
+    ) -> Result<Now<'w>, NoValue>
+        ensures { Goes world.now self.new result (after_outcome world.now self.old (meant_at world.now self.old.visible (locals_of self.old) (apply (operation (op_view op)) (exprs_view parts.now)))) }
+    {
+        match self.read(world, op, parts)? {
+            Some(value) => Ok(Now::Given(Held::Plain(value))),
+            None => self.operands(world, op, parts),
+        }
+    }
+
+    /// Begins the operands of an operation. A first one that stands somewhere is left there.
+    fn operands(&mut self, world: &World<'w>, op: Op, parts: &'w [Expr]) -> Result<Now<'w>, NoValue>
+        ensures { Goes world.now self.new result (after_outcome world.now self.old (meant_at world.now self.old.visible (locals_of self.old) (apply (operation (op_view op)) (exprs_view parts.now)))) }
+    {
+        match beside(world, op, parts) {
+            Some(both) => self.wait(world, Frame::Beside(op, both.left), both.right),
+            None => self.parts(world, Head::Op(op), Vec::new(self.alloc), parts),
+        }
+    }
+
+    /// Begins a condition that a frame tests. One that stands somewhere is tested there.
+    fn test(
+        &mut self,
+        world: &World<'w>,
+        frame: Frame<'w>,
+        condition: &'w Expr,
+    ) -> Result<Now<'w>, NoValue>
+        ensures { Goes world.now self.new result (after_waiting world.now self.old (frame_view frame.entry) (meant_at world.now self.old.visible (locals_of self.old) (expr_view condition.now))) }
+    {
+        match self.truth(world, condition) {
+            None => self.wait(world, frame, condition),
+            Some(truth) => self.go_on(world, frame, Held::Plain(Value::Bool(truth))),
+        }
+    }
+
+    /// Begins a `case`. A subject that stands somewhere is matched there.
+    fn select(
+        &mut self,
+        world: &World<'w>,
+        subject: &'w Expr,
+        cases: &'w [Arm],
+    ) -> Result<Now<'w>, NoValue>
+        ensures { Goes world.now self.new result (after_waiting world.now self.old (arms (arms_from (map arm_view cases.now))) (meant_at world.now self.old.visible (locals_of self.old) (expr_view subject.now))) }
+    {
+        match self.leaf(world, subject) {
+            None => self.wait(world, Frame::Arms(cases), subject),
+            Some(value) => {
+                let choice = choice_of(self.alloc, cases, value)?;
+                self.take(world, choice)
+            }
         }
     }
 
@@ -165,6 +225,10 @@ impl<'w> Machine<'w> {
                 done.push(value)?;
                 self.parts(world, head, done, rest)
             }
+            Frame::Beside(op, left) => {
+                let right = value.into_value();
+                Ok(Now::Given(Held::Plain(read_two(op, left, &right)?)))
+            }
             Frame::Argument(position) => {
                 let argument = Box::new(self.alloc, value.into_value())?;
                 Ok(Now::Given(Held::Plain(sized(Value::Con(position, Some(argument)))?)))
@@ -233,15 +297,17 @@ impl<'w> Machine<'w> {
     ) -> Result<Now<'w>, NoValue>
         ensures { Goes world.now self.new result (after_outcome world.now self.old (meant_among (arms_from (map arm_view arms.now)) (value_view value.now) (setting_in world.now self.old.visible) (locals_of self.old))) }
     {
-        for arm in arms {
-            let mut bound = Vec::new(self.alloc);
-            if matches(&arm.pat, value, &mut bound)? {
-                self.frames.push(Frame::Forget(self.locals.len()))?;
-                hold_all(&mut self.locals, bound)?;
-                return Ok(Now::Open(&arm.result));
-            }
-        }
-        Err(NoValue::Fault(EvalFault::NoCase))
+        let choice = choice_of(self.alloc, arms, value)?;
+        self.take(world, choice)
+    }
+
+    /// Begins an arm that has what its pattern binds as its next locals.
+    fn take(&mut self, world: &World<'w>, choice: Choice<'w>) -> Result<Now<'w>, NoValue>
+        ensures { Goes world.now self.new result (after_outcome world.now self.old (meant_at world.now self.old.visible (locals_of self.old ++ map value_view choice.entry.bound.items) (expr_view choice.entry.body.now))) }
+    {
+        self.frames.push(Frame::Forget(self.locals.len()))?;
+        hold_all(&mut self.locals, choice.bound)?;
+        Ok(Now::Open(choice.body))
     }
 
     /// Begins the body of a fold for the next item, or ends the fold.

@@ -7,14 +7,10 @@ ghost use Rattle.cpn_core.specs.Inscriptions.{op_view};
 ghost use Rattle.cpn_eval.specs.Answers.{Tells};
 ghost use Rattle.cpn_eval.specs.Held.{held_view, all_held};
 
-use crate::arithmetic::{difference, negation, product, quotient, remainder, sum};
 use crate::backwards::consed;
-use crate::comparisons::order_of;
 use crate::held::Held;
-use crate::kinds::{integer_in, truth_in};
-use crate::lists::{
-    appended, component_of, concatenated, head_of, length_of, member_of, reversed, size_of, tail_of,
-};
+use crate::lists::{appended, component_of, concatenated, head_of, reversed, tail_of};
+use crate::reading::{read_one, read_two};
 use crate::refusals::NoValue;
 use cpn_core::{Op, Value};
 
@@ -46,35 +42,11 @@ fn on_one(op: Op, operand: Value) -> Result<Value, NoValue>
     ensures value { Tells value_view result (operated (op_view op) (value_view operand ∷ [])) }
 {
     match op {
-        Op::Neg => {
-            let number = integer_in(&operand)?;
-            negation(number)
-        }
-        Op::Not => {
-            let truth = truth_in(&operand)?;
-            Ok(Value::Bool(!truth))
-        }
         Op::Head => head_of(operand),
         Op::Tail => tail_of(operand),
-        Op::Length => length_of(operand),
         Op::Rev => reversed(operand),
-        Op::Size => size_of(operand),
         Op::Nth(position) => component_of(position, operand),
-        Op::Add => Err(NoValue::Untyped),
-        Op::Sub => Err(NoValue::Untyped),
-        Op::Mul => Err(NoValue::Untyped),
-        Op::Div => Err(NoValue::Untyped),
-        Op::Mod => Err(NoValue::Untyped),
-        Op::Cat => Err(NoValue::Untyped),
-        Op::Eq => Err(NoValue::Untyped),
-        Op::Ne => Err(NoValue::Untyped),
-        Op::Lt => Err(NoValue::Untyped),
-        Op::Le => Err(NoValue::Untyped),
-        Op::Gt => Err(NoValue::Untyped),
-        Op::Ge => Err(NoValue::Untyped),
-        Op::Cons => Err(NoValue::Untyped),
-        Op::Append => Err(NoValue::Untyped),
-        Op::Mem => Err(NoValue::Untyped),
+        _ => read_one(op, &operand),
     }
 }
 
@@ -93,31 +65,8 @@ fn on_two(op: Op, left: Value, right: Value) -> Result<Value, NoValue>
     ensures value { Tells value_view result (operated (op_view op) (value_view left ∷ value_view right ∷ [])) }
 {
     match op {
-        Op::Add => sum(integer_in(&left)?, integer_in(&right)?),
-        Op::Sub => difference(integer_in(&left)?, integer_in(&right)?),
-        Op::Mul => product(integer_in(&left)?, integer_in(&right)?),
-        Op::Div => quotient(integer_in(&left)?, integer_in(&right)?),
-        Op::Mod => remainder(integer_in(&left)?, integer_in(&right)?),
-        Op::Eq => Ok(Value::Bool(left == right)),
-        Op::Ne => Ok(Value::Bool(left != right)),
-        Op::Lt => Ok(Value::Bool(order_of(&left, &right)?.is_lt())),
-        Op::Le => Ok(Value::Bool(order_of(&left, &right)?.is_le())),
-        Op::Gt => Ok(Value::Bool(order_of(&left, &right)?.is_gt())),
-        Op::Ge => Ok(Value::Bool(order_of(&left, &right)?.is_ge())),
         Op::Cat => concatenated(left, right),
-        Op::Cons => {
-            let list = consed(left, Held::Plain(right))?;
-            Ok(list.into_value())
-        }
         Op::Append => appended(left, right),
-        Op::Mem => member_of(left, &right),
-        Op::Neg => Err(NoValue::Untyped),
-        Op::Not => Err(NoValue::Untyped),
-        Op::Head => Err(NoValue::Untyped),
-        Op::Tail => Err(NoValue::Untyped),
-        Op::Length => Err(NoValue::Untyped),
-        Op::Rev => Err(NoValue::Untyped),
-        Op::Size => Err(NoValue::Untyped),
-        Op::Nth(_) => Err(NoValue::Untyped),
+        _ => read_two(op, &left, &right),
     }
 }

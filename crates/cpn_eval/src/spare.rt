@@ -27,6 +27,7 @@ fn reach(frame: &Frame<'_>, number: usize) -> Reach
                 Reach::Reads
             }
         }
+        Frame::Beside(_, _) => Reach::Passes,
         Frame::Argument(_) => Reach::Passes,
         Frame::Forget(count) => {
             if *count <= number {

@@ -6,9 +6,10 @@ use Rattle.cpn_definitions.specs.Operations.{items_in}
 use Rattle.cpn_eval.specs.Held.{held_view}
 use Rattle.cpn_definitions.specs.Inscription.{arms_from}
 use Rattle.cpn_definitions.specs.Meaning.{meant_among}
-use Rattle.cpn_core.specs.Inscriptions.{expr_view, exprs_view, arm_view}
+use Rattle.cpn_core.specs.Inscriptions.{op_view, expr_view, exprs_view, arm_view}
 use Rattle.cpn_eval.specs.Frames.{after_outcome, body_of, arms, steps, folded, meant_at, setting_in, head_view, locals_of}
 use Rattle.cpn_eval.proofs.Turns.{goes_same, part_goes, back_goes, forget_goes, start_goes}
+use Rattle.cpn_eval.proofs.LeafOperands.{beside_given}
 use Rattle.cpn_eval.proofs.frames.Machine.go_on.Goals as goal
 
 pub returns-in_ok-push-in-Parts : goal.returns-in_ok-push-in-Parts
@@ -37,3 +38,7 @@ returns-in_ok-items_in-in-Start c =
 pub returns-in-Items : goal.returns-in-Items
 returns-in-Items c =
     rw c.in-Items.is (goes_same c.args.world.now c.step.new.self c.step.result _ _ (back_goes c.args.world.now c.args.self.now (steps (map value_view c.in-Items.items.items) (expr_view c.in-Items.body.now)) (held_view c.args.value) (folded c.args.world.now c.args.self.now.visible (locals_of c.args.self.now) (expr_view c.in-Items.body.now) (map value_view c.in-Items.items.items) (held_view c.args.value)) refl) c.step.ensures)
+
+pub returns-in_ok-read_two-in-Beside : goal.returns-in_ok-read_two-in-Beside
+returns-in_ok-read_two-in-Beside c =
+    rw c.in-Beside.is (beside_given c.args.world.now c.args.self.now (op_view c.in-Beside.op) (value_view c.in-Beside.left.now) (value_view c.into_value-right.result) (held_view c.args.value) (value_view c.in_ok-read_two-in-Beside.field-0) c.into_value-right.ensures.same c.in_ok-read_two-in-Beside.ensures.value)
