@@ -2,4 +2,3 @@ pub mod SoonestTimes
 pub mod ReadyEntries
 pub mod PlayedRounds
 pub mod EndedRuns
-pub mod WorkedNet

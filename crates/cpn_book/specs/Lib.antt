@@ -2,4 +2,3 @@ pub mod Progress
 pub mod Playable
 pub mod Books
 pub mod Shown
-pub mod Worked

@@ -9,7 +9,5 @@ mod draws;
 mod outlooks;
 mod rounds;
 mod run_progress;
-#[cfg(test)]
-mod tests;
 
 pub use books::Book;

@@ -1,3 +1,2 @@
 pub mod GatheredTerms
 pub mod ItemsLeft
-pub mod WorkedMeanings

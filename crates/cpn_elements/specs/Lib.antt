@@ -3,4 +3,3 @@ pub mod Summed
 pub mod Needs
 pub mod Outputs
 pub mod Delays
-pub mod Worked

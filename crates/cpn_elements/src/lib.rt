@@ -8,8 +8,6 @@ mod guards;
 mod needs;
 mod outputs;
 mod places;
-#[cfg(test)]
-mod tests;
 
 pub use guards::guard_holds;
 pub use needs::needs_of;

@@ -13,8 +13,8 @@ use Rattle.cpn_eval.specs.declared.frames.World.{World}
 use Rattle.cpn_eval.specs.declared.frames.Machine.{Machine}
 use Rattle.cpn_eval.specs.declared.refusals.NoValue.{NoValue}
 use Rattle.cpn_eval.specs.Answers.{MayTell}
-use Rattle.cpn_eval.specs.Frames.{parts, meant_at, locals_of, setting_in, after_value, after_outcome, after_frame, after_waiting}
-use Rattle.cpn_eval.specs.Leaves.{one_given, two_given, second_given}
+use Rattle.cpn_eval.specs.Frames.{parts, beside, local_beside, meant_at, locals_of, setting_in, after_value, after_outcome, after_frame, after_waiting}
+use Rattle.cpn_eval.specs.Leaves.{one_given, two_given, second_given, local_given}
 use Rattle.cpn_eval.proofs.Binds.{bind_assoc, bind_ext}
 use Rattle.cpn_eval.proofs.Turns.{waiting_goes, back_goes}
 
@@ -92,3 +92,10 @@ pub beside_given
     → after_value w m r ≡ after_frame w m (parts (operation o) (v ∷ []) no_exprs) y
 beside_given w m o v x y r same h =
     ap (after_outcome w m) (sym h ∙ ap (λ z. operated o (v ∷ z ∷ [])) same) ∙ back_goes w m (parts (operation o) (v ∷ []) no_exprs) y (operated o (v ∷ y ∷ [])) refl
+
+-- the second operand beside a local
+pub local_goes
+    : (w : World) (m : Machine) (o : Operation) (p : Outcome PlainValue) (k : ℕ) (e : PlainExpr)
+    → p ≡ local_given w m o k e
+    → after_waiting w m (beside o k) (meant_at w m.visible (locals_of m) e) ≡ after_outcome w m p
+local_goes w m o p k e h = waiting_goes w m (beside o k) (meant_at w m.visible (locals_of m) e) p (local_beside o k (locals_of m)) (λ x. refl) h

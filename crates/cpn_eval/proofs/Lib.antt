@@ -4,10 +4,9 @@ pub mod ValueLists
 pub mod Operands
 pub mod Binds
 pub mod Calling
-pub mod Levels
+pub mod FirstParts
 pub mod Turns
 pub mod TermAmounts
-pub mod TokenLevels
 pub mod TokenTerms
 pub mod TokenArms
 pub mod KeptTerms

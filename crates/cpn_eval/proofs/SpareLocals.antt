@@ -1,16 +1,16 @@
 -- Frames that evaluate nothing more make the same of a value whatever the locals are that they leave alone.
-use Rattle.std.proofs.Common.{◌≡◌, ◌≢◌, ℕ, zero, suc, ◌+◌, ◌≤◌, ◌<◌, Bool, true, false, cond, nat_le, List, [], ◌∷◌, ◌++◌, map, take, length, get_or, subst, refl, sym, ap, ◌∙◌, arith}
+use Rattle.std.proofs.Common.{slice_get, ◌≡◌, ◌≢◌, ℕ, zero, suc, ◌+◌, ◌≤◌, ◌<◌, Bool, true, false, cond, nat_le, List, [], ◌∷◌, ◌++◌, map, take, length, get_or, subst, refl, sym, ap, ◌∙◌, arith}
 use Rattle.std.proofs.Math.ListN.{set}
 use Rattle.std.proofs.Math.Seq.{take-suc}
 use Rattle.std.proofs.lemmas.List.{map-append, take-map, take-set, take_all}
 use Rattle.std.proofs.lemmas.Bool.Decides.{nat_tests}
 use Rattle.cpn_definitions.specs.Value.{PlainValue, applied}
-use Rattle.cpn_definitions.specs.Outcome.{Outcome, ◌>>=◌}
+use Rattle.cpn_definitions.specs.Outcome.{Outcome, given as found, ◌>>=◌}
 use Rattle.cpn_definitions.specs.Inscription.{Head, no_exprs, more_exprs}
-use Rattle.cpn_definitions.specs.Operations.{sized}
+use Rattle.cpn_definitions.specs.Operations.{operated, sized}
 use Rattle.cpn_eval.specs.declared.frames.World.{World}
 use Rattle.cpn_eval.specs.declared.reach.Reach.TheVariants as reaches
-use Rattle.cpn_eval.specs.Frames.{PlainFrame, frame_view, parts, argument, also, otherwise, branches, body_of, arms, forget, start, steps, back, at, given_at, one, through, rest_of}
+use Rattle.cpn_eval.specs.Frames.{PlainFrame, frame_view, parts, beside, local_beside, argument, also, otherwise, branches, body_of, arms, forget, start, steps, back, at, given_at, one, through, rest_of}
 use Rattle.cpn_eval.specs.Spare.{reach_of, Spare}
 use Rattle.cpn_core.specs.declared.inscriptions.Expr.{Expr}
 use Rattle.cpn_core.specs.Inscriptions.{exprs_view}
@@ -28,6 +28,16 @@ take_inner (suc i) (suc j) (x ∷ xs) h = ap (λ ys. x ∷ ys) (take_inner i j x
 
 fewer_alike : (i j : ℕ) (xs ys : List PlainValue) → i ≤ j → take j xs ≡ take j ys → take i xs ≡ take i ys
 fewer_alike i j xs ys h same = sym (take_inner i j xs h) ∙ ap (take i) same ∙ take_inner i j ys h
+
+-- a local among the first ones
+local_inner : (j k : ℕ) (xs : List PlainValue) → j < k → slice_get (take k xs) j ≡ slice_get xs j
+local_inner j zero xs h = absurd (omega arith)
+local_inner j (suc k) [] h = refl
+local_inner zero (suc k) (x ∷ xs) h = refl
+local_inner (suc j) (suc k) (x ∷ xs) h = local_inner j k xs (omega arith)
+
+local_alike : (j k : ℕ) (xs ys : List PlainValue) → j < k → take k xs ≡ take k ys → slice_get xs j ≡ slice_get ys j
+local_alike j k xs ys h same = sym (local_inner j k xs h) ∙ ap (λ zs. slice_get zs j) same ∙ local_inner j k ys h
 
 -- a frame whose outcome does not depend on the locals
 same_outcome
@@ -50,6 +60,14 @@ same_outcome fs f k w n ls ms v o spare same first second =
 pub spare_passed : (f : PlainFrame) (fs : List PlainFrame) (k : ℕ) → reach_of f k ≡ reaches.Passes → Spare fs k → Spare (fs ++ f ∷ []) k
 spare_passed (parts head done no_exprs) fs k h spare = λ w n ls ms v same. same_outcome fs (parts head done no_exprs) k w n ls ms v (rest_of w n ls head (done ++ v ∷ []) no_exprs) spare same refl refl
 spare_passed (parts head done (more_exprs e es)) fs k h spare = cc
+spare_passed (beside o j) fs k h spare = λ w n ls ms v same. split (nat_le k j) refl h w n ls ms v same
+  where
+    split : (b : Bool) → nat_le k j ≡ b → cond b reaches.Reads reaches.Passes ≡ reaches.Passes → (w : World) (n : ℕ) (ls ms : List PlainValue) (v : PlainValue) → take k ls ≡ take k ms → through w (fs ++ beside o j ∷ []) (at n ls v) ≡ through w (fs ++ beside o j ∷ []) (at n ms v)
+    split true is given w n ls ms v same = cc
+    split false is given w n ls ms v same =
+        let below : j < k = grind (arith, nat_tests) in
+        let alike : slice_get ms j ≡ slice_get ls j = sym (local_alike j k ls ms below same) in
+        same_outcome fs (beside o j) k w n ls ms v (local_beside o j ls v) spare same refl (ap (λ l. (found l >>= (λ u. operated o (u ∷ v ∷ []))) >>= given_at n ms) alike)
 spare_passed (argument j) fs k h spare = λ w n ls ms v same. same_outcome fs (argument j) k w n ls ms v (sized (applied j v)) spare same refl refl
 spare_passed (forget count) fs k h spare = λ w n ls ms v same. split (nat_le count k) refl h w n ls ms v same
   where
@@ -73,6 +91,11 @@ spare_passed (steps vs e) fs k h spare = cc
 pub spare_forgotten : (f : PlainFrame) (fs : List PlainFrame) (k : ℕ) → reach_of f k ≡ reaches.Forgets → Spare (fs ++ f ∷ []) k
 spare_forgotten (parts head done no_exprs) fs k h = cc
 spare_forgotten (parts head done (more_exprs e es)) fs k h = cc
+spare_forgotten (beside o j) fs k h = split (nat_le k j) h
+  where
+    split : (b : Bool) → cond b reaches.Reads reaches.Passes ≡ reaches.Forgets → Spare (fs ++ beside o j ∷ []) k
+    split true given = cc
+    split false given = cc
 spare_forgotten (argument j) fs k h = cc
 spare_forgotten (forget count) fs k h = λ w n ls ms v same. split (nat_le count k) refl h w n ls ms v same
   where

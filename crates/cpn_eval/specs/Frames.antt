@@ -1,9 +1,9 @@
 -- What is left to do in the middle of an evaluation, as frames, and what comes of it.
-use Rattle.std.specs.Prelude.{ℕ, ◌≡◌, true, false, cond, List, [], ◌∷◌, ◌++◌, map, take, Result, Ok, Err}
+use Rattle.std.specs.Prelude.{slice_get, ℕ, ◌≡◌, true, false, cond, List, [], ◌∷◌, ◌++◌, map, take, Result, Ok, Err}
 use Rattle.cpn_definitions.specs.Value.{PlainValue, boolean, applied}
-use Rattle.cpn_definitions.specs.Outcome.{Outcome, gives, ◌>>=◌}
-use Rattle.cpn_definitions.specs.Inscription.{Head, operation, tupling, listing, calling, PlainExpr, PlainExprs, no_exprs, PlainArms, arms_from}
-use Rattle.cpn_definitions.specs.Operations.{sized, truth_in, items_in}
+use Rattle.cpn_definitions.specs.Outcome.{Outcome, gives, given, ◌>>=◌}
+use Rattle.cpn_definitions.specs.Inscription.{Operation, Head, operation, tupling, listing, calling, PlainExpr, PlainExprs, no_exprs, PlainArms, arms_from}
+use Rattle.cpn_definitions.specs.Operations.{operated, sized, truth_in, items_in}
 use Rattle.cpn_definitions.specs.Meaning.{Setting, Calls, calls_below, setting_below, meant, meant_each, meant_among, done_with, accumulated}
 use Rattle.cpn_core.specs.Views.{value_view}
 use Rattle.cpn_core.specs.Inscriptions.{op_view, expr_view, exprs_view, arm_view, funs_view}
@@ -21,11 +21,12 @@ use Rattle.cpn_eval.specs.declared.frames.Turn.{Turn}
 use Rattle.cpn_eval.specs.declared.frames.Turn.TheVariants as turns
 use Rattle.cpn_eval.specs.declared.frames.Machine.{Machine}
 
--- What waits for a value: the parts of a head, some of them done; a constructor; the second part of `andalso` and of
--- `orelse`; the branches of `if`; a body that binds it; locals to be forgotten; arms; a start and a body of a fold; items
--- of a fold that are left; the caller of a function.
+-- What waits for a value: the parts of a head, some of them done; an operation whose first operand is a local; a
+-- constructor; the second part of `andalso` and of `orelse`; the branches of `if`; a body that binds it; locals to be
+-- forgotten; arms; a start and a body of a fold; items of a fold that are left; the caller of a function.
 pub data PlainFrame : Type 0 where
   parts : Head → List PlainValue → PlainExprs → PlainFrame
+  beside : Operation → ℕ → PlainFrame
   argument : ℕ → PlainFrame
   also : PlainExpr → PlainFrame
   otherwise : PlainExpr → PlainFrame
@@ -71,9 +72,14 @@ folded world n ls body vs made = accumulated (λ x s. meant_at world n (ls ++ x 
 abbrev pub chosen_by : PlainValue → Outcome PlainValue → Outcome PlainValue → Outcome PlainValue
 chosen_by v e f = truth_in v >>= (λ b. cond b e f)
 
+-- what an operation gives for a local and the value of its second operand
+abbrev pub local_beside : Operation → ℕ → List PlainValue → PlainValue → Outcome PlainValue
+local_beside o k ls w = given (slice_get ls k) >>= (λ v. operated o (v ∷ w ∷ []))
+
 -- what one frame makes of the value that it waits for
 abbrev pub one : World → PlainFrame → State → Outcome State
 one world (parts head done es) s = rest_of world s.visible s.locals head (done ++ s.value ∷ []) es >>= given_at s.visible s.locals
+one world (beside o k) s = local_beside o k s.locals s.value >>= given_at s.visible s.locals
 one world (argument k) s = sized (applied k s.value) >>= given_at s.visible s.locals
 one world (also f) s = chosen_by s.value (meant_at world s.visible s.locals f) (gives (boolean false)) >>= given_at s.visible s.locals
 one world (otherwise f) s = chosen_by s.value (gives (boolean true)) (meant_at world s.visible s.locals f) >>= given_at s.visible s.locals
@@ -105,6 +111,7 @@ head_view (heads.Call k) = calling k
 abbrev pub frame_view : Frame → PlainFrame
 frame_view (frames.Parts head done rest) = parts (head_view head) (all_held done) (exprs_view rest.now)
 frame_view (frames.Beside o v) = parts (operation (op_view o)) (value_view v.now ∷ []) no_exprs
+frame_view (frames.BesideLocal o k) = beside (op_view o) k
 frame_view (frames.Argument k) = argument k
 frame_view (frames.Also f) = also (expr_view f.now)
 frame_view (frames.Otherwise f) = otherwise (expr_view f.now)

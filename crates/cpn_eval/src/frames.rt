@@ -36,6 +36,8 @@ pub enum Frame<'w> {
     Parts(Head, Vec<Held>, &'w [Expr]),
     /// An operation, and the value of its first operand, which stands somewhere.
     Beside(Op, &'w Value),
+    /// An operation, and the number of the local that is its first operand.
+    BesideLocal(Op, u32),
     /// The constructor of a position, to be applied to the value.
     Argument(u32),
     /// What is evaluated where the value is true.

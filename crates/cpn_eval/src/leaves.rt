@@ -1,20 +1,20 @@
 //! Literals, variables and locals, whose values are read where they stand.
 
-ghost use Rattle.std.specs.Prelude.{◌≡◌, ℕ, List, IfSome};
+ghost use Rattle.std.specs.Prelude.{◌≡◌, ℕ, List, [], ◌∷◌, ◌++◌, map, IfSome};
 ghost use Rattle.cpn_definitions.specs.Inscription.{operation, apply};
 ghost use Rattle.cpn_definitions.specs.Outcome.{gives};
 ghost use Rattle.cpn_definitions.specs.Operations.{operated};
 ghost use Rattle.cpn_definitions.specs.Value.{PlainValue, boolean};
 ghost use Rattle.cpn_core.specs.Views.{value_view};
 ghost use Rattle.cpn_core.specs.Inscriptions.{op_view, expr_view, exprs_view};
-ghost use Rattle.cpn_eval.specs.Answers.{MayTell};
-ghost use Rattle.cpn_eval.specs.Frames.{locals_of, meant_at};
-ghost use Rattle.cpn_eval.specs.Held.{backwards_view};
-ghost use Rattle.cpn_eval.specs.Leaves.{one_given, two_given, second_given};
+ghost use Rattle.cpn_eval.specs.Answers.{MayTell, Tells};
+ghost use Rattle.cpn_eval.specs.Frames.{head_view, locals_of, meant_at, rest_of, local_beside};
+ghost use Rattle.cpn_eval.specs.Held.{backwards_view, held_view};
+ghost use Rattle.cpn_eval.specs.Leaves.{one_given, two_given, second_given, local_given};
 
-use crate::frames::{Machine, World};
-use crate::held::Backwards;
-use crate::locals::{bound, standing, standing_backwards};
+use crate::frames::{Head, Machine, World};
+use crate::held::{Backwards, Held};
+use crate::locals::{bound, copied, standing, standing_backwards};
 use crate::reading::{makes, read_one, read_two};
 use crate::refusals::NoValue;
 use crate::spare::is_spare;
@@ -38,6 +38,24 @@ pub struct Operands<'w> {
     pub left: &'w Value,
     /// The second.
     pub right: &'w Expr,
+}
+
+/// Two operands, of which the first is a local.
+#[derive(Clone, Copy)]
+pub struct LocalOperands<'w> {
+    /// The number of the local.
+    pub left: u32,
+    /// The second.
+    pub right: &'w Expr,
+}
+
+/// An operation, and its second operand, which stands there.
+#[derive(Clone, Copy)]
+pub struct Second<'v> {
+    /// The operation.
+    pub op: Op,
+    /// The value of its second operand.
+    pub right: &'v Value,
 }
 
 /// Operands that are read with the first where it stands; nothing for others, and where they are to be moved.
@@ -156,6 +174,76 @@ impl<'w> Machine<'w> {
                 None => Ok(None),
                 Some(second) => Ok(Some(read_two(op, first, second)?)),
             },
+        }
+    }
+
+    /// Operands of which the first is a local that is read where it stands; nothing for others, and where they are to be moved.
+    pub fn beside_local(
+        &self,
+        world: &World<'w>,
+        op: Op,
+        parts: &'w [Expr],
+    ) -> Option<LocalOperands<'w>>
+        ensures value { IfSome result (λ both. meant_at world.now self.now.visible (locals_of self.now) (apply (operation (op_view op)) (exprs_view parts.now)) ≡ local_given world.now self.now (op_view op) both.left (expr_view both.right.now)) }
+    {
+        if makes(op) {
+            return None;
+        }
+        match parts {
+            [first, right] => match first {
+                Expr::Local(number) => match standing(&self.locals, *number) {
+                    Some(_) => Some(LocalOperands {
+                        left: *number,
+                        right,
+                    }),
+                    None => None,
+                },
+                _ => None,
+            },
+            _ => None,
+        }
+    }
+
+    /// What an operation gives for a local and the value of its second operand.
+    pub fn read_beside(&self, op: Op, number: u32, right: &Value) -> Result<Value, NoValue>
+        ensures value { Tells value_view result (local_beside (op_view op) number (locals_of self.now) (value_view right.now)) }
+    {
+        match standing(&self.locals, number) {
+            Some(left) => read_two(op, left, right),
+            None => {
+                let left = copied(&self.locals, number)?.into_value();
+                read_two(op, &left, right)
+            }
+        }
+    }
+
+    /// The second operand, where it stands, if nothing else is left; nothing where it is to be evaluated or moved.
+    pub fn second<'v>(
+        &'v self,
+        world: &World<'w>,
+        head: Head,
+        done: &[Held],
+        rest: &'w [Expr],
+    ) -> Option<Second<'v>>
+        ensures value { IfSome result (λ second. (v : PlainValue) → rest_of world.now self.now.visible (locals_of self.now) (head_view head) (map held_view done.now ++ v ∷ []) (exprs_view rest.now) ≡ operated (op_view second.op) (v ∷ value_view second.right.now ∷ [])) }
+    {
+        if !done.is_empty() {
+            return None;
+        }
+        match head {
+            Head::Op(op) => match rest {
+                [right] => {
+                    if makes(op) {
+                        return None;
+                    }
+                    match self.leaf(world, right) {
+                        Some(right) => Some(Second { op, right }),
+                        None => None,
+                    }
+                }
+                _ => None,
+            },
+            _ => None,
         }
     }
 }

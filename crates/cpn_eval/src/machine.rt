@@ -8,7 +8,7 @@ ghost use Rattle.cpn_definitions.specs.Times.{last_time};
 ghost use Rattle.cpn_core.specs.Views.{value_view};
 ghost use Rattle.cpn_eval.specs.Held.{held_view, all_held};
 ghost use Rattle.cpn_core.specs.Inscriptions.{op_view, expr_view, exprs_view, arm_view};
-ghost use Rattle.cpn_eval.specs.Frames.{arms, rest_of, folded, one, through, at, after_outcome, after_value, after_frame, after_waiting, locals_of, calls_in, setting_in, meant_at, chosen_by, ahead, Goes, Turned, head_view, frame_view};
+ghost use Rattle.cpn_eval.specs.Frames.{parts, arms, rest_of, folded, one, through, at, after_outcome, after_value, after_frame, after_waiting, locals_of, calls_in, setting_in, meant_at, chosen_by, ahead, Goes, Turned, head_view, frame_view};
 
 use crate::backwards::{hold_all, values_of};
 use crate::choices::{Choice, choice_of};
@@ -93,7 +93,10 @@ impl<'w> Machine<'w> {
     {
         match beside(world, op, parts) {
             Some(both) => self.wait(world, Frame::Beside(op, both.left), both.right),
-            None => self.parts(world, Head::Op(op), Vec::new(self.alloc), parts),
+            None => match self.beside_local(world, op, parts) {
+                Some(both) => self.wait(world, Frame::BesideLocal(op, both.left), both.right),
+                None => self.parts(world, Head::Op(op), Vec::new(self.alloc), parts),
+            },
         }
     }
 
@@ -172,6 +175,30 @@ impl<'w> Machine<'w> {
         }
     }
 
+    /// Goes on behind the value of a part. A second operand that stands somewhere is read there.
+    fn behind(
+        &mut self,
+        world: &World<'w>,
+        head: Head,
+        done: Vec<Held>,
+        rest: &'w [Expr],
+        value: Held,
+    ) -> Result<Now<'w>, NoValue>
+        ensures { Goes world.now self.new result (after_frame world.now self.old (parts (head_view head) (all_held done) (exprs_view rest.now)) (held_view value)) }
+    {
+        match self.second(world, head, done.as_slice(), rest) {
+            Some(both) => {
+                let left = value.into_value();
+                Ok(Now::Given(Held::Plain(read_two(both.op, &left, both.right)?)))
+            }
+            None => {
+                let mut done = done;
+                done.push(value)?;
+                self.parts(world, head, done, rest)
+            }
+        }
+    }
+
     /// Does what the head does with the values of all its parts.
     fn finish(&mut self, world: &World<'w>, head: Head, done: Vec<Held>) -> Result<Now<'w>, NoValue>
         ensures { Goes world.now self.new result (after_outcome world.now self.old (done_with (head_view head) (calls_in world.now self.old.visible) (all_held done))) }
@@ -220,14 +247,14 @@ impl<'w> Machine<'w> {
         ensures { Goes world.now self.new result (after_frame world.now self.old (frame_view frame.entry) (held_view value)) }
     {
         match frame {
-            Frame::Parts(head, done, rest) => {
-                let mut done = done;
-                done.push(value)?;
-                self.parts(world, head, done, rest)
-            }
+            Frame::Parts(head, done, rest) => self.behind(world, head, done, rest, value),
             Frame::Beside(op, left) => {
                 let right = value.into_value();
                 Ok(Now::Given(Held::Plain(read_two(op, left, &right)?)))
+            }
+            Frame::BesideLocal(op, number) => {
+                let right = value.into_value();
+                Ok(Now::Given(Held::Plain(self.read_beside(op, number, &right)?)))
             }
             Frame::Argument(position) => {
                 let argument = Box::new(self.alloc, value.into_value())?;

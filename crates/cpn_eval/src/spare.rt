@@ -28,6 +28,13 @@ fn reach(frame: &Frame<'_>, number: usize) -> Reach
             }
         }
         Frame::Beside(_, _) => Reach::Passes,
+        Frame::BesideLocal(_, local) => {
+            if number <= *local as usize {
+                Reach::Reads
+            } else {
+                Reach::Passes
+            }
+        }
         Frame::Argument(_) => Reach::Passes,
         Frame::Forget(count) => {
             if *count <= number {

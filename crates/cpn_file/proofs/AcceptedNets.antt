@@ -7,19 +7,19 @@ use Rattle.cpn_definitions.specs.Colour.{PlainColour}
 use Rattle.cpn_definitions.specs.Inscription.{PlainExpr}
 use Rattle.cpn_definitions.specs.Net.{PlainArc, PlainTransition, Coloured}
 use Rattle.cpn_definitions.proofs.RisingLists.{each_appended}
-use Rattle.cpn_syntax.specs.Trees.{PlainAst, PlainAsts, no_ast}
+use Rattle.cpn_trees.specs.Trees.{PlainAst, PlainAsts, no_ast}
 use Rattle.cpn_typing.specs.Names.{Declared, ok}
 use Rattle.cpn_typing.specs.Multisets.{Side, input, output, checked_arc}
 use Rattle.cpn_typing.specs.GuardsAndDelays.{checked_guard, checked_delay}
 use Rattle.cpn_typing.specs.AcceptedTransitions.{HasItsVariables, IsAcceptedArc, IsAcceptedDelay, IsAcceptedTransition}
 use Rattle.cpn_file.specs.Reading.{read, each_from}
-use Rattle.cpn_file.specs.Parsing.{Parsing}
-use Rattle.cpn_file.specs.Trees.{TransitionTrees, ArcTrees}
+use Rattle.cpn_parsing.specs.Parsing.{Parsing}
+use Rattle.cpn_parsing.specs.Trees.{TransitionTrees, ArcTrees}
 use Rattle.cpn_file.specs.Accepted.{tree_at, accepted_at, guard_at, delay_at, bare_transition, flattened, Sides, with_first, input_at, output_at, sides_of, arc_of, colour_at, inputs_of, outputs_of, joined_from}
-use Rattle.cpn_file.specs.declared.document.Way.{Way}
-use Rattle.cpn_file.specs.declared.document.Way.TheVariants.{ToTransition, ToPlace, Both}
-use Rattle.cpn_file.specs.declared.refusals.Pointer.TheVariants as pointers
-use Rattle.cpn_file.proofs.Readings.{same_read, steps}
+use Rattle.cpn_document.specs.declared.document.Way.{Way}
+use Rattle.cpn_document.specs.declared.document.Way.TheVariants.{ToTransition, ToPlace, Both}
+use Rattle.cpn_document.specs.declared.refusals.Pointer.TheVariants as pointers
+use Rattle.cpn_readings.proofs.Readings.{same_read, steps}
 use Rattle.cpn_file.proofs.AcceptedTexts.{accepted_is}
 
 -- ---- arcs

@@ -6,8 +6,8 @@ use Rattle.cpn_definitions.specs.Bindable.{binding_terms}
 use Rattle.cpn_definitions.specs.Colour.{PlainColour}
 use Rattle.cpn_definitions.specs.Net.{PlainArc, PlainTransition, Coloured}
 use Rattle.cpn_definitions.proofs.RisingLists.{each_appended}
-use Rattle.cpn_syntax.specs.Trees.{PlainAst, PlainAsts}
-use Rattle.cpn_syntax.specs.DeclTrees.{PlainDecl}
+use Rattle.cpn_trees.specs.Trees.{PlainAst, PlainAsts}
+use Rattle.cpn_trees.specs.DeclTrees.{PlainDecl}
 use Rattle.cpn_typing.specs.Names.{Declared, nothing_declared, Checked, ok}
 use Rattle.cpn_typing.specs.Names as checks
 use Rattle.cpn_typing.specs.Consistency.{IsConsistent}
@@ -16,17 +16,17 @@ use Rattle.cpn_typing.specs.Multisets.{input, output, checked_arc, checked_init}
 use Rattle.cpn_typing.proofs.Consistent.{nothing_consistent, declared_consistent}
 use Rattle.cpn_typing.proofs.MeaningsInNets.{init_means}
 use Rattle.cpn_file.specs.Reading.{Reading, read, each_from}
-use Rattle.cpn_file.specs.Parsing.{Parsing}
-use Rattle.cpn_file.specs.Trees.{PlaceTrees, TransitionTrees, ArcTrees, DocumentTrees}
+use Rattle.cpn_parsing.specs.Parsing.{Parsing}
+use Rattle.cpn_parsing.specs.Trees.{PlaceTrees, TransitionTrees, ArcTrees, DocumentTrees}
 use Rattle.cpn_file.specs.Accepted.{tree_at, accepted_at, declared_with, declared_from, net_place, Initial, initial_at, initial_of, guard_at, delay_at, bare_transition, Sides, with_first, input_at, output_at, sides_of, arc_of, colour_at, inputs_of, joined_from, Accepted, accepted_in}
 use Rattle.cpn_file.specs.Joining.{HasItsTerms}
 use Rattle.cpn_file.specs.Starts.{IsMeant}
 use Rattle.cpn_file.specs.WellAccepted.{IsWellAccepted}
-use Rattle.cpn_file.specs.declared.document.Way.{Way}
-use Rattle.cpn_file.specs.declared.document.Way.TheVariants.{ToTransition, ToPlace, Both}
-use Rattle.cpn_file.specs.declared.refusals.Pointer.{Pointer}
-use Rattle.cpn_file.specs.declared.refusals.Pointer.TheVariants as pointers
-use Rattle.cpn_file.proofs.Readings.{same_read, steps}
+use Rattle.cpn_document.specs.declared.document.Way.{Way}
+use Rattle.cpn_document.specs.declared.document.Way.TheVariants.{ToTransition, ToPlace, Both}
+use Rattle.cpn_document.specs.declared.refusals.Pointer.{Pointer}
+use Rattle.cpn_document.specs.declared.refusals.Pointer.TheVariants as pointers
+use Rattle.cpn_readings.proofs.Readings.{same_read, steps}
 
 -- ---- lists
 

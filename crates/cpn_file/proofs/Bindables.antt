@@ -9,12 +9,12 @@ use Rattle.cpn_core.specs.declared.nets.Transition.{Transition}
 use Rattle.cpn_typing.specs.Names.{ok, Refusal as TypeRefusal}
 use Rattle.cpn_typing.specs.Names as checks
 use Rattle.cpn_typing.specs.BindableRule.{IsBindableAnswer}
-use Rattle.cpn_types.specs.Answers.{RefusesBy as ForbidsBy}
+use Rattle.cpn_typing.specs.Answers.{RefusesBy as ForbidsBy}
 use Rattle.cpn_file.specs.Reading.{Refusal, Reading, read, refused, inscription, typing}
 use Rattle.cpn_file.specs.Answers.{RefusesBy}
 use Rattle.cpn_file.specs.Loading.{AreBindable, none_left, these_are, one_is_not}
 use Rattle.cpn_file.specs.Joining.{HasItsTerms}
-use Rattle.cpn_file.specs.declared.refusals.Pointer.TheVariants.{Transition as TransitionPlace}
+use Rattle.cpn_document.specs.declared.refusals.Pointer.TheVariants.{Transition as TransitionPlace}
 
 module _ (n : PlainNet) (ts : List Transition) (i : ℕ) (t : Transition) (lt : i < length ts) (at : t ≡ get_or ts i t) where
   next_one : map transition_view (drop i ts) ≡ transition_view t ∷ map transition_view (drop (i + 1) ts)

@@ -3,11 +3,11 @@ use Rattle.std.proofs.Common.{◌≡◌, refl, sym, ap, subst}
 use Rattle.std.specs.Prelude.{Option, Some, None, option_map}
 use Rattle.cpn_typing.specs.Names.{Checked, ok, Refusal as TypeRefusal}
 use Rattle.cpn_typing.specs.Names as checks
-use Rattle.cpn_types.specs.Answers.{Refuses as Forbids}
+use Rattle.cpn_typing.specs.Answers.{Refuses as Forbids}
 use Rattle.cpn_file.specs.Reading.{typing, inscription, Refusal, Reading, read, refused, ◌>>=◌}
 use Rattle.cpn_file.specs.Accepted.{accepted_at}
 use Rattle.cpn_file.specs.Answers.{Refuses}
-use Rattle.cpn_file.specs.declared.refusals.Pointer.{Pointer}
+use Rattle.cpn_document.specs.declared.refusals.Pointer.{Pointer}
 
 module _ {A : Type 0} (place : Pointer) (checked : Checked A) where
   -- a refusal by a rule of typing

@@ -3,8 +3,8 @@ use Rattle.std.proofs.Common.{◌≡◌, ℕ, suc, List, [], ◌∷◌, ◌++◌
 use Rattle.cpn_definitions.specs.Bindable.{variables_of, AreClosed}
 use Rattle.cpn_definitions.specs.Inscription.{PlainFunction, Functions}
 use Rattle.cpn_definitions.proofs.RisingLists.{each_appended}
-use Rattle.cpn_syntax.specs.Trees.{PlainAst}
-use Rattle.cpn_syntax.specs.DeclTrees.{PlainDecl, decl, PlainDeclForm, colour_set, variables, value, function}
+use Rattle.cpn_trees.specs.Trees.{PlainAst}
+use Rattle.cpn_trees.specs.DeclTrees.{PlainDecl, decl, PlainDeclForm, colour_set, variables, value, function}
 use Rattle.cpn_typing.specs.Types.{PlainTy}
 use Rattle.cpn_typing.specs.Names.{Declared, nothing_declared, Scope, ok}
 use Rattle.cpn_typing.specs.Places.{in_function}
@@ -18,11 +18,11 @@ use Rattle.cpn_typing.proofs.Consistent.{accepted_parts, same_accepted, nothing_
 use Rattle.cpn_typing.proofs.Functions.{closed_has_no_variables}
 use Rattle.cpn_typing.proofs.MeaningsInNets.{world_of}
 use Rattle.cpn_file.specs.Reading.{read}
-use Rattle.cpn_file.specs.Parsing.{Parsing}
+use Rattle.cpn_parsing.specs.Parsing.{Parsing}
 use Rattle.cpn_file.specs.Accepted.{tree_at, accepted_at, declared_with, declared_from}
-use Rattle.cpn_file.specs.declared.refusals.Pointer.TheVariants as pointers
+use Rattle.cpn_document.specs.declared.refusals.Pointer.TheVariants as pointers
 use Rattle.cpn_file.proofs.AcceptedTexts.{accepted_is}
-use Rattle.cpn_file.proofs.Readings.{same_read, steps}
+use Rattle.cpn_readings.proofs.Readings.{same_read, steps}
 
 body_closed : (ds : Declared) → IsConsistent ds → (a : PlainAst) (sc : Scope) (w : Option PlainTy) (r : Typed) → typed ds in_function a sc w ≡ ok r → variables_of r.expr ≡ []
 body_closed ds good a sc w r is = closed_has_no_variables ds in_function refl (variables_of r.expr) (accepted_reads (world_of ds good [] 0) in_function a sc w r is)

@@ -2,14 +2,14 @@
 use Rattle.std.proofs.Common.{◌≡◌, ℕ, suc, ◌+◌, ◌<◌, ◌≤◌, List, [], ◌∷◌, length, drop, get_or, map, refl, sym, ap, ◌∙◌, add-one}
 use Rattle.std.specs.Prelude.{Option, Some, None, Result}
 use Rattle.std.proofs.lemmas.List.{drop_more, drop_all}
-use Rattle.cpn_syntax.specs.declared.parsed.Declaration.{Declaration}
+use Rattle.cpn_trees.specs.declared.parsed.Declaration.{Declaration}
 use Rattle.cpn_typing.specs.Names.{Declared}
 use Rattle.cpn_file.specs.Reading.{Refusal, Reading, read, refused}
 use Rattle.cpn_file.specs.Accepted.{declared_with, declared_from}
 use Rattle.cpn_file.specs.Answers.{Refuses}
-use Rattle.cpn_file.specs.TreesViews.{declared_view}
-use Rattle.cpn_file.specs.declared.parsing.Unparsed.{Unparsed}
-use Rattle.cpn_file.proofs.ReadLists.{refuses_through}
+use Rattle.cpn_parsing.specs.TreesViews.{declared_view}
+use Rattle.cpn_parsing.specs.declared.parsing.Unparsed.{Unparsed}
+use Rattle.cpn_readings.proofs.ReadLists.{refuses_through}
 
 module _ (texts : List (Result Declaration Unparsed)) where
   module _ (i : ℕ) (text : Result Declaration Unparsed) (lt : i < length texts) (at : text ≡ get_or texts i text) (ds : Declared) where

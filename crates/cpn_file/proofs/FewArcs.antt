@@ -1,73 +1,20 @@
--- Each transition of a document that is read has at most 64 arcs in its net.
-use Rattle.std.proofs.Common.{◌≡◌, ℕ, suc, ◌+◌, ◌<◌, ◌≤◌, ◌==◌, ◌∙◌, Bool, true, false, cond, nat_le, List, [], ◌∷◌, ◌++◌, length, refl, sym, ap, subst, arith, leb-true}
-use Rattle.std.specs.Prelude.{Option, Some, None, codes}
-use Rattle.std.specs.Str.{bytes_eq}
-use Rattle.std.specs.List.{list_all, range_with_len, AllByRecursion}
-use Rattle.std.proofs.lemmas.List.{length-map}
-use Rattle.serde_json.specs.Data.{Data}
+-- Each transition of a document that is read has as many arcs in its net as in the document: at most 64.
+use Rattle.std.proofs.Common.{◌≡◌, ℕ, suc, ◌+◌, ◌<◌, ◌≤◌, ◌==◌, ◌∙◌, Bool, true, false, cond, List, [], ◌∷◌, ◌++◌, length, refl, sym, ap, subst, arith}
+use Rattle.std.specs.Prelude.{Option, Some, None}
+use Rattle.std.specs.List.{AllByRecursion}
 use Rattle.cpn_definitions.specs.Colour.{PlainColour}
 use Rattle.cpn_definitions.specs.Net.{PlainArc, PlainTransition, Coloured}
-use Rattle.cpn_syntax.specs.Trees.{PlainAst}
+use Rattle.cpn_trees.specs.Trees.{PlainAst}
 use Rattle.cpn_typing.specs.Names.{Declared}
-use Rattle.cpn_file.specs.Reading.{read, check, each, each_from, not_served}
-use Rattle.cpn_file.specs.Parts.{only_keys, list_at, number_at, only}
-use Rattle.cpn_file.specs.Document.{JoinedArc, RawModule, RawDocument, arcs_on, arcs_at, have_few_arcs, place_names, transition_names, name_at, arc_in, joined_in, arcs_in, places_in, transitions_in, module_in, declarations_in, document_in}
-use Rattle.cpn_file.specs.Trees.{TransitionTrees, ArcTrees, EachIs, AreArcTrees}
+use Rattle.cpn_file.specs.Reading.{read, each_from}
+use Rattle.cpn_document.specs.Document.{JoinedArc, arcs_on, arcs_at}
+use Rattle.cpn_readings.specs.ItemByItem.{EachIs}
+use Rattle.cpn_parsing.specs.Trees.{TransitionTrees, ArcTrees, AreArcTrees}
 use Rattle.cpn_file.specs.Accepted.{tree_at, guard_at, delay_at, bare_transition, Sides, with_first, input_at, output_at, sides_of, arc_of, colour_at, inputs_of, outputs_of, joined_from}
-use Rattle.cpn_file.specs.declared.document.Way.{Way}
-use Rattle.cpn_file.specs.declared.document.Way.TheVariants.{ToTransition, ToPlace, Both}
-use Rattle.cpn_file.specs.declared.refusals.Pointer.TheVariants as pointers
-use Rattle.cpn_file.proofs.ArcCounts.{one_in_row}
-use Rattle.cpn_file.proofs.Readings.{same_read, steps, checked}
-
--- ---- the form of the document
-
-arcs_few : (places transitions : List (List ℕ)) (d : Data) (arcs : List JoinedArc) → arcs_in places transitions d ≡ read arcs → have_few_arcs (length transitions) arcs ≡ true
-unfolding arcs_in
-arcs_few places transitions d arcs h =
-    let items = steps _ (list_at (codes "arcs") d) arcs h in
-    let written = steps _ (each arc_in items.0) arcs items.2 in
-    let joined = steps _ (each (joined_in places transitions) written.0) arcs written.2 in
-    let few = steps _ (check (have_few_arcs (length transitions) joined.0) not_served) arcs joined.2 in
-    subst (λ made. have_few_arcs (length transitions) made ≡ true) (same_read joined.0 arcs few.2) (checked (have_few_arcs (length transitions) joined.0) few.0 not_served few.1)
-
-abbrev HasFew : RawModule → Type 0
-HasFew m = have_few_arcs (length m.transitions) m.arcs ≡ true
-
-module_few : (d : Data) (m : RawModule) → module_in d ≡ read m → HasFew m
-unfolding module_in
-module_few d m h =
-    let known = steps _ (only_keys (codes "name" ∷ codes "places" ∷ codes "transitions" ∷ codes "arcs" ∷ []) d) m h in
-    let name = steps _ (name_at (codes "name") d) m known.2 in
-    let places = steps _ (places_in d) m name.2 in
-    let transitions = steps _ (transitions_in d) m places.2 in
-    let arcs = steps _ (arcs_in (place_names places.0) (transition_names transitions.0) d) m transitions.2 in
-    let far : length (transition_names transitions.0) ≡ length transitions.0 = simp length-map in
-    subst HasFew (same_read _ m arcs.2) (subst (λ n. have_few_arcs n arcs.0 ≡ true) far (arcs_few (place_names places.0) (transition_names transitions.0) d arcs.0 arcs.1))
-
-pub document_few : (d : Data) (document : RawDocument) → document_in d ≡ read document → have_few_arcs (length document.the_module.transitions) document.the_module.arcs ≡ true
-unfolding document_in
-document_few d document h =
-    let known = steps _ (only_keys (codes "version" ∷ codes "declarations" ∷ codes "top" ∷ codes "modules" ∷ []) d) document h in
-    let version = steps _ (number_at (codes "version") d) document known.2 in
-    let first = steps _ (check (version.0 == 1) not_served) document version.2 in
-    let declarations = steps _ (declarations_in d) document first.2 in
-    let top = steps _ (name_at (codes "top") d) document declarations.2 in
-    let modules = steps _ (list_at (codes "modules") d) document top.2 in
-    let single = steps _ (only modules.0) document modules.2 in
-    let m = steps _ (module_in single.0) document single.2 in
-    let named = steps _ (check (bytes_eq m.0.name top.0) not_served) document m.2 in
-    subst (λ (w : RawDocument). HasFew w.the_module) (same_read _ document named.2) (module_few single.0 m.0 m.1)
-
-passes_in_row : (p : ℕ → Bool) (n t : ℕ) → t < n → list_all p (range_with_len 0 n) ≡ true → p t ≡ true
-passes_in_row p n t lt all = by (p t) refl
-  where
-    by : (b : Bool) → p t ≡ b → p t ≡ true
-    by true e = e
-    by false e = absurd (let none = one_in_row p n 0 t (omega arith) (omega arith) e in cc)
-
-pub few_there : (count : ℕ) (arcs : List JoinedArc) → have_few_arcs count arcs ≡ true → (t : ℕ) → t < count → arcs_at t arcs ≤ 64
-few_there count arcs h t lt = leb-true (arcs_at t arcs) 64 (passes_in_row (λ k. nat_le (arcs_at k arcs) 64) count t lt h)
+use Rattle.cpn_document.specs.declared.document.Way.{Way}
+use Rattle.cpn_document.specs.declared.document.Way.TheVariants.{ToTransition, ToPlace, Both}
+use Rattle.cpn_document.specs.declared.refusals.Pointer.TheVariants as pointers
+use Rattle.cpn_readings.proofs.Readings.{same_read, steps}
 
 -- ---- the arcs that an arc of the document stands for
 

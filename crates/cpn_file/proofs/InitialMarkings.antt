@@ -19,18 +19,18 @@ use Rattle.cpn_definitions.proofs.OrderedLists.{all_with_item, in_order_is}
 use Rattle.cpn_definitions.proofs.RisingLists.{each_flat}
 use Rattle.cpn_definitions.proofs.Terms.{AreTermsOf, terms_are}
 use Rattle.cpn_definitions.proofs.TokenCounts.{tokens_are_few}
-use Rattle.cpn_syntax.specs.Trees.{PlainAst}
+use Rattle.cpn_trees.specs.Trees.{PlainAst}
 use Rattle.cpn_typing.specs.Multisets.{checked_init}
 use Rattle.cpn_typing.specs.Names.{Declared}
 use Rattle.cpn_file.specs.Reading.{read, each_from}
-use Rattle.cpn_file.specs.Parsing.{Parsing}
-use Rattle.cpn_file.specs.Trees.{PlaceTrees}
+use Rattle.cpn_parsing.specs.Parsing.{Parsing}
+use Rattle.cpn_parsing.specs.Trees.{PlaceTrees}
 use Rattle.cpn_file.specs.Accepted.{tree_at, accepted_at, colour_at, Initial, initial_at, initial_of}
 use Rattle.cpn_file.specs.Loading.{token_of, tokens_of, tokens_in, start_of}
 use Rattle.cpn_file.specs.WellLoaded.{has_few_tokens}
-use Rattle.cpn_file.specs.declared.refusals.Pointer.TheVariants as pointers
+use Rattle.cpn_document.specs.declared.refusals.Pointer.TheVariants as pointers
 use Rattle.cpn_file.proofs.ListFacts.{both, passes_all}
-use Rattle.cpn_file.proofs.Readings.{same_read, steps}
+use Rattle.cpn_readings.proofs.Readings.{same_read, steps}
 
 -- ---- tokens in their order
 

@@ -1,13 +1,4 @@
-pub mod Readings
 pub mod ListFacts
-pub mod SeenValues
-pub mod NameLists
-pub mod ReadLists
-pub mod ArcCounts
-pub mod FormedModules
-pub mod Parsings
-pub mod ItemByItem
-pub mod NumberedLists
 pub mod CheckedTexts
 pub mod DeclaredLists
 pub mod PlaceColours
@@ -22,7 +13,6 @@ pub mod NetPlaces
 pub mod Steps
 pub mod AcceptedNets
 pub mod LoadedNets
-pub mod FormedDocuments
 pub mod ReadBytes
 pub mod ParsedDocuments
 pub mod StartsAt

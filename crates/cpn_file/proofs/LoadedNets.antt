@@ -1,13 +1,16 @@
 -- The steps of the reading of a document, put together.
-use Rattle.std.proofs.Common.{◌≡◌, Bool, true, List, [], ◌∷◌, refl, sym, subst}
+use Rattle.std.proofs.Common.{◌≡◌, Bool, true, List, [], ◌∷◌, refl, sym, ap, subst}
 use Rattle.std.specs.List.{AllByRecursion}
-use Rattle.std.specs.Prelude.{Option, Some, None, Result, Ok, Err}
+use Rattle.std.specs.Prelude.{Option, Some, None, option_map, Result, Ok, Err}
 use Rattle.serde_json.specs.Data.{Data}
 use Rattle.cpn_definitions.specs.Net.{PlainTransition, PlainNet}
-use Rattle.cpn_file.specs.Reading.{Refusal, Reading, read, refused}
+use Rattle.cpn_readings.specs.Reading.{refused_as}
+use Rattle.cpn_document.specs.Reading as form
+use Rattle.cpn_file.specs.Reading.{Refusal, Reading, read, refused, of_form}
 use Rattle.cpn_file.specs.Relations.{just, such_that, ◌>>=◌}
-use Rattle.cpn_file.specs.Document.{RawDocument, document_in}
-use Rattle.cpn_file.specs.Trees.{EachIs, DocumentTrees, AreTrees}
+use Rattle.cpn_document.specs.Document.{RawDocument, document_in}
+use Rattle.cpn_readings.specs.ItemByItem.{EachIs}
+use Rattle.cpn_parsing.specs.Trees.{DocumentTrees, AreTrees}
 use Rattle.cpn_file.specs.Accepted.{Accepted, accepted_in}
 use Rattle.cpn_file.specs.Loading.{PlainLoaded, IsCompleted, net_from, IsItsNet, AreBindable, loaded_from}
 use Rattle.cpn_file.specs.Joining.{HasItsTerms}
@@ -39,23 +42,34 @@ module _ (a : Accepted) (n : PlainNet) (its : IsItsNet a n) where
       loads_next view result (such_that (IsItsNet a)) _ n (n, its, refl) (loads_next view result (AreBindable n 0 n.transitions) _ true bindable (loads_just view result (loaded_from n a.initials) h))
 
 module _ (d : Data) where
-  -- the form is refused
-  pub not_formed : (o : Option Refusal) → Refuses o (document_in d) → RefusesBy (loaded_in d) o
-  unfolding loaded_in
-  not_formed o h = refused_first (just (document_in d)) _ o (just_refused (document_in d) o h)
+  -- what its form is read as, with a refusal as one of the document
+  abbrev formed : Reading RawDocument
+  formed = refused_as of_form (document_in d)
 
-  module _ (document : RawDocument) (is : document_in d ≡ read document) (trees : DocumentTrees) (parsed : AreTrees document trees) where
+  refused_so : (o : Option form.FormRefusal) → Refuses o (document_in d) → Refuses (option_map of_form o) formed
+  refused_so None h = tt
+  refused_so (Some refusal) h = ap (refused_as of_form) h
+
+  -- the form is refused
+  pub not_formed : (o : Option form.FormRefusal) → Refuses o (document_in d) → RefusesBy (loaded_in d) (option_map of_form o)
+  unfolding loaded_in
+  not_formed o h = refused_first (just formed) _ (option_map of_form o) (just_refused formed (option_map of_form o) (refused_so o h))
+
+  module _ (document : RawDocument) (is : document_in d ≡ form.read document) (trees : DocumentTrees) (parsed : AreTrees document trees) where
+    has_form : read document ≡ formed
+    has_form = sym (ap (refused_as of_form) is)
+
     -- a text is refused
     pub not_accepted : (o : Option Refusal) → Refuses o (accepted_in trees) → RefusesBy (loaded_in d) o
     unfolding loaded_in
     not_accepted o h =
-        refused_next (just (document_in d)) _ document o (sym is) (refused_next (such_that (AreTrees document)) _ trees o (trees, parsed, refl) (refused_first (just (accepted_in trees)) _ o (just_refused (accepted_in trees) o h)))
+        refused_next (just formed) _ document o has_form (refused_next (such_that (AreTrees document)) _ trees o (trees, parsed, refl) (refused_first (just (accepted_in trees)) _ o (just_refused (accepted_in trees) o h)))
 
     -- all are accepted, and the net decides
     pub accepted_then : (a : Accepted) {X : Type 0} (view : X → PlainLoaded) (result : Result X LoadError) → accepted_in trees ≡ read a → LoadsBy view result (loaded_by a) → LoadsBy view result (loaded_in d)
     unfolding loaded_in
     accepted_then a view result all h =
-        loads_next view result (just (document_in d)) _ document (sym is) (loads_next view result (such_that (AreTrees document)) _ trees (trees, parsed, refl) (loads_next view result (just (accepted_in trees)) _ a (sym all) h))
+        loads_next view result (just formed) _ document has_form (loads_next view result (such_that (AreTrees document)) _ trees (trees, parsed, refl) (loads_next view result (just (accepted_in trees)) _ a (sym all) h))
 
 -- ---- the net that is made of what is accepted
 

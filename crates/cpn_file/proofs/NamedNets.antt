@@ -13,13 +13,13 @@ use Rattle.cpn_typing.specs.Consistency.{IsConsistent, variable_numbered}
 use Rattle.cpn_typing.proofs.Consistent.{required_is}
 use Rattle.cpn_typing.proofs.MeaningsInNets.{own_sets}
 use Rattle.cpn_file.specs.Reading.{read, each_from}
-use Rattle.cpn_file.specs.Trees.{PlaceTrees}
+use Rattle.cpn_parsing.specs.Trees.{PlaceTrees}
 use Rattle.cpn_file.specs.Accepted.{accepted_at, net_place}
 use Rattle.cpn_file.specs.Loading.{constructor_names, net_from}
-use Rattle.cpn_file.specs.declared.refusals.Pointer.TheVariants as pointers
+use Rattle.cpn_document.specs.declared.refusals.Pointer.TheVariants as pointers
 use Rattle.cpn_file.proofs.AcceptedTexts.{each_from_all, accepted_is}
 use Rattle.cpn_file.proofs.ListFacts.{both, passes_all}
-use Rattle.cpn_file.proofs.Readings.{same_read, steps}
+use Rattle.cpn_readings.proofs.Readings.{same_read, steps}
 
 -- as many names as constructors
 count_named : (cs : Constructors) (named : List NamedConstructor) → ((k : ℕ) → option_map argument_of (slice_get named k) ≡ argument_types (constructor_at cs k)) → count_of cs ≤ length named

@@ -15,19 +15,22 @@ use Rattle.std.specs.List.{AllByRecursion}
 use Rattle.std.specs.declared.cmp.Ordering.TheVariants.{Less, Equal, Greater}
 use Rattle.cpn_definitions.proofs.RisingLists.{IsIn, of_one_in, in_from_contains, contains_from_in}
 use Rattle.cpn_syntax.specs.Texts.{Text}
-use Rattle.cpn_syntax.specs.Depth.{depth, deepest, decl_depth}
+use Rattle.cpn_trees.specs.Depth.{depth, deepest, decl_depth}
 use Rattle.cpn_syntax.specs.Inscriptions.{Spells}
 use Rattle.cpn_syntax.specs.Declarations.{SpellsDecl}
 use Rattle.cpn_syntax.specs.Guards.{SpellsGuard}
 use Rattle.cpn_syntax.specs.Delays.{SpellsDelay}
-use Rattle.cpn_file.specs.Reading.{Refusal, Reading, read, refused, inscription, typing}
+use Rattle.cpn_readings.specs.Reading.{refused_as}
+use Rattle.cpn_document.specs.Json.{HasJson}
+use Rattle.cpn_file.specs.Reading.{Refusal, Reading, read, refused, of_form, inscription, typing}
 use Rattle.cpn_file.specs.Relations.{just, such_that, After, ◌>>=◌}
-use Rattle.cpn_file.specs.Parsing.{IsParsedAs, IsDeclaration, IsInscription, IsGuard, IsDelay}
-use Rattle.cpn_file.specs.Document.{RawPlace, RawTransition, JoinedArc, RawDocument, document_in}
-use Rattle.cpn_file.specs.Trees.{PlaceTrees, TransitionTrees, ArcTrees, DocumentTrees, EachIs, OptionIs, ArePlaceTrees, AreTransitionTrees, AreArcTrees, AreTrees}
+use Rattle.cpn_parsing.specs.Parsing.{IsParsedAs, IsDeclaration, IsInscription, IsGuard, IsDelay}
+use Rattle.cpn_document.specs.Document.{RawPlace, RawTransition, JoinedArc, RawDocument, document_in}
+use Rattle.cpn_readings.specs.ItemByItem.{EachIs, OptionIs}
+use Rattle.cpn_parsing.specs.Trees.{PlaceTrees, TransitionTrees, ArcTrees, DocumentTrees, ArePlaceTrees, AreTransitionTrees, AreArcTrees, AreTrees}
 use Rattle.cpn_file.specs.Accepted.{Accepted, accepted_in}
 use Rattle.cpn_file.specs.Loading.{PlainLoaded, with_variables, IsCompleted, net_from, IsItsNet, AreBindable, none_left, these_are, one_is_not, loaded_from}
-use Rattle.cpn_file.specs.Reads.{loaded_by, loaded_in, HasJson, IsReadingOf, IsReadAs}
+use Rattle.cpn_file.specs.Reads.{loaded_by, loaded_in, IsReadingOf, IsReadAs}
 
 -- at most one outcome
 abbrev pub HasOne : {A : Type 0} → (A → Type 0) → Type 0
@@ -176,7 +179,7 @@ by_one accepted = then_one (such_that (IsItsNet accepted)) _ (such_one (IsItsNet
 in_one : (d : Data) → HasOne (loaded_in d)
 unfolding loaded_in
 in_one d =
-    then_one (just (document_in d)) _ (just_one (document_in d)) (λ document. then_one (such_that (AreTrees document)) _ (such_one (AreTrees document) (trees_one document)) (λ trees. then_one (just (accepted_in trees)) _ (just_one (accepted_in trees)) by_one))
+    then_one (just (refused_as of_form (document_in d))) _ (just_one (refused_as of_form (document_in d))) (λ document. then_one (such_that (AreTrees document)) _ (such_one (AreTrees document) (trees_one document)) (λ trees. then_one (just (accepted_in trees)) _ (just_one (accepted_in trees)) by_one))
 
 -- bytes are one JSON value, or none
 one_value : (bytes : List ℕ) → HasOne (HasJson bytes)

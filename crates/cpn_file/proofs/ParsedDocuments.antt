@@ -2,12 +2,13 @@
 use Rattle.std.proofs.Common.{◌≡◌, ◌<◌, ◌^◌, ℕ, suc, List, [], ◌∷◌, length, map, refl, sym, ap, subst, ◌∙◌}
 use Rattle.std.specs.List.{AllByRecursion}
 use Rattle.std.proofs.lemmas.List.{length-map}
-use Rattle.cpn_file.specs.Document.{JoinedArc, RawDocument}
-use Rattle.cpn_file.specs.Formed.{IsAmong, IsFormed}
-use Rattle.cpn_file.specs.Trees.{EachIs, ArePlaceTrees, AreArcTrees, AreTrees}
-use Rattle.cpn_file.specs.TreesViews.{place_trees_view, arc_trees_view, document_trees_view}
-use Rattle.cpn_file.specs.declared.trees.ArcTrees.{ArcTrees}
-use Rattle.cpn_file.specs.declared.trees.DocumentTrees.{DocumentTrees}
+use Rattle.cpn_document.specs.Document.{JoinedArc, RawDocument}
+use Rattle.cpn_document.specs.Formed.{IsAmong, IsFormed}
+use Rattle.cpn_readings.specs.ItemByItem.{EachIs}
+use Rattle.cpn_parsing.specs.Trees.{ArePlaceTrees, AreArcTrees, AreTrees}
+use Rattle.cpn_parsing.specs.TreesViews.{place_trees_view, arc_trees_view, document_trees_view}
+use Rattle.cpn_parsing.specs.declared.trees.ArcTrees.{ArcTrees}
+use Rattle.cpn_parsing.specs.declared.trees.DocumentTrees.{DocumentTrees}
 
 each_long : {A B : Type 0} (Is : A → B → Type 0) (xs : List A) (ys : List B) → EachIs Is xs ys → length xs ≡ length ys
 each_long Is [] [] h = refl

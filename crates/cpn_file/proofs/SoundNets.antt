@@ -12,13 +12,13 @@ use Rattle.cpn_typing.specs.Multisets.{Side, input, output}
 use Rattle.cpn_typing.specs.Names.{Declared, Checked, ok}
 use Rattle.cpn_typing.proofs.MeaningfulTransitions.{accepted_is_meaningful}
 use Rattle.cpn_file.specs.Reading.{Reading, read}
-use Rattle.cpn_file.specs.Trees.{EachIs}
+use Rattle.cpn_readings.specs.ItemByItem.{EachIs}
 use Rattle.cpn_file.specs.Joining.{HasItsTerms}
 use Rattle.cpn_file.specs.Loading.{with_variables, IsCompleted, net_from, AreBindable, none_left, these_are}
 use Rattle.cpn_file.specs.Loading as loading
 use Rattle.cpn_file.proofs.AcceptedNets.{IsGoodArc, IsGoodTransition, good_accepted}
 use Rattle.cpn_file.proofs.FewArcs.{HasFewArcs}
-use Rattle.cpn_file.proofs.Readings.{same_read}
+use Rattle.cpn_readings.proofs.Readings.{same_read}
 
 -- ---- bindable variables
 

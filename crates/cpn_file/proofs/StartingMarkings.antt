@@ -12,8 +12,8 @@ use Rattle.cpn_file.specs.Accepted.{Initial}
 use Rattle.cpn_file.specs.AcceptedViews.{initial_view, initials_view}
 use Rattle.cpn_file.specs.Loading.{start_of}
 use Rattle.cpn_file.specs.Answers.{Refuses}
-use Rattle.cpn_file.proofs.ReadLists.{with_front}
-use Rattle.cpn_file.proofs.NumberedLists.{numbered_more, numbered_refused, numbered_done}
+use Rattle.cpn_readings.proofs.ReadLists.{with_front}
+use Rattle.cpn_readings.proofs.NumberedLists.{numbered_more, numbered_refused, numbered_done}
 
 abbrev pub seen : Option ArcExpr → Option Initial
 seen initial = option_map initial_view initial

@@ -1,31 +1,33 @@
--- Whatever a JSON value is read as is well loaded: a sound net that names what a report prints, with an initial marking of its places.
+-- Whatever a document of the form is read as is well loaded: a sound net that names what a report prints, with an initial marking of its places.
 use Rattle.std.proofs.Common.{◌≡◌, ◌∙◌, ℕ, suc, ◌+◌, ◌<◌, ◌≤◌, ◌^◌, Bool, true, List, [], ◌∷◌, length, refl, sym, ap, subst, arith}
 use Rattle.std.specs.List.{AllByRecursion}
-use Rattle.serde_json.specs.Data.{Data}
+use Rattle.std.specs.Prelude.{Result, Ok, Err, IfOk}
 use Rattle.cpn_definitions.specs.Bindable.{AreClosed}
 use Rattle.cpn_definitions.specs.Named.{IsNamed}
 use Rattle.cpn_definitions.specs.Net.{PlainTransition, Coloured, PlainNet}
 use Rattle.cpn_typing.specs.Consistency.{IsConsistent}
 use Rattle.cpn_typing.specs.Names.{nothing_declared}
 use Rattle.cpn_file.specs.Reading.{Reading, read, refused, check, each_from, not_served}
-use Rattle.cpn_file.specs.Relations.{just, such_that, After, ◌>>=◌}
-use Rattle.cpn_file.specs.Document.{JoinedArc, RawDocument, arcs_at, have_few_arcs, document_in}
-use Rattle.cpn_file.specs.Formed.{IsAmong, IsFormed}
-use Rattle.cpn_file.specs.Trees.{ArcTrees, DocumentTrees, EachIs, AreArcTrees, ArePlaceTrees, AreTransitionTrees, AreTrees}
+use Rattle.cpn_file.specs.Relations.{such_that, After, ◌>>=◌}
+use Rattle.cpn_document.specs.Document.{JoinedArc, RawDocument, arcs_at}
+use Rattle.cpn_document.specs.Formed.{IsAmong, IsFormed}
+use Rattle.cpn_readings.specs.ItemByItem.{EachIs}
+use Rattle.cpn_parsing.specs.Trees.{ArcTrees, DocumentTrees, AreArcTrees, ArePlaceTrees, AreTransitionTrees, AreTrees}
 use Rattle.cpn_file.specs.Accepted.{Accepted, declared_from, net_place, initial_of, bare_transition, Sides, arc_of, joined_from, inputs_of, outputs_of, accepted_in}
 use Rattle.cpn_file.specs.Joining.{HasItsTerms}
 use Rattle.cpn_file.specs.Loading.{PlainLoaded, IsCompleted, net_from, IsItsNet, AreBindable, start_of, loaded_from}
-use Rattle.cpn_file.specs.Reads.{loaded_by, loaded_in}
+use Rattle.cpn_file.specs.Reads.{loaded_by}
 use Rattle.cpn_file.specs.Served.{is_served}
 use Rattle.cpn_file.specs.WellLoaded.{IsWellLoaded}
+use Rattle.cpn_file.specs.Answers.{LoadsBy}
+use Rattle.cpn_file.specs.declared.refusals.LoadError.{LoadError}
 use Rattle.cpn_file.proofs.AcceptedNets.{IsGoodTransition, arcs_good, bare_good, joined_good}
 use Rattle.cpn_file.proofs.AcceptedTexts.{each_from_all, each_from_long, declared_good, well_accepted}
 use Rattle.cpn_file.proofs.ClosedFunctions.{functions_closed}
-use Rattle.cpn_file.proofs.FewArcs.{HasFewArcs, IsBare, bare_is, arcs_counted, arcs_many, joined_few, few_there, document_few}
-use Rattle.cpn_file.proofs.FormedDocuments.{document_formed}
+use Rattle.cpn_file.proofs.FewArcs.{HasFewArcs, IsBare, bare_is, arcs_counted, arcs_many, joined_few}
 use Rattle.cpn_file.proofs.InitialMarkings.{HaveColours, initials_have, marking_is}
 use Rattle.cpn_file.proofs.NamedNets.{named}
-use Rattle.cpn_file.proofs.Readings.{same_read, steps, checked}
+use Rattle.cpn_readings.proofs.Readings.{same_read, steps, checked}
 use Rattle.cpn_file.proofs.ServedNets.{served_is}
 use Rattle.cpn_file.proofs.SoundNets.{HasBindable, bindable_each, transitions_sound}
 
@@ -61,7 +63,7 @@ record IsGood (a : Accepted) : Type 0 where
   few_places : length a.places < 2 ^ 32
   few_transitions : length a.transitions < 2 ^ 32
 
-module _ (document : RawDocument) (formed : IsFormed document) (few : have_few_arcs (length document.the_module.transitions) document.the_module.arcs ≡ true) (trees : DocumentTrees) (are : AreTrees document trees) where
+module _ (document : RawDocument) (formed : IsFormed document) (trees : DocumentTrees) (are : AreTrees document trees) where
   places_long : length trees.places ≡ length document.the_module.places
   places_long = each_is_long ArePlaceTrees document.the_module.places trees.places are.places
 
@@ -106,7 +108,7 @@ module _ (document : RawDocument) (formed : IsFormed document) (few : have_few_a
     where
       few_at : (k count : ℕ) (sides : List Sides) → count ≡ length document.the_module.transitions → k < 0 + count → length (inputs_of k sides) + length (outputs_of k sides) ≡ arcs_at k document.the_module.arcs → length (inputs_of k sides) + length (outputs_of k sides) ≤ 64
       few_at k count sides is high same =
-          subst (λ m. m ≤ 64) (sym same) (few_there (length document.the_module.transitions) document.the_module.arcs few k (subst (λ m. k < m) is (omega (arith, high))))
+          subst (λ m. m ≤ 64) (sym same) (formed.few_arcs k (subst (λ m. k < m) is (omega (arith, high))))
 
 -- ---- the net and its initial marking
 
@@ -155,12 +157,7 @@ by_well a good loaded h =
     let Well : PlainNet → Type 0 = λ n. AllByRecursion (HasBindable n) n.transitions → loaded_from n a.initials ≡ read loaded → IsWellLoaded loaded in
     subst Well (sym its.is) (net_well a good net.0.transitions loaded its.completed) (bindable_each net.0 net.0.transitions bindable.0 bindable.1) (sym bindable.2)
 
--- The law.
-pub well_loaded : (d : Data) (loaded : PlainLoaded) → loaded_in d (read loaded) → IsWellLoaded loaded
-unfolding loaded_in
-well_loaded d loaded h =
-    let document = step_parts (just (document_in d)) _ loaded h in
-    let trees = step_parts (such_that (AreTrees document.0)) _ loaded document.2 in
-    let accepted = step_parts (just (accepted_in trees.0)) _ loaded trees.2 in
-    let is = sym document.1 in
-    by_well accepted.0 (accepted_good document.0 (document_formed d document.0 is) (document_few d document.0 is) trees.0 (such_holds (AreTrees document.0) trees.0 trees.1) accepted.0 (sym accepted.1)) loaded accepted.2
+-- The law: what is accepted of a document of the form gives a net and an initial marking that are well loaded, or is refused.
+pub well_loaded : {X : Type 0} (view : X → PlainLoaded) (result : Result X LoadError) (document : RawDocument) → IsFormed document → (trees : DocumentTrees) → AreTrees document trees → (a : Accepted) → accepted_in trees ≡ read a → LoadsBy view result (loaded_by a) → IfOk result (λ x. IsWellLoaded (view x))
+well_loaded view (Ok x) document formed trees are a all h = by_well a (accepted_good document formed trees are a all) (view x) h
+well_loaded view (Err e) document formed trees are a all h = tt

@@ -7,26 +7,26 @@ use Rattle.cpn_definitions.specs.Colour.{PlainColour}
 use Rattle.cpn_definitions.specs.Inscription.{PlainExpr, ArcInscription}
 use Rattle.cpn_definitions.specs.Bindable.{binding_terms}
 use Rattle.cpn_definitions.specs.Net.{PlainArc, PlainTransition, Coloured, nothing}
-use Rattle.cpn_syntax.specs.Trees.{PlainAst, PlainAsts}
-use Rattle.cpn_syntax.specs.DeclTrees.{PlainDecl}
+use Rattle.cpn_trees.specs.Trees.{PlainAst, PlainAsts}
+use Rattle.cpn_trees.specs.DeclTrees.{PlainDecl}
 use Rattle.cpn_typing.specs.Names.{Declared, nothing_declared, Checked, ok}
 use Rattle.cpn_typing.specs.Names as checks
 use Rattle.cpn_typing.specs.Declarations.{colour_of, declared}
 use Rattle.cpn_typing.specs.Multisets.{input, output, checked_arc, checked_init}
 use Rattle.cpn_typing.specs.GuardsAndDelays.{checked_guard, checked_delay}
-use Rattle.cpn_file.specs.Reading.{typing, inscription, Reading, read, refused, ◌>>=◌, each_from}
-use Rattle.cpn_file.specs.Parsing.{Parsing, parsed, unparsed}
-use Rattle.cpn_file.specs.Trees.{PlaceTrees, TransitionTrees, ArcTrees, DocumentTrees}
-use Rattle.cpn_file.specs.declared.document.Way.{Way}
-use Rattle.cpn_file.specs.declared.document.Way.TheVariants.{ToTransition, ToPlace, Both}
-use Rattle.cpn_file.specs.declared.refusals.Pointer.{Pointer}
-use Rattle.cpn_file.specs.declared.refusals.Pointer.TheVariants.{Declaration, Colour, Guard, Delay, Expr}
-use Rattle.cpn_file.specs.declared.refusals.Pointer.TheVariants as pointers
+use Rattle.cpn_file.specs.Reading.{no_tree, typing, inscription, Reading, read, refused, ◌>>=◌, each_from}
+use Rattle.cpn_parsing.specs.Parsing.{Parsing, parsed, unparsed}
+use Rattle.cpn_parsing.specs.Trees.{PlaceTrees, TransitionTrees, ArcTrees, DocumentTrees}
+use Rattle.cpn_document.specs.declared.document.Way.{Way}
+use Rattle.cpn_document.specs.declared.document.Way.TheVariants.{ToTransition, ToPlace, Both}
+use Rattle.cpn_document.specs.declared.refusals.Pointer.{Pointer}
+use Rattle.cpn_document.specs.declared.refusals.Pointer.TheVariants.{Declaration, Colour, Guard, Delay, Expr}
+use Rattle.cpn_document.specs.declared.refusals.Pointer.TheVariants as pointers
 
 -- the tree of a text at a place, or the refusal of the text
 abbrev pub tree_at : {A : Type 0} → Pointer → Parsing A → Reading A
 tree_at place (parsed tree) = read tree
-tree_at place (unparsed r) = refused (inscription place r)
+tree_at place (unparsed r) = refused (inscription place (no_tree r))
 
 -- what is accepted at a place, or the refusal by a rule of typing
 abbrev pub accepted_at : {A : Type 0} → Pointer → Checked A → Reading A

@@ -13,10 +13,10 @@ use Rattle.cpn_typing.specs.Names as checks
 use Rattle.cpn_typing.specs.AcceptedTransitions.{HasItsVariables}
 use Rattle.cpn_typing.specs.BindableRule.{IsBindableAnswer}
 use Rattle.cpn_file.specs.Reading.{typing, inscription, init, Reading, read, refused, ◌>>=◌, check, each_from, not_served}
-use Rattle.cpn_file.specs.Trees.{EachIs}
+use Rattle.cpn_readings.specs.ItemByItem.{EachIs}
 use Rattle.cpn_file.specs.Accepted.{Initial, Accepted}
 use Rattle.cpn_file.specs.Served.{is_served}
-use Rattle.cpn_file.specs.declared.refusals.Pointer.TheVariants.{Transition}
+use Rattle.cpn_document.specs.declared.refusals.Pointer.TheVariants.{Transition}
 
 -- A net and its initial marking.
 pub record PlainLoaded : Type 0 where

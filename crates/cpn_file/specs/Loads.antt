@@ -1,7 +1,7 @@
 -- What the program keeps of a document that it has read, as plain data.
 use Rattle.std.specs.Prelude.{map}
 use Rattle.cpn_core.specs.Nets.{place_view, transition_view, net_view}
-use Rattle.cpn_types.specs.DeclsViews.{decls_view}
+use Rattle.cpn_declared.specs.DeclsViews.{decls_view}
 use Rattle.cpn_file.specs.Accepted as plain
 use Rattle.cpn_file.specs.AcceptedViews.{initials_view}
 use Rattle.cpn_file.specs.Loading.{PlainLoaded}

@@ -1,12 +1,13 @@
 -- What the bytes of a document are read as.
 use Rattle.std.specs.Prelude.{◌≡◌, ℕ, List, Option, Some, None}
-use Rattle.std.specs.Str.{IsUtf8}
 use Rattle.serde_json.specs.Data.{Data}
-use Rattle.serde_json.specs.Read as json
-use Rattle.cpn_file.specs.Reading.{Reading, refused, not_json}
+use Rattle.cpn_readings.specs.Reading.{refused_as}
+use Rattle.cpn_document.specs.Reading.{not_json}
+use Rattle.cpn_document.specs.Json.{HasJson}
+use Rattle.cpn_document.specs.Document.{document_in}
+use Rattle.cpn_file.specs.Reading.{Reading, refused, of_form}
 use Rattle.cpn_file.specs.Relations.{just, such_that, ◌>>=◌}
-use Rattle.cpn_file.specs.Document.{document_in}
-use Rattle.cpn_file.specs.Trees.{AreTrees}
+use Rattle.cpn_parsing.specs.Trees.{AreTrees}
 use Rattle.cpn_file.specs.Accepted.{Accepted, accepted_in}
 use Rattle.cpn_file.specs.Loading.{PlainLoaded, IsItsNet, AreBindable, loaded_from}
 
@@ -21,23 +22,14 @@ loaded_by accepted = do
 -- then its net.
 unfoldable pub loaded_in : Data → Reading PlainLoaded → Type 0
 loaded_in d = do
-  document ← just (document_in d)
+  document ← just (refused_as of_form (document_in d))
   trees ← such_that (AreTrees document)
   accepted ← just (accepted_in trees)
   loaded_by accepted
 
--- the bytes are text, and as JSON they are the value
-abbrev pub IsJson : List ℕ → Data → Type 0
-IsJson bytes d = IsUtf8 bytes × (json.read bytes ≡ Some d)
-
--- the JSON value of the bytes, or none where they are none
-abbrev pub HasJson : List ℕ → Option Data → Type 0
-HasJson bytes None = (d : Data) → IsJson bytes d → ⊥
-HasJson bytes (Some d) = IsJson bytes d
-
 -- what a JSON value is read as, or no JSON value
 abbrev pub IsReadingOf : Option Data → Reading PlainLoaded → Type 0
-IsReadingOf None reading = reading ≡ refused not_json
+IsReadingOf None reading = reading ≡ refused (of_form not_json)
 IsReadingOf (Some d) reading = loaded_in d reading
 
 -- What the bytes of a document are read as: the net and the initial marking of their JSON value, or the first refusal.

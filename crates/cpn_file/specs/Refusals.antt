@@ -7,9 +7,11 @@ use Rattle.cpn_lex.specs.declared.refusals.LexError.TheVariants as lex
 use Rattle.cpn_syntax.specs.declared.refusals.SyntaxError.{SyntaxError}
 use Rattle.cpn_syntax.specs.declared.refusals.SyntaxError.TheVariants as syntax_error
 use Rattle.cpn_typing.specs.Names.{Limit, depth, nodes, variables, Refusal as TypeRefusal, unknown, duplicate, mismatch, not_closed, not_bindable, input_delay, time_not_allowed, too_many, empty_colour}
-use Rattle.cpn_file.specs.Reading.{TextRefusal, lexical, syntactic, typing, Refusal, not_json, not_yet, inscription, init}
-use Rattle.cpn_file.specs.declared.refusals.Pointer.{Pointer}
-use Rattle.cpn_file.specs.declared.refusals.Pointer.TheVariants.{Root, Declaration, Colour, Initial, Guard, Delay, Expr, Transition}
+use Rattle.cpn_document.specs.Reading.{FormRefusal, not_json, not_yet}
+use Rattle.cpn_parsing.specs.Parsing.{lexical, syntactic}
+use Rattle.cpn_file.specs.Reading.{TextRefusal, no_tree, typing, Refusal, of_form, inscription, init}
+use Rattle.cpn_document.specs.declared.refusals.Pointer.{Pointer}
+use Rattle.cpn_document.specs.declared.refusals.Pointer.TheVariants.{Root, Declaration, Colour, Initial, Guard, Delay, Expr, Transition}
 
 -- ---- places of a document
 
@@ -40,8 +42,8 @@ with_space (byte ∷ bytes) = codes " " ++ byte ∷ bytes
 
 -- the part of the language whose rule a text breaks
 abbrev pub part_name : TextRefusal → List ℕ
-part_name (lexical e) = codes "lex"
-part_name (syntactic e) = codes "syntax"
+part_name (no_tree (lexical e)) = codes "lex"
+part_name (no_tree (syntactic e)) = codes "syntax"
 part_name (typing r) = codes "type"
 
 -- the number of a refusal in its part, and its name; want of memory is none
@@ -124,18 +126,18 @@ typing_detail (too_many limit) = limit_name limit
 typing_detail (empty_colour n) = n
 
 abbrev pub text_number : TextRefusal → ℕ
-text_number (lexical e) = lexical_number e
-text_number (syntactic e) = syntactic_number e
+text_number (no_tree (lexical e)) = lexical_number e
+text_number (no_tree (syntactic e)) = syntactic_number e
 text_number (typing r) = typing_number r
 
 abbrev pub text_name : TextRefusal → List ℕ
-text_name (lexical e) = lexical_name e
-text_name (syntactic e) = syntactic_name e
+text_name (no_tree (lexical e)) = lexical_name e
+text_name (no_tree (syntactic e)) = syntactic_name e
 text_name (typing r) = typing_name r
 
 abbrev pub text_detail : TextRefusal → List ℕ
-text_detail (lexical e) = lexical_detail e
-text_detail (syntactic e) = syntactic_detail e
+text_detail (no_tree (lexical e)) = lexical_detail e
+text_detail (no_tree (syntactic e)) = syntactic_detail e
 text_detail (typing r) = typing_detail r
 
 -- ---- error lines
@@ -170,9 +172,13 @@ fault_name too_large = codes "too_large"
 unfoldable pub init_line : List ℕ → Fault → List ℕ
 init_line place fault = codes "error net flat 4 init " ++ place ++ codes " " ++ fault_name fault ++ codes "\n"
 
+-- the line of a refusal of the form
+abbrev pub form_line : FormRefusal → List ℕ
+form_line not_json = document_line 1 (codes "not_json") Root
+form_line (not_yet place) = document_line 7 (codes "not_yet") place
+
 -- The error line of a refusal.
 abbrev pub refusal_line : Refusal → List ℕ
-refusal_line not_json = document_line 1 (codes "not_json") Root
-refusal_line (not_yet place) = document_line 7 (codes "not_yet") place
+refusal_line (of_form r) = form_line r
 refusal_line (inscription place r) = inscription_line place r
 refusal_line (init place fault) = init_line place fault

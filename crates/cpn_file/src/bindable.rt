@@ -4,13 +4,14 @@ ghost use Rattle.std.specs.Prelude.{◌≡◌, true, map};
 ghost use Rattle.std.specs.List.{AllByRecursion};
 ghost use Rattle.cpn_definitions.specs.Net.{PlainNet};
 ghost use Rattle.cpn_core.specs.Nets.{transition_view};
-ghost use Rattle.cpn_types.specs.DeclsViews.{decls_view};
+ghost use Rattle.cpn_declared.specs.DeclsViews.{decls_view};
 ghost use Rattle.cpn_file.specs.Loading.{AreBindable};
 ghost use Rattle.cpn_file.specs.Answers.{LoadsBy};
 ghost use Rattle.cpn_file.specs.Joining.{HasItsTerms};
 
-use crate::refusals::{LoadError, Pointer, not_accepted};
+use crate::refusals::{LoadError, not_accepted};
 use cpn_core::Transition;
+use cpn_document::Pointer;
 use cpn_types::{Decls, check_bindable};
 use std::alloc::Global;
 

@@ -2,13 +2,14 @@
 
 ghost use Rattle.std.specs.Prelude.{map};
 ghost use Rattle.cpn_typing.specs.Names.{nothing_declared};
-ghost use Rattle.cpn_types.specs.DeclsViews.{decls_view};
+ghost use Rattle.cpn_declared.specs.DeclsViews.{decls_view};
 ghost use Rattle.cpn_file.specs.Accepted.{declared_with, declared_from};
-ghost use Rattle.cpn_file.specs.TreesViews.{declared_view};
+ghost use Rattle.cpn_parsing.specs.TreesViews.{declared_view};
 ghost use Rattle.cpn_file.specs.Answers.{Loads};
 
-use crate::parsing::Parsing;
-use crate::refusals::{LoadError, Pointer, not_accepted, not_parsed};
+use crate::refusals::{LoadError, not_accepted, not_parsed};
+use cpn_document::Pointer;
+use cpn_parsing::Parsing;
 use cpn_syntax::Declaration;
 use cpn_types::{Decls, declare};
 use std::alloc::Global;

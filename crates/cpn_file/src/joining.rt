@@ -6,7 +6,7 @@ ghost use Rattle.cpn_file.specs.Accepted.{with_first, joined_from};
 ghost use Rattle.cpn_file.specs.AcceptedViews.{sides_view, sides_views};
 ghost use Rattle.cpn_file.specs.Joining.{joined_with};
 ghost use Rattle.cpn_file.specs.Loading.{IsCompleted};
-ghost use Rattle.cpn_file.specs.Trees.{EachIs};
+ghost use Rattle.cpn_readings.specs.ItemByItem.{EachIs};
 
 use crate::arcs::Sides;
 use cpn_core::{Memory, PlaceArc, Transition};

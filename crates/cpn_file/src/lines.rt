@@ -3,13 +3,15 @@
 ghost use Rattle.std.specs.Prelude.{◌≡◌, ◌++◌, IfOk, IfSome, codes, string_bytes};
 ghost use Rattle.std.specs.Fmt.{decimal};
 ghost use Rattle.cpn_core.specs.Faults.{fault_view};
-ghost use Rattle.cpn_types.specs.Answers.{refusal_of as type_refusal_of};
-ghost use Rattle.cpn_file.specs.Refusals.{key_pointer, pointer_text as text_of_pointer, with_space, lexical_number as number_of_lexical, lexical_name as name_of_lexical, lexical_detail as detail_of_lexical, syntactic_number as number_of_syntactic, syntactic_name as name_of_syntactic, syntactic_detail as detail_of_syntactic, typing_number as number_of_typing, typing_name as name_of_typing, typing_detail as detail_of_typing, limit_name as name_of_limit, fault_name as name_of_fault, document_line, inscription_line, line_with, init_line, refusal_line};
-ghost use Rattle.cpn_file.specs.Answers.{refusal_of, text_refusal_of, load_refusal_of};
-ghost use Rattle.cpn_types.specs.Answers.{limit_view};
+ghost use Rattle.cpn_declared.specs.Answers.{refusal_of as type_refusal_of};
+ghost use Rattle.cpn_file.specs.Refusals.{key_pointer, pointer_text as text_of_pointer, with_space, lexical_number as number_of_lexical, lexical_name as name_of_lexical, lexical_detail as detail_of_lexical, syntactic_number as number_of_syntactic, syntactic_name as name_of_syntactic, syntactic_detail as detail_of_syntactic, typing_number as number_of_typing, typing_name as name_of_typing, typing_detail as detail_of_typing, limit_name as name_of_limit, fault_name as name_of_fault, document_line, form_line, inscription_line, line_with, init_line, refusal_line};
+ghost use Rattle.cpn_document.specs.Answers.{refusal_of};
+ghost use Rattle.cpn_file.specs.Answers.{text_refusal_of, load_refusal_of};
+ghost use Rattle.cpn_declared.specs.Answers.{limit_view};
 
-use crate::refusals::{DocError, LoadError, Pointer};
+use crate::refusals::LoadError;
 use cpn_core::{EvalFault, Memory};
+use cpn_document::{DocError, Pointer};
 use cpn_lex::LexError;
 use cpn_syntax::SyntaxError;
 use cpn_types::{InscriptionError, Limit, TypeError};
@@ -299,7 +301,7 @@ fn numbered_line(alloc: Global, number: u64, name: &str, place: Pointer) -> Resu
 
 /// The line of a document that is no JSON value, or not served yet.
 fn document_line_of(alloc: Global, error: &DocError) -> Result<String, Memory>
-    ensures line { IfOk result (λ line. IfSome (refusal_of error.now) (λ r. string_bytes line ≡ refusal_line r)) }
+    ensures line { IfOk result (λ line. IfSome (refusal_of error.now) (λ r. string_bytes line ≡ form_line r)) }
 {
     match error {
         DocError::Memory => Err(Memory),

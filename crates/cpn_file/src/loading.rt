@@ -3,11 +3,11 @@
 ghost use Rattle.std.specs.Prelude.{◌≡◌, ◌<◌, ◌^◌, map, length, IfOk};
 ghost use Rattle.std.specs.List.{AllByRecursion};
 ghost use Rattle.cpn_core.specs.Nets.{place_view, transition_view, net_view};
-ghost use Rattle.cpn_types.specs.DeclsViews.{decls_view};
+ghost use Rattle.cpn_declared.specs.DeclsViews.{decls_view};
 ghost use Rattle.cpn_file.specs.Accepted.{accepted_in};
 ghost use Rattle.cpn_file.specs.Loading.{net_from, loaded_from};
 ghost use Rattle.cpn_file.specs.Reads.{loaded_by};
-ghost use Rattle.cpn_file.specs.TreesViews.{document_trees_view};
+ghost use Rattle.cpn_parsing.specs.TreesViews.{document_trees_view};
 ghost use Rattle.cpn_file.specs.AcceptedViews.{initials_view};
 ghost use Rattle.cpn_file.specs.Starts.{IsMeant};
 ghost use Rattle.cpn_file.specs.WellAccepted.{IsWellAccepted};
@@ -20,11 +20,12 @@ use crate::declarations::declared;
 use crate::joining::{join_arcs, with_variables};
 use crate::marking::marking_of;
 use crate::places::{initials_of, net_places};
-use crate::refusals::{DocError, LoadError, NOT_SERVED};
+use crate::refusals::LoadError;
 use crate::served::is_served;
 use crate::transitions::bare_transitions;
-use crate::trees::DocumentTrees;
 use cpn_core::{ArcExpr, Memory, Net, Place, PlainMarking, Transition};
+use cpn_document::{DocError, Pointer};
+use cpn_parsing::DocumentTrees;
 use cpn_types::Decls;
 use std::alloc::Global;
 use std::sync::Arc;
@@ -106,7 +107,7 @@ fn started(alloc: Global, net: Net, initials: &[Option<ArcExpr>]) -> Result<Load
     ensures reads { Loads loaded_view result (loaded_from (net_view net) (initials_view initials.now)) }
 {
     if !is_served(&net) {
-        return Err(LoadError::Document(DocError::from(NOT_SERVED)));
+        return Err(LoadError::Document(DocError::NotYet(Pointer::Root)));
     }
     let initial = marking_of(alloc, &net, initials)?;
     Ok(Loaded { net, initial })

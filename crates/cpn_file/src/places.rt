@@ -3,17 +3,17 @@
 ghost use Rattle.std.specs.Prelude.{◌≡◌, Some, map, option_map, length, string_bytes, IfOk};
 ghost use Rattle.cpn_core.specs.Colours.{colour_view};
 ghost use Rattle.cpn_core.specs.Nets.{place_view as net_place_view};
-ghost use Rattle.cpn_types.specs.DeclsViews.{decls_view};
+ghost use Rattle.cpn_declared.specs.DeclsViews.{decls_view};
 ghost use Rattle.cpn_file.specs.Reading.{each_from};
 ghost use Rattle.cpn_file.specs.Accepted.{flattened as flattened_name, net_place as net_place_in, initial_at, initial_of as initial_in};
-ghost use Rattle.cpn_file.specs.TreesViews.{tree_view, place_trees_view};
+ghost use Rattle.cpn_parsing.specs.TreesViews.{tree_view, place_trees_view};
 ghost use Rattle.cpn_file.specs.AcceptedViews.{initial_view, initials_view};
 ghost use Rattle.cpn_file.specs.Answers.{Loads, IsUnknown};
 
-use crate::parsing::Parsing;
-use crate::refusals::{LoadError, Pointer, not_accepted, not_parsed};
-use crate::trees::PlaceTrees;
+use crate::refusals::{LoadError, not_accepted, not_parsed};
 use cpn_core::{ArcExpr, Colour, Place};
+use cpn_document::Pointer;
+use cpn_parsing::{Parsing, PlaceTrees};
 use cpn_syntax::Inscription;
 use cpn_types::{Decls, InscriptionError, TypeError, check_init};
 use std::alloc::{AllocError, Global};

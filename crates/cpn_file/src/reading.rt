@@ -9,16 +9,17 @@ ghost use Rattle.cpn_file.specs.Reads.{loaded_in, IsReadAs};
 ghost use Rattle.cpn_file.specs.WellLoaded.{IsWellLoaded};
 ghost use Rattle.cpn_file.specs.Answers.{Loads, LoadsBy, load_refusal_of};
 
-use crate::form::document_of;
 use crate::loading::{Loaded, accepted_of, loaded_from_accepted};
-use crate::refusals::{DocError, LoadError};
-use crate::trees::document_trees;
+use crate::refusals::LoadError;
+use cpn_document::{document_of, value_of};
+use cpn_parsing::document_trees;
 use serde_json::Value;
 use std::alloc::Global;
 
 /// The form of the document first, whole; then its texts, parsed and checked; then its net.
 fn loaded_of(alloc: Global, value: &Value) -> Result<Loaded, LoadError>
     ensures reads { LoadsBy loaded_view result (loaded_in (view value.now)) }
+    ensures well_loaded { IfOk result (λ loaded. IsWellLoaded (loaded_view loaded)) }
 {
     let document = document_of(alloc, value)?;
     let trees = document_trees(alloc, &document)?;
@@ -47,17 +48,7 @@ pub fn load(alloc: Global, bytes: &[u8]) -> Result<Loaded, LoadError>
     // Whatever the bytes are read as is answered, but for want of memory.
     ensures complete { (reading : Reading PlainLoaded) → IsReadAs bytes.now reading → Loads loaded_view result reading }
 {
-    match Value::from_slice(alloc, bytes) {
-        Ok(value) => {
-            let loaded = loaded_of(alloc, &value)?;
-            Ok(loaded)
-        }
-        Err(error) => {
-            if error.is_memory() {
-                Err(LoadError::Memory)
-            } else {
-                Err(LoadError::Document(DocError::NotJson))
-            }
-        }
-    }
+    let value = value_of(alloc, bytes)?;
+    let loaded = loaded_of(alloc, &value)?;
+    Ok(loaded)
 }

@@ -3,17 +3,17 @@
 ghost use Rattle.std.specs.Prelude.{map, option_map, Some};
 ghost use Rattle.cpn_core.specs.Inscriptions.{expr_view};
 ghost use Rattle.cpn_core.specs.Nets.{transition_view};
-ghost use Rattle.cpn_types.specs.DeclsViews.{decls_view};
+ghost use Rattle.cpn_declared.specs.DeclsViews.{decls_view};
 ghost use Rattle.cpn_file.specs.Reading.{each_from};
 ghost use Rattle.cpn_file.specs.Accepted.{guard_at, delay_at, bare_transition as bare_transition_in};
-ghost use Rattle.cpn_file.specs.TreesViews.{tree_view, conjuncts_view, transition_trees_view};
+ghost use Rattle.cpn_parsing.specs.TreesViews.{tree_view, conjuncts_view, transition_trees_view};
 ghost use Rattle.cpn_file.specs.Answers.{Loads};
 
-use crate::parsing::Parsing;
 use crate::places::flattened;
-use crate::refusals::{LoadError, Pointer, not_accepted, not_parsed};
-use crate::trees::TransitionTrees;
+use crate::refusals::{LoadError, not_accepted, not_parsed};
 use cpn_core::{Expr, Guard, Transition};
+use cpn_document::Pointer;
+use cpn_parsing::{Parsing, TransitionTrees};
 use cpn_syntax::Inscription;
 use cpn_types::{Decls, check_delay, check_guard};
 use std::alloc::Global;

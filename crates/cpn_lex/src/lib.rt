@@ -20,6 +20,3 @@ pub use lexing::lex;
 pub use refusals::LexError;
 pub use symbols::Symbol;
 pub use tokens::{Kind, Token, Tokens};
-
-#[cfg(test)]
-mod tests;

@@ -12,8 +12,6 @@ mod lines;
 mod names;
 mod places;
 mod reports;
-#[cfg(test)]
-mod tests;
 mod traces;
 mod values;
 

@@ -12,4 +12,3 @@ pub mod KnownTransitions
 pub mod ValuesPassing
 pub mod Transitions
 pub mod TransitionAssignments
-pub mod WorkedNets

@@ -4,4 +4,3 @@ pub mod Stretches
 pub mod Found
 pub mod FoundViews
 pub mod Known
-pub mod Worked

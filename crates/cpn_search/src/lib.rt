@@ -10,7 +10,5 @@ mod candidates;
 mod earliest;
 mod lone;
 mod searching;
-#[cfg(test)]
-mod tests;
 
 pub use searching::{enabled, enabled_of};

@@ -4,7 +4,7 @@ use Rattle.std.proofs.lemmas.Option.{same_Some}
 use Rattle.std.specs.Option.{MatchOption}
 use Rattle.std.specs.Io.KnownBytes.{Appends}
 use Rattle.cpn_file.specs.Loading.{PlainLoaded}
-use Rattle.cpn_file.specs.Reading.{Refusal, not_json, not_yet, inscription, init, Reading, read, refused}
+use Rattle.cpn_file.specs.Reading.{Refusal, of_form, inscription, init, Reading, read, refused}
 use Rattle.cpn_file.specs.Reads.{IsReadAs}
 use Rattle.cpn_file.specs.Refusals.{refusal_line}
 use Rattle.cpn_io.specs.Outside.{Rose}
@@ -72,8 +72,7 @@ is_of_document statuses.Memory = false
 is_of_document statuses.TooLong = false
 
 of_its_status : (r : Refusal) → is_of_document (status_of_document r) ≡ true
-of_its_status not_json = refl
-of_its_status (not_yet place) = refl
+of_its_status (of_form reason) = refl
 of_its_status (inscription place reason) = refl
 of_its_status (init place fault) = refl
 

@@ -2,18 +2,13 @@
 use Rattle.std.proofs.Common.{◌≡◌, ℕ, ◌≤◌, true, false, List, length, Option, Some, None, IfSome, refl, sym, subst}
 use Rattle.std.specs.Prelude.{option_map, not, is_some}
 use Rattle.std.specs.Option.{MatchOption}
-use Rattle.cpn_file.specs.Reading.{TextRefusal, Refusal, inscription, refused}
+use Rattle.cpn_file.specs.Reading.{Refusal, refused}
 use Rattle.cpn_file.specs.Reads.{IsReadAs}
-use Rattle.cpn_file.specs.Answers.{refusal_of}
-use Rattle.cpn_file.specs.declared.refusals.Pointer.{Pointer}
-use Rattle.cpn_file.specs.declared.refusals.DocError.{DocError}
-use Rattle.cpn_file.specs.declared.refusals.DocError.TheVariants.{Memory, NotJson, NotYet}
 use Rattle.cpn_sim.specs.Limits.{most_bytes}
-use Rattle.cpn_sim.specs.Causes.{PlainRefusal, bad_document, GiveOptions, HasCause, HaveOneReading, IsReadOnce, status_of_document}
+use Rattle.cpn_sim.specs.Causes.{PlainRefusal, bad_document, GiveOptions, HasCause, HaveOneReading, IsReadOnce}
 use Rattle.cpn_sim.specs.RefusalViews.{refusal_view}
 use Rattle.cpn_sim.specs.declared.refusals.Refusal.{Refusal as TheRefusal}
 use Rattle.cpn_sim.specs.declared.refusals.Refusal.TheVariants as refusals
-use Rattle.cpn_sim.specs.declared.statuses.Status.TheVariants as statuses
 
 -- ---- want of memory
 
@@ -26,19 +21,6 @@ no_refusal (Some r) is = absurd cc
 pub a_refusal : {A : Type 0} (o : Option Refusal) → false ≡ not (is_some o) → option_map bad_document o ≡ None → A
 a_refusal None is none = absurd cc
 a_refusal (Some r) is none = absurd cc
-
--- ---- statuses
-
--- that of a document that is no JSON value or not served yet
-pub of_form : (e : DocError) → IfSome (refusal_of e) (λ r. statuses.BadDocument ≡ status_of_document r)
-of_form Memory = tt
-of_form NotJson = refl
-of_form (NotYet place) = refl
-
--- that of one with a text that is refused
-pub of_text : (place : Pointer) (o : Option TextRefusal) → IfSome (option_map (inscription place) o) (λ r. statuses.BadInscription ≡ status_of_document r)
-of_text place None = tt
-of_text place (Some reason) = refl
 
 -- ---- causes
 

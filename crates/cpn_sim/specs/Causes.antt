@@ -2,7 +2,7 @@
 -- reading of the source, its length, the document. Source: own choice.
 use Rattle.std.specs.Prelude.{◌≡◌, ℕ, ◌<◌, ◌≤◌, ◌⊎◌, List, length, codes, Option, Some, None, IfSome}
 use Rattle.cpn_file.specs.Loading.{PlainLoaded}
-use Rattle.cpn_file.specs.Reading.{Refusal, not_json, not_yet, inscription, init, Reading, refused}
+use Rattle.cpn_file.specs.Reading.{Refusal, of_form, inscription, init, Reading, refused}
 use Rattle.cpn_file.specs.Reads.{IsReadAs}
 use Rattle.cpn_file.specs.Refusals.{refusal_line}
 use Rattle.cpn_io.specs.Outside.{Rose, AppendsProperPrefix}
@@ -55,8 +55,7 @@ error_line (bad_document refusal) = refusal_line refusal
 -- The status of a refusal of the document: of what is no JSON value or is not served yet, of a text or the variables of a
 -- transition, or of an initial marking.
 abbrev pub status_of_document : Refusal → Status
-status_of_document not_json = statuses.BadDocument
-status_of_document (not_yet place) = statuses.BadDocument
+status_of_document (of_form reason) = statuses.BadDocument
 status_of_document (inscription place reason) = statuses.BadInscription
 status_of_document (init place fault) = statuses.BadNet
 

@@ -3,11 +3,11 @@
 use Rattle.std.proofs.Common.{◌≡◌, ℕ, ◌≤◌, List, [], ◌∷◌, ◌++◌, refl, sym, ap, ◌∙◌, append_assoc, arith}
 use Rattle.cpn_lex.specs.Token.{PlainToken}
 use Rattle.cpn_lex.specs.declared.symbols.Symbol.TheVariants as sign
-use Rattle.cpn_syntax.specs.declared.operators.Infix.{Infix}
-use Rattle.cpn_syntax.specs.declared.operators.Infix.TheVariants as op
+use Rattle.cpn_trees.specs.declared.operators.Infix.{Infix}
+use Rattle.cpn_trees.specs.declared.operators.Infix.TheVariants as op
 use Rattle.cpn_syntax.specs.Texts.{Text, Is, IsName, place}
 use Rattle.cpn_syntax.specs.Patterns.{SpellsPat}
-use Rattle.cpn_syntax.specs.Trees.{PlainPat, PlainAst, ast, sum, case_of, PlainAsts, no_ast, more_asts, PlainArms, more_arms, PlainLocals, no_local, more_locals}
+use Rattle.cpn_trees.specs.Trees.{PlainPat, PlainAst, ast, sum, case_of, PlainAsts, no_ast, more_asts, PlainArms, more_arms, PlainLocals, no_local, more_locals}
 use Rattle.cpn_syntax.specs.Inscriptions.{precedence, left, Spells, if_line, case_line, fold_line, sum_line, stamp_line, infix_line, not_line, negate_line, component_line, number_line, text_line, true_line, false_line, empty_line, time_line, name_line, call_line, unit_line, group_line, tuple_line, no_items_line, items_line, let_line, SpellsParts, last_part, next_part, SpellsTerms, last_term, next_term, SpellsArms, last_arm, next_arm, SpellsLocals, last_local, next_local}
 use Rattle.cpn_syntax.specs.OpenForms.{PlainOpen, subject, arm, terms, group, items, arguments, local, body, Opens, wanted, wants, after_asts, after_arms, after_locals}
 use Rattle.cpn_syntax.specs.Completions as done

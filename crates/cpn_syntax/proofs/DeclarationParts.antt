@@ -10,11 +10,11 @@ use Rattle.cpn_syntax.specs.Inscriptions.{Spells}
 use Rattle.cpn_syntax.specs.Completions.{Closes, nothing_more, semicolon, at_end, at_semicolon}
 use Rattle.cpn_syntax.specs.Phrases.{One, one, Optional, present, absent, Each, last_one, Names}
 use Rattle.cpn_syntax.specs.Endings.{No, EndsBody}
-use Rattle.cpn_syntax.specs.DeclTrees.{PlainAlternative, PlainParameter, PlainBody, unit, bool, int, int_range, string, enumeration, product, list, union, named, PlainDecl, decl, colour_set, variables, value, function, form_view}
+use Rattle.cpn_trees.specs.DeclTrees.{PlainAlternative, PlainParameter, PlainBody, unit, bool, int, int_range, string, enumeration, product, list, union, named, PlainDecl, decl, colour_set, variables, value, function, form_view}
 use Rattle.cpn_syntax.specs.Declarations as line
 use Rattle.cpn_syntax.specs.Declarations.{SpellsAlternative, SpellsParameter, SpellsBody, SpellsForm, SpellsDecl}
 use Rattle.cpn_syntax.specs.Fragments.{Whole, whole, Leaves, ReadsAs, Halts}
-use Rattle.cpn_syntax.specs.declared.declaration_trees.DeclForm.{DeclForm}
+use Rattle.cpn_trees.specs.declared.declaration_trees.DeclForm.{DeclForm}
 use Rattle.cpn_syntax.specs.declared.refusals.SyntaxError.{SyntaxError}
 use Rattle.cpn_syntax.specs.declared.refusals.SyntaxError.TheVariants.{Unexpected, EndOfText}
 use Rattle.cpn_syntax.proofs.Fragments.{Then, next, Sign, Can, leaves_same, leaves_token, halts_at_once, split_whole, empty_front, whole_ends, other_sign}

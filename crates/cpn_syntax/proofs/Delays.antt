@@ -4,7 +4,7 @@ use Rattle.cpn_lex.specs.declared.symbols.Symbol.TheVariants as sign
 use Rattle.cpn_syntax.specs.Texts.{Text, Is}
 use Rattle.cpn_syntax.specs.Unread.{Reads}
 use Rattle.cpn_syntax.specs.Endings.{No}
-use Rattle.cpn_syntax.specs.Trees.{PlainAst}
+use Rattle.cpn_trees.specs.Trees.{PlainAst}
 use Rattle.cpn_syntax.specs.Inscriptions.{Spells, sum_line, stamp_line, infix_line, if_line, case_line, fold_line, not_line, negate_line, component_line, number_line, text_line, true_line, false_line, empty_line, time_line, name_line, call_line, unit_line, group_line, tuple_line, no_items_line, items_line, let_line}
 use Rattle.cpn_syntax.specs.Completions.{Closes, nothing_more}
 use Rattle.cpn_syntax.specs.Delays.{SpellsDelay, delay_line, later_line}

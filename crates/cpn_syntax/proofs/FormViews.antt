@@ -1,14 +1,14 @@
 -- What the plain inscription of a form is, one level at a time.
 use Rattle.std.proofs.Common.{◌≡◌, ℕ, ℤ, Bool, map, Box, String, Vec, Global, rules, string_bytes}
-use Rattle.cpn_syntax.specs.declared.operators.Infix.{Infix}
-use Rattle.cpn_syntax.specs.declared.operators.Prefix.{Prefix}
-use Rattle.cpn_syntax.specs.declared.trees.Ast.{Ast}
-use Rattle.cpn_syntax.specs.declared.trees.Arm.{Arm}
-use Rattle.cpn_syntax.specs.declared.trees.LocalValue.{LocalValue}
-use Rattle.cpn_syntax.specs.declared.trees.Form.{the_lemmas}
-use Rattle.cpn_syntax.specs.declared.trees.Form.TheVariants as form
-use Rattle.cpn_syntax.specs.Trees.{number, text, truth, empty, time, name, call, unit, tuple, list, let_in, prefixed, infixed, stamped, sum, if_else, case_of, fold, asts_from}
-use Rattle.cpn_syntax.specs.AstViews.{form_view, ast_view, arm_view, local_view, arms_from, locals_from}
+use Rattle.cpn_trees.specs.declared.operators.Infix.{Infix}
+use Rattle.cpn_trees.specs.declared.operators.Prefix.{Prefix}
+use Rattle.cpn_trees.specs.declared.trees.Ast.{Ast}
+use Rattle.cpn_trees.specs.declared.trees.Arm.{Arm}
+use Rattle.cpn_trees.specs.declared.trees.LocalValue.{LocalValue}
+use Rattle.cpn_trees.specs.declared.trees.Form.{the_lemmas}
+use Rattle.cpn_trees.specs.declared.trees.Form.TheVariants as form
+use Rattle.cpn_trees.specs.Trees.{number, text, truth, empty, time, name, call, unit, tuple, list, let_in, prefixed, infixed, stamped, sum, if_else, case_of, fold, asts_from}
+use Rattle.cpn_trees.specs.AstViews.{form_view, ast_view, arm_view, local_view, arms_from, locals_from}
 
 pub view_number : (z : ℤ) → form_view (form.Number z) ≡ number z
 view_number z = search (rules, the_lemmas)

@@ -6,13 +6,13 @@ use Rattle.cpn_lex.specs.Token.{PlainToken, PlainKind}
 use Rattle.cpn_lex.specs.Token as token
 use Rattle.cpn_lex.specs.declared.symbols.Symbol.TheVariants as sign
 use Rattle.cpn_syntax.specs.declared.refusals.SyntaxError.{SyntaxError}
-use Rattle.cpn_syntax.specs.declared.trees.Ast.{Ast}
-use Rattle.cpn_syntax.specs.declared.trees.Form.{the_lemmas}
-use Rattle.cpn_syntax.specs.declared.trees.Form.TheViews as view
-use Rattle.cpn_syntax.specs.AstViews.{ast_view}
+use Rattle.cpn_trees.specs.declared.trees.Ast.{Ast}
+use Rattle.cpn_trees.specs.declared.trees.Form.{the_lemmas}
+use Rattle.cpn_trees.specs.declared.trees.Form.TheViews as view
+use Rattle.cpn_trees.specs.AstViews.{ast_view}
 use Rattle.cpn_syntax.specs.Texts.{Text, Is}
 use Rattle.cpn_syntax.specs.Unread.{Begins}
-use Rattle.cpn_syntax.specs.Trees.{PlainAst, ast, list, PlainAsts, no_ast, more_asts, asts_from}
+use Rattle.cpn_trees.specs.Trees.{PlainAst, ast, list, PlainAsts, no_ast, more_asts, asts_from}
 use Rattle.cpn_syntax.specs.Inscriptions.{Spells, items_line, group_line, SpellsParts, last_part, next_part}
 use Rattle.cpn_syntax.specs.Completions.{Closes, nothing_more}
 use Rattle.cpn_syntax.specs.Guards.{IsInBrackets, SpellsGuard, conjuncts_line, inscription_line, conjuncts_of}

@@ -6,7 +6,7 @@ use Rattle.cpn_lex.specs.Token as token
 use Rattle.cpn_lex.specs.declared.symbols.Symbol.{Symbol}
 use Rattle.cpn_lex.specs.declared.symbols.Symbol.TheVariants as sign
 use Rattle.cpn_syntax.specs.declared.following_tokens.Joint.{Joint}
-use Rattle.cpn_syntax.specs.declared.operators.Infix.TheVariants as op
+use Rattle.cpn_trees.specs.declared.operators.Infix.TheVariants as op
 use Rattle.cpn_syntax.specs.Texts.{Text, Is}
 use Rattle.cpn_syntax.specs.Unread.{Begins}
 use Rattle.cpn_syntax.specs.Inscriptions.{precedence, left}

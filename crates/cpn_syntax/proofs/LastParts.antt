@@ -1,7 +1,7 @@
 -- The parts, arms and values of a plain inscription, from those before the last one and the last one.
 use Rattle.std.proofs.Common.{◌≡◌, ℕ, List, [], ◌∷◌, ◌++◌, refl, ap}
-use Rattle.cpn_syntax.specs.Trees.{PlainPat, PlainAst, no_ast, more_asts, asts_from, no_arm, more_arms, no_local, more_locals}
-use Rattle.cpn_syntax.specs.AstViews.{arms_from, locals_from}
+use Rattle.cpn_trees.specs.Trees.{PlainPat, PlainAst, no_ast, more_asts, asts_from, no_arm, more_arms, no_local, more_locals}
+use Rattle.cpn_trees.specs.AstViews.{arms_from, locals_from}
 use Rattle.cpn_syntax.specs.OpenForms.{after_asts, after_arms, after_locals}
 
 pub asts_with_last : (parts : List PlainAst) (c : PlainAst) → asts_from (parts ++ c ∷ []) ≡ after_asts parts (more_asts c no_ast)

@@ -22,7 +22,6 @@ pub mod Fragments
 pub mod Phrases
 pub mod DeclarationParts
 pub mod WholeInscriptions
-mod Sizes
 pub mod Shapes
 pub mod Parses
 pub mod Guards

@@ -3,13 +3,13 @@ use Rattle.std.proofs.Common.{◌≡◌, ℕ, ℤ, ◌<◌, ◌≤◌, min, List
 use Rattle.cpn_lex.specs.Token.{PlainToken}
 use Rattle.cpn_lex.specs.declared.symbols.Symbol.TheVariants as sign
 use Rattle.cpn_syntax.specs.declared.refusals.SyntaxError.{SyntaxError}
-use Rattle.cpn_syntax.specs.declared.operators.Infix.{Infix}
-use Rattle.cpn_syntax.specs.declared.operators.Prefix.{Prefix}
+use Rattle.cpn_trees.specs.declared.operators.Infix.{Infix}
+use Rattle.cpn_trees.specs.declared.operators.Prefix.{Prefix}
 use Rattle.cpn_syntax.specs.Texts.{Text, Is, IsName, IsNumber}
 use Rattle.cpn_syntax.specs.Faults.{fault_at}
 use Rattle.cpn_syntax.specs.PatternReadings.{IsReadAsPattern, BreaksOffInPattern}
 use Rattle.cpn_syntax.specs.Inscriptions.{sign_of, precedence, left, right}
-use Rattle.cpn_syntax.specs.Trees.{PlainPat, PlainAst, ast, call, tuple, list, let_in, prefixed, infixed, stamped, sum, if_else, case_of, fold, no_ast, more_asts, asts_from, no_arm, more_arms, no_local}
+use Rattle.cpn_trees.specs.Trees.{PlainPat, PlainAst, ast, call, tuple, list, let_in, prefixed, infixed, stamped, sum, if_else, case_of, fold, no_ast, more_asts, asts_from, no_arm, more_arms, no_local}
 use Rattle.cpn_syntax.specs.OpenForms.{condition, consequence, alternative, subject, arm, fold_list, fold_start, fold_body, terms, behind, front, group, items, arguments, local, body, Opens, wants, after_asts, after_arms, after_locals}
 use Rattle.cpn_syntax.specs.Completions.{Closing, Wants}
 use Rattle.cpn_syntax.specs.Progress.{Agrees}

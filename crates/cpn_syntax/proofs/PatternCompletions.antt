@@ -3,7 +3,7 @@
 use Rattle.std.proofs.Common.{◌≡◌, ℕ, ◌≤◌, List, [], ◌∷◌, ◌++◌, refl, sym, ap, ◌∙◌, append_assoc, arith}
 use Rattle.cpn_lex.specs.Token.{PlainToken}
 use Rattle.cpn_syntax.specs.Texts.{Text, Is, place}
-use Rattle.cpn_syntax.specs.Trees.{PlainPat, pat, pat_tuple, PlainPats, no_pat, more_pats, pats_from}
+use Rattle.cpn_trees.specs.Trees.{PlainPat, pat, pat_tuple, PlainPats, no_pat, more_pats, pats_from}
 use Rattle.cpn_syntax.specs.Patterns.{SpellsPat, cons_line, name_line, any_line, number_line, text_line, true_line, false_line, call_line, unit_line, group_line, tuple_line, no_items_line, items_line, SpellsPats, last_pat, next_pat}
 use Rattle.cpn_syntax.specs.OpenPatterns.{PlainBracket, round, square, call, inside, OpenPats, opens_round, opens_square, opens_call, closing, bracketed}
 use Rattle.cpn_syntax.specs.PatternCompletions.{a_name, an_underscore, a_number, a_text, a_true, a_false, a_unit, no_items, WantsPat, simple, begin_bracket, HasPat, cons_sign, end_cons, next_inside, end_bracket, end_pattern}

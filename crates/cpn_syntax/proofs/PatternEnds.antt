@@ -7,7 +7,7 @@ use Rattle.cpn_syntax.specs.Texts.{Text, Is}
 use Rattle.cpn_syntax.specs.Faults.{fault_at}
 use Rattle.cpn_syntax.specs.Unread.{Begins}
 use Rattle.cpn_syntax.specs.Progress.{Leads}
-use Rattle.cpn_syntax.specs.Trees.{PlainPat}
+use Rattle.cpn_trees.specs.Trees.{PlainPat}
 use Rattle.cpn_syntax.specs.PatternCompletions.{end_pattern}
 use Rattle.cpn_syntax.specs.ReadPatterns.{wanting, whole, none_open, ReadPat, TakesPat}
 use Rattle.cpn_syntax.specs.PatternReadings.{IsReadAsPattern, BreaksOffInPattern}

@@ -7,7 +7,7 @@ use Rattle.cpn_lex.specs.declared.symbols.Symbol.{Symbol}
 use Rattle.cpn_lex.specs.declared.symbols.Symbol.TheVariants as sign
 use Rattle.cpn_syntax.specs.Texts.{Text, Is}
 use Rattle.cpn_syntax.specs.Unread.{Begins}
-use Rattle.cpn_syntax.specs.Trees.{PlainPat, pat, any, pat_name, pat_number, pat_text, pat_truth, pat_unit, pat_list, pat_cons, no_pat, pats_from}
+use Rattle.cpn_trees.specs.Trees.{PlainPat, pat, any, pat_name, pat_number, pat_text, pat_truth, pat_unit, pat_list, pat_cons, no_pat, pats_from}
 use Rattle.cpn_syntax.specs.OpenPatterns.{PlainBracket, round, square, call, behind, inside, OpenPats, opens_round, opens_square, opens_call, closing, bracketed}
 use Rattle.cpn_syntax.specs.PatternCompletions.{a_name, an_underscore, a_number, a_text, a_true, a_false, a_unit, no_items, WantsPat, simple, begin_bracket, HasPat, cons_sign, end_cons, next_inside, end_bracket, end_pattern}
 

@@ -9,7 +9,7 @@ use Rattle.cpn_syntax.specs.Texts.{Text, Is, IsName, IsNumber, IsText, place}
 use Rattle.cpn_syntax.specs.Faults.{fault_at}
 use Rattle.cpn_syntax.specs.Unread.{Begins}
 use Rattle.cpn_syntax.specs.Progress.{Agrees, Leads}
-use Rattle.cpn_syntax.specs.Trees.{PlainPat, pat, PlainPatForm, any, pat_name, pat_number, pat_text, pat_truth, pat_unit, pat_list, pat_cons, no_pat, pats_from}
+use Rattle.cpn_trees.specs.Trees.{PlainPat, pat, PlainPatForm, any, pat_name, pat_number, pat_text, pat_truth, pat_unit, pat_list, pat_cons, no_pat, pats_from}
 use Rattle.cpn_syntax.specs.Patterns.{SpellsPat, cons_line}
 use Rattle.cpn_syntax.specs.OpenPatterns.{PlainBracket, round, square, call, behind, inside, OpenPats, OpensBracket, opens_round, opens_square, opens_call, closing, bracketed}
 use Rattle.cpn_syntax.specs.PatternCompletions.{SpellsSimple, a_name, an_underscore, a_number, a_text, a_true, a_false, a_unit, no_items, WantsPat, HasPat}

@@ -1,13 +1,13 @@
 -- One level of a pattern.
 use Rattle.std.proofs.Common.{◌≡◌, ℕ, ℤ, Bool, Box, Global, Vec, String, string_bytes, rules}
-use Rattle.cpn_syntax.specs.Trees.{pat, any, pat_name, pat_number, pat_text, pat_truth, pat_call, pat_unit, pat_tuple, pat_list, pat_cons, pats_from}
-use Rattle.cpn_syntax.specs.PatViews.{pat_view}
-use Rattle.cpn_syntax.specs.PatForms.{pat_form_view}
+use Rattle.cpn_trees.specs.Trees.{pat, any, pat_name, pat_number, pat_text, pat_truth, pat_call, pat_unit, pat_tuple, pat_list, pat_cons, pats_from}
+use Rattle.cpn_trees.specs.PatViews.{pat_view}
+use Rattle.cpn_trees.specs.PatForms.{pat_form_view}
 use Rattle.cpn_syntax.specs.OpenPatViews.{parts_view}
-use Rattle.cpn_syntax.specs.declared.patterns.Pat.{Pat}
-use Rattle.cpn_syntax.specs.declared.patterns.PatForm.{PatForm, the_lemmas}
-use Rattle.cpn_syntax.specs.declared.patterns.PatForm.TheVariants as form
-use Rattle.cpn_syntax.specs.declared.patterns.PatForm.TheViews.{roll-Pat, Call, Tuple, List as ListOf, Cons}
+use Rattle.cpn_trees.specs.declared.patterns.Pat.{Pat}
+use Rattle.cpn_trees.specs.declared.patterns.PatForm.{PatForm, the_lemmas}
+use Rattle.cpn_trees.specs.declared.patterns.PatForm.TheVariants as form
+use Rattle.cpn_trees.specs.declared.patterns.PatForm.TheViews.{roll-Pat, Call, Tuple, List as ListOf, Cons}
 
 pub view_pat : (at : ℕ) (form : PatForm) → pat_view (roll-Pat (record { at = at; form = form })) ≡ pat at (pat_form_view form)
 view_pat at form = search (rules, the_lemmas)

@@ -5,7 +5,7 @@ use Rattle.cpn_lex.specs.Token as token
 use Rattle.cpn_lex.specs.declared.symbols.Symbol.{Symbol}
 use Rattle.cpn_lex.specs.declared.symbols.Symbol.TheVariants as sign
 use Rattle.cpn_syntax.specs.Texts.{Text, Is, place}
-use Rattle.cpn_syntax.specs.Trees.{PlainPat, pat, PlainPatForm, PlainPats, pats_from}
+use Rattle.cpn_trees.specs.Trees.{PlainPat, pat, PlainPatForm, PlainPats, pats_from}
 use Rattle.cpn_syntax.specs.Patterns.{SpellsPat, cons_line, name_line, any_line, number_line, text_line, true_line, false_line, call_line, unit_line, group_line, tuple_line, no_items_line, items_line, SpellsPats, last_pat, next_pat}
 use Rattle.cpn_syntax.specs.OpenPatterns.{PlainBracket, OpenPats, OpensBracket, opens_round, opens_square, opens_call, closing, bracketed}
 use Rattle.cpn_syntax.specs.PatternCompletions.{SpellsSimple, a_name, an_underscore, a_number, a_text, a_true, a_false, a_unit, no_items}

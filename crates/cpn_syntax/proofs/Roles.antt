@@ -5,10 +5,10 @@ use Rattle.cpn_lex.specs.Token.{PlainToken, PlainKind}
 use Rattle.cpn_lex.specs.Token as token
 use Rattle.cpn_lex.specs.declared.symbols.Symbol.{Symbol}
 use Rattle.cpn_lex.specs.declared.symbols.Symbol.TheVariants as sign
-use Rattle.cpn_syntax.specs.declared.operators.Infix.{Infix}
-use Rattle.cpn_syntax.specs.declared.operators.Infix.TheVariants as op
+use Rattle.cpn_trees.specs.declared.operators.Infix.{Infix}
+use Rattle.cpn_trees.specs.declared.operators.Infix.TheVariants as op
 use Rattle.cpn_syntax.specs.Texts.{Text, Is}
-use Rattle.cpn_syntax.specs.Trees.{PlainAst}
+use Rattle.cpn_trees.specs.Trees.{PlainAst}
 use Rattle.cpn_syntax.specs.Inscriptions.{sign_of, precedence, left, right}
 use Rattle.cpn_syntax.specs.OpenForms.{Opens}
 use Rattle.cpn_syntax.specs.Completions as done

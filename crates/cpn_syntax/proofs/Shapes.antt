@@ -3,8 +3,8 @@ use Rattle.std.proofs.Common.{◌≡◌, ℕ, Bool, true, ◌&&◌, List, refl}
 use Rattle.cpn_lex.specs.declared.symbols.Symbol.{Symbol}
 use Rattle.cpn_syntax.specs.Texts.{Text}
 use Rattle.cpn_syntax.specs.Phrases.{Each, last_one, next_one}
-use Rattle.cpn_syntax.specs.Trees.{PlainPat, PlainPats, PlainAst, PlainAsts, PlainArms, PlainLocals}
-use Rattle.cpn_syntax.specs.DeclTrees.{PlainBody, PlainDecl}
+use Rattle.cpn_trees.specs.Trees.{PlainPat, PlainPats, PlainAst, PlainAsts, PlainArms, PlainLocals}
+use Rattle.cpn_trees.specs.DeclTrees.{PlainBody, PlainDecl}
 use Rattle.cpn_syntax.specs.Patterns as p
 use Rattle.cpn_syntax.specs.Patterns.{SpellsPat, SpellsPats}
 use Rattle.cpn_syntax.specs.Inscriptions as e
@@ -13,7 +13,7 @@ use Rattle.cpn_syntax.specs.Guards.{SpellsGuard, conjuncts_line, inscription_lin
 use Rattle.cpn_syntax.specs.Delays.{SpellsDelay, delay_line, later_line}
 use Rattle.cpn_syntax.specs.Declarations as d
 use Rattle.cpn_syntax.specs.Declarations.{SpellsBody, SpellsForm, SpellsDecl}
-use Rattle.cpn_syntax.specs.Shapes.{is_some, has_pat, has_part, has_arm, has_local, is_pat_shaped, are_pats_shaped, is_shaped, are_shaped, are_arms_shaped, are_locals_shaped, is_guard_shaped, is_body_shaped, is_decl_shaped}
+use Rattle.cpn_trees.specs.Shapes.{is_some, has_pat, has_part, has_arm, has_local, is_pat_shaped, are_pats_shaped, is_shaped, are_shaped, are_arms_shaped, are_locals_shaped, is_guard_shaped, is_body_shaped, is_decl_shaped}
 
 both : {a b : Bool} → a ≡ true → b ≡ true → (a && b) ≡ true
 both first second = rw (first, second) refl

@@ -5,10 +5,10 @@ use Rattle.cpn_lex.specs.Token.{PlainToken}
 use Rattle.cpn_lex.specs.Token as token
 use Rattle.cpn_lex.specs.declared.symbols.Symbol.{Symbol}
 use Rattle.cpn_lex.specs.declared.symbols.Symbol.TheVariants as sign
-use Rattle.cpn_syntax.specs.declared.operators.Prefix.TheVariants as prefix
+use Rattle.cpn_trees.specs.declared.operators.Prefix.TheVariants as prefix
 use Rattle.cpn_syntax.specs.Texts.{Text, Is, IsName}
 use Rattle.cpn_syntax.specs.Patterns.{SpellsPat, any_line}
-use Rattle.cpn_syntax.specs.Trees.{PlainPat, PlainAst, pat, any, ast, number, stamped}
+use Rattle.cpn_trees.specs.Trees.{PlainPat, PlainAst, pat, any, ast, number, stamped}
 use Rattle.cpn_syntax.specs.OpenForms.{PlainOpen, condition, consequence, alternative, subject, arm, fold_list, fold_start, fold_body, terms, behind, front, group, items, arguments, local, body, Opens, wants}
 use Rattle.cpn_syntax.specs.ReadForms.{State, want, have, Read, IsInscription}
 use Rattle.cpn_syntax.proofs.Repetitions.{spells_down}

@@ -5,9 +5,9 @@ use Rattle.cpn_lex.specs.Token.{PlainToken, PlainKind}
 use Rattle.cpn_lex.specs.Token as token
 use Rattle.cpn_lex.specs.declared.symbols.Symbol.{Symbol}
 use Rattle.cpn_lex.specs.declared.symbols.Symbol.TheVariants as sign
-use Rattle.cpn_syntax.specs.declared.operators.Prefix.TheVariants as prefix
+use Rattle.cpn_trees.specs.declared.operators.Prefix.TheVariants as prefix
 use Rattle.cpn_syntax.specs.Texts.{Text, Is, IsName}
-use Rattle.cpn_syntax.specs.Trees.{PlainAst, ast, number, text, truth, empty, time, name, unit, list, no_ast}
+use Rattle.cpn_trees.specs.Trees.{PlainAst, ast, number, text, truth, empty, time, name, unit, list, no_ast}
 use Rattle.cpn_syntax.specs.OpenForms.{condition, subject, fold_list, terms, behind, front, group, items, arguments, local, Opens, wants}
 use Rattle.cpn_syntax.specs.Completions as done
 use Rattle.cpn_syntax.specs.Completions.{Closing, Wants, Has}

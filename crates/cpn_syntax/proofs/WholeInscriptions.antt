@@ -4,7 +4,7 @@ use Rattle.cpn_lex.specs.Token.{PlainToken}
 use Rattle.cpn_lex.specs.declared.symbols.Symbol.TheVariants as sign
 use Rattle.cpn_syntax.specs.declared.refusals.SyntaxError.{SyntaxError}
 use Rattle.cpn_syntax.specs.Texts.{Text}
-use Rattle.cpn_syntax.specs.Trees.{PlainAst}
+use Rattle.cpn_trees.specs.Trees.{PlainAst}
 use Rattle.cpn_syntax.specs.Inscriptions.{Spells, time_line}
 use Rattle.cpn_syntax.specs.Completions.{Closing, Closes, at_end, at_semicolon}
 use Rattle.cpn_syntax.specs.Readings.{IsReadAs, BreaksOffAt}

@@ -3,7 +3,7 @@ use Rattle.std.proofs.Common.{[], ◌++◌, refl, sym, ap, ◌∙◌, subst, ari
 use Rattle.cpn_syntax.specs.declared.refusals.SyntaxError.{SyntaxError}
 use Rattle.cpn_syntax.specs.declared.open_forms.Part.{Part}
 use Rattle.cpn_syntax.specs.Texts.{Text}
-use Rattle.cpn_syntax.specs.AstViews.{ast_view}
+use Rattle.cpn_trees.specs.AstViews.{ast_view}
 use Rattle.cpn_syntax.specs.OpenViews.{part_state}
 use Rattle.cpn_syntax.specs.Inscriptions.{Spells}
 use Rattle.cpn_syntax.specs.Completions.{Wants}

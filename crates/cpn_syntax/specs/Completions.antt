@@ -4,13 +4,13 @@
 use Rattle.std.specs.Prelude.{ℕ, ℤ, ◌≤◌, min, true, false, List, [], ◌∷◌, ◌++◌}
 use Rattle.cpn_lex.specs.Token.{PlainToken}
 use Rattle.cpn_lex.specs.declared.symbols.Symbol.TheVariants as sign
-use Rattle.cpn_syntax.specs.declared.operators.Infix.{Infix}
-use Rattle.cpn_syntax.specs.declared.operators.Prefix.{Prefix}
-use Rattle.cpn_syntax.specs.declared.operators.Prefix.TheVariants as prefix
+use Rattle.cpn_trees.specs.declared.operators.Infix.{Infix}
+use Rattle.cpn_trees.specs.declared.operators.Prefix.{Prefix}
+use Rattle.cpn_trees.specs.declared.operators.Prefix.TheVariants as prefix
 use Rattle.cpn_syntax.specs.Texts.{Text, Is, IsName, IsNumber, IsText}
 use Rattle.cpn_syntax.specs.Patterns.{SpellsPat}
 use Rattle.cpn_syntax.specs.Inscriptions.{sign_of, precedence, left, right}
-use Rattle.cpn_syntax.specs.Trees.{PlainPat, PlainAst, ast, number, text, truth, empty, time, name, call, unit, tuple, list, let_in, prefixed, infixed, stamped, sum, if_else, case_of, fold, no_ast, more_asts, no_arm, more_arms, no_local}
+use Rattle.cpn_trees.specs.Trees.{PlainPat, PlainAst, ast, number, text, truth, empty, time, name, call, unit, tuple, list, let_in, prefixed, infixed, stamped, sum, if_else, case_of, fold, no_ast, more_asts, no_arm, more_arms, no_local}
 use Rattle.cpn_syntax.specs.OpenForms.{condition, consequence, alternative, subject, arm, fold_list, fold_start, fold_body, terms, behind, front, group, items, arguments, local, body, Opens, wants, after_asts, after_arms, after_locals}
 
 -- what stands behind the inscription: nothing, or a semicolon

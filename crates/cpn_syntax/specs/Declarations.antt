@@ -11,10 +11,10 @@ use Rattle.std.specs.Prelude.{ℕ, ℤ, Bool, List, Some, None, [], ◌∷◌, �
 use Rattle.cpn_lex.specs.Token.{PlainToken}
 use Rattle.cpn_lex.specs.declared.symbols.Symbol.TheVariants as sign
 use Rattle.cpn_syntax.specs.Texts.{Text, Is, IsName, IsNumber}
-use Rattle.cpn_syntax.specs.Trees.{PlainAst}
+use Rattle.cpn_trees.specs.Trees.{PlainAst}
 use Rattle.cpn_syntax.specs.Inscriptions.{Spells}
 use Rattle.cpn_syntax.specs.Phrases.{Optional, Each, Names}
-use Rattle.cpn_syntax.specs.DeclTrees.{PlainAlternative, PlainParameter, PlainBody, unit, bool, int, int_range, string, enumeration, product, list, union, named, colour_set, variables, value, function, PlainDecl, decl}
+use Rattle.cpn_trees.specs.DeclTrees.{PlainAlternative, PlainParameter, PlainBody, unit, bool, int, int_range, string, enumeration, product, list, union, named, colour_set, variables, value, function, PlainDecl, decl}
 
 -- N [: N]
 pub data SpellsAlternative : PlainAlternative → Text → Type 0 where

@@ -8,7 +8,7 @@ use Rattle.cpn_lex.specs.Token.{PlainToken}
 use Rattle.cpn_lex.specs.declared.symbols.Symbol.TheVariants as sign
 use Rattle.cpn_syntax.specs.Texts.{Text, Is}
 use Rattle.cpn_syntax.specs.Inscriptions.{Spells}
-use Rattle.cpn_syntax.specs.Trees.{PlainAst}
+use Rattle.cpn_trees.specs.Trees.{PlainAst}
 
 pub data SpellsDelay : PlainAst → Text → Type 0 where
   -- delay := e

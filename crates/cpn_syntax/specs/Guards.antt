@@ -9,7 +9,7 @@ use Rattle.cpn_lex.specs.Token.{PlainToken}
 use Rattle.cpn_lex.specs.declared.symbols.Symbol.TheVariants as sign
 use Rattle.cpn_syntax.specs.Texts.{Text, Is}
 use Rattle.cpn_syntax.specs.Inscriptions.{Spells, SpellsParts}
-use Rattle.cpn_syntax.specs.Trees.{PlainAst, ast, list, PlainAsts, no_ast, more_asts}
+use Rattle.cpn_trees.specs.Trees.{PlainAst, ast, list, PlainAsts, no_ast, more_asts}
 
 -- the inscription is a list with an item, in brackets that enclose the text
 abbrev pub IsInBrackets : PlainAst → Text → Type 0

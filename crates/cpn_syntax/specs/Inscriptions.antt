@@ -22,12 +22,12 @@ use Rattle.std.specs.Prelude.{ℕ, ℤ, ◌≤◌, true, false, List, [], ◌∷
 use Rattle.cpn_lex.specs.Token.{PlainToken}
 use Rattle.cpn_lex.specs.declared.symbols.Symbol.{Symbol}
 use Rattle.cpn_lex.specs.declared.symbols.Symbol.TheVariants as sign
-use Rattle.cpn_syntax.specs.declared.operators.Infix.{Infix}
-use Rattle.cpn_syntax.specs.declared.operators.Infix.TheVariants as op
-use Rattle.cpn_syntax.specs.declared.operators.Prefix.TheVariants as front
+use Rattle.cpn_trees.specs.declared.operators.Infix.{Infix}
+use Rattle.cpn_trees.specs.declared.operators.Infix.TheVariants as op
+use Rattle.cpn_trees.specs.declared.operators.Prefix.TheVariants as front
 use Rattle.cpn_syntax.specs.Texts.{Text, Is, IsName, IsNumber, IsText, place}
 use Rattle.cpn_syntax.specs.Patterns.{SpellsPat}
-use Rattle.cpn_syntax.specs.Trees.{PlainPat, PlainAst, ast, number, text, truth, empty, time, name, call, unit, tuple, list, let_in, prefixed, infixed, stamped, sum, if_else, case_of, fold, PlainAsts, no_ast, more_asts, PlainArms, no_arm, more_arms, PlainLocals, no_local, more_locals}
+use Rattle.cpn_trees.specs.Trees.{PlainPat, PlainAst, ast, number, text, truth, empty, time, name, call, unit, tuple, list, let_in, prefixed, infixed, stamped, sum, if_else, case_of, fold, PlainAsts, no_ast, more_asts, PlainArms, no_arm, more_arms, PlainLocals, no_local, more_locals}
 
 -- the lines of the infix operators: what each is written as, its precedence, and those of its operands
 abbrev pub sign_of : Infix → Symbol

@@ -1,9 +1,5 @@
--- texts, and the trees that they may have
+-- texts
 pub mod Texts
-pub mod Trees
-pub mod DeclTrees
-pub mod Depth
-pub mod Shapes
 -- the grammar
 pub mod Patterns
 pub mod Inscriptions
@@ -13,10 +9,6 @@ pub mod Guards
 pub mod Delays
 -- what a parser answers
 pub mod Parses
--- the trees of the program as plain ones
-pub mod PatViews
-pub mod AstViews
-pub mod ParsedViews
 -- reading from left to right: what is open, what was read, and what completes it
 pub mod Faults
 pub mod Unread
@@ -28,7 +20,6 @@ pub mod ReadForms
 pub mod Joints
 pub mod Steps
 pub mod Readings
-pub mod PatForms
 pub mod OpenPatterns
 pub mod OpenPatViews
 pub mod PatternCompletions

@@ -1,10 +1,10 @@
 -- The forms that are open while an inscription is read, the innermost first: what stands left of the part that
 -- is read next. Source: own choice.
 use Rattle.std.specs.Prelude.{ℕ, List, [], ◌∷◌}
-use Rattle.cpn_syntax.specs.declared.operators.Infix.{Infix}
-use Rattle.cpn_syntax.specs.declared.operators.Prefix.{Prefix}
+use Rattle.cpn_trees.specs.declared.operators.Infix.{Infix}
+use Rattle.cpn_trees.specs.declared.operators.Prefix.{Prefix}
 use Rattle.cpn_syntax.specs.Inscriptions.{right}
-use Rattle.cpn_syntax.specs.Trees.{PlainPat, PlainAst, PlainAsts, more_asts, PlainArms, more_arms, PlainLocals, more_locals}
+use Rattle.cpn_trees.specs.Trees.{PlainPat, PlainAst, PlainAsts, more_asts, PlainArms, more_arms, PlainLocals, more_locals}
 
 -- The first number of each is the offset of the form's first token.
 pub data PlainOpen : Type 0 where

@@ -2,10 +2,10 @@
 use Rattle.std.specs.Prelude.{List, map, reverse, string_bytes}
 use Rattle.std.specs.declared.alloc.Global.{Global}
 use Rattle.std.specs.declared.vec.Vec.{Vec}
-use Rattle.cpn_syntax.specs.Trees.{PlainPat}
-use Rattle.cpn_syntax.specs.PatViews.{pat_view}
+use Rattle.cpn_trees.specs.Trees.{PlainPat}
+use Rattle.cpn_trees.specs.PatViews.{pat_view}
 use Rattle.cpn_syntax.specs.OpenPatterns.{PlainBracket, round, square, call, PlainOpenPat, behind, inside, OpenPats}
-use Rattle.cpn_syntax.specs.declared.patterns.Pat.{Pat}
+use Rattle.cpn_trees.specs.declared.patterns.Pat.{Pat}
 use Rattle.cpn_syntax.specs.declared.open_patterns.Bracket.{Bracket}
 use Rattle.cpn_syntax.specs.declared.open_patterns.OpenPattern.{OpenPattern}
 use Rattle.cpn_syntax.specs.declared.open_patterns.OpenPatterns.{OpenPatterns}

@@ -5,7 +5,7 @@ use Rattle.cpn_lex.specs.Token.{PlainToken}
 use Rattle.cpn_lex.specs.declared.symbols.Symbol.{Symbol}
 use Rattle.cpn_lex.specs.declared.symbols.Symbol.TheVariants as sign
 use Rattle.cpn_syntax.specs.Texts.{Text, Is, IsName}
-use Rattle.cpn_syntax.specs.Trees.{PlainPat, pat, pat_call, pat_tuple, pat_list, PlainPats, no_pat, more_pats}
+use Rattle.cpn_trees.specs.Trees.{PlainPat, pat, pat_call, pat_tuple, pat_list, PlainPats, no_pat, more_pats}
 
 -- What patterns with commas between them stand in.
 pub data PlainBracket : Type 0 where

@@ -1,7 +1,7 @@
 -- The plain open forms that those of the program stand for.
 use Rattle.std.specs.Prelude.{ℕ, map, reverse, string_bytes}
-use Rattle.cpn_syntax.specs.PatViews.{pat_view}
-use Rattle.cpn_syntax.specs.AstViews.{ast_view, arm_view, local_view}
+use Rattle.cpn_trees.specs.PatViews.{pat_view}
+use Rattle.cpn_trees.specs.AstViews.{ast_view, arm_view, local_view}
 use Rattle.cpn_syntax.specs.OpenForms.{PlainOpen, condition, consequence, alternative, subject, arm, fold_list, fold_start, fold_body, terms, behind, front, group, items, arguments, local, body, Opens}
 use Rattle.cpn_syntax.specs.declared.open_forms.Open.{Open}
 use Rattle.cpn_syntax.specs.declared.open_forms.OpenFold.{OpenFold}

@@ -5,7 +5,7 @@ use Rattle.std.specs.Prelude.{ℕ, ℤ, ◌≤◌, true, false, List, [], ◌∷
 use Rattle.cpn_lex.specs.Token.{PlainToken}
 use Rattle.cpn_lex.specs.declared.symbols.Symbol.TheVariants as sign
 use Rattle.cpn_syntax.specs.Texts.{Text, Is, IsName, IsNumber, IsText, place}
-use Rattle.cpn_syntax.specs.Trees.{PlainPat, pat, PlainPatForm, any, pat_name, pat_number, pat_text, pat_truth, pat_unit, pat_list, pat_cons, no_pat, pats_from}
+use Rattle.cpn_trees.specs.Trees.{PlainPat, pat, PlainPatForm, any, pat_name, pat_number, pat_text, pat_truth, pat_unit, pat_list, pat_cons, no_pat, pats_from}
 use Rattle.cpn_syntax.specs.OpenPatterns.{PlainBracket, behind, inside, OpenPats, OpensBracket, closing, bracketed}
 
 -- a part with no patterns in it

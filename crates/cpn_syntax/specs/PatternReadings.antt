@@ -6,7 +6,7 @@ use Rattle.cpn_syntax.specs.declared.refusals.SyntaxError.{SyntaxError}
 use Rattle.cpn_syntax.specs.Texts.{Text, Is}
 use Rattle.cpn_syntax.specs.Faults.{fault_at}
 use Rattle.cpn_syntax.specs.Progress.{Agrees}
-use Rattle.cpn_syntax.specs.Trees.{PlainPat}
+use Rattle.cpn_trees.specs.Trees.{PlainPat}
 use Rattle.cpn_syntax.specs.Patterns.{SpellsPat}
 
 -- the text is a pattern

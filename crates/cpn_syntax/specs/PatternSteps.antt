@@ -8,7 +8,7 @@ use Rattle.cpn_syntax.specs.Progress.{Leads, Stops}
 use Rattle.cpn_syntax.specs.OpenPatterns.{OpenPats}
 use Rattle.cpn_syntax.specs.PatternReadings.{IsPattern}
 use Rattle.cpn_syntax.specs.ReadPatterns.{PatState, wanting, having, whole, ReadPat, TakesPat, steps_left}
-use Rattle.cpn_syntax.specs.PatViews.{pat_view}
+use Rattle.cpn_trees.specs.PatViews.{pat_view}
 
 -- from a state before a text to another before its rest, and nearer to the end
 pub record PatComes (old : PatState) (from : Text) (new : PatState) (to : Text) : Type 0 where

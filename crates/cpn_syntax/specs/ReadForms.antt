@@ -3,12 +3,12 @@ use Rattle.std.specs.Prelude.{ℕ, ℤ, ◌≡◌, ◌≤◌, List, [], ◌∷�
 use Rattle.cpn_lex.specs.Token.{PlainToken}
 use Rattle.cpn_lex.specs.declared.symbols.Symbol.{Symbol}
 use Rattle.cpn_lex.specs.declared.symbols.Symbol.TheVariants as sign
-use Rattle.cpn_syntax.specs.declared.operators.Infix.{Infix}
-use Rattle.cpn_syntax.specs.declared.operators.Prefix.TheVariants as prefix
+use Rattle.cpn_trees.specs.declared.operators.Infix.{Infix}
+use Rattle.cpn_trees.specs.declared.operators.Prefix.TheVariants as prefix
 use Rattle.cpn_syntax.specs.Texts.{Text, Is, IsName, IsNumber, place}
 use Rattle.cpn_syntax.specs.Patterns.{SpellsPat}
 use Rattle.cpn_syntax.specs.Inscriptions.{sign_of, precedence, left, Spells}
-use Rattle.cpn_syntax.specs.Trees.{PlainPat, PlainAst}
+use Rattle.cpn_trees.specs.Trees.{PlainPat, PlainAst}
 use Rattle.cpn_syntax.specs.OpenForms.{PlainOpen, condition, consequence, alternative, subject, arm, fold_list, fold_start, fold_body, terms, behind, front, group, items, arguments, local, body, Opens, wants}
 use Rattle.cpn_syntax.specs.Completions.{Closing, Wants, Has}
 

@@ -3,7 +3,7 @@ use Rattle.std.specs.Prelude.{ℕ, ◌≡◌, ◌+◌, ◌*◌, List, [], ◌∷
 use Rattle.cpn_lex.specs.Token.{PlainToken}
 use Rattle.cpn_lex.specs.declared.symbols.Symbol.TheVariants as sign
 use Rattle.cpn_syntax.specs.Texts.{Text, Is, place}
-use Rattle.cpn_syntax.specs.Trees.{PlainPat}
+use Rattle.cpn_trees.specs.Trees.{PlainPat}
 use Rattle.cpn_syntax.specs.Patterns.{SpellsPat}
 use Rattle.cpn_syntax.specs.OpenPatterns.{PlainBracket, behind, inside, OpenPats, OpensBracket}
 use Rattle.cpn_syntax.specs.PatternCompletions.{WantsPat, HasPat}

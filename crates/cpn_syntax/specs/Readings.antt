@@ -4,7 +4,7 @@ use Rattle.cpn_syntax.specs.declared.refusals.SyntaxError.{SyntaxError}
 use Rattle.cpn_syntax.specs.Texts.{Text}
 use Rattle.cpn_syntax.specs.Faults.{fault_at}
 use Rattle.cpn_syntax.specs.Progress.{Agrees}
-use Rattle.cpn_syntax.specs.Trees.{PlainAst}
+use Rattle.cpn_trees.specs.Trees.{PlainAst}
 use Rattle.cpn_syntax.specs.Inscriptions.{Spells}
 use Rattle.cpn_syntax.specs.Completions.{Closing, Closes}
 use Rattle.cpn_syntax.specs.ReadForms.{IsInscription}

@@ -5,8 +5,8 @@ use Rattle.cpn_syntax.specs.declared.open_forms.Next.{Next}
 use Rattle.cpn_syntax.specs.declared.open_forms.Part.{Part}
 use Rattle.cpn_syntax.specs.declared.following_tokens.Step.{Step}
 use Rattle.cpn_syntax.specs.Texts.{Text}
-use Rattle.cpn_syntax.specs.Trees.{PlainAst}
-use Rattle.cpn_syntax.specs.AstViews.{ast_view}
+use Rattle.cpn_trees.specs.Trees.{PlainAst}
+use Rattle.cpn_trees.specs.AstViews.{ast_view}
 use Rattle.cpn_syntax.specs.Progress.{Agrees, Leads, Stops}
 use Rattle.cpn_syntax.specs.OpenForms.{PlainOpen, terms, Opens, wanted}
 use Rattle.cpn_syntax.specs.Completions.{Closing, Closes}

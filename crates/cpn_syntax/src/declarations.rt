@@ -5,7 +5,7 @@ ghost use Rattle.cpn_lex.specs.Token.{PlainToken};
 ghost use Rattle.cpn_lex.specs.Token as token;
 ghost use Rattle.cpn_lex.specs.declared.symbols.Symbol.TheVariants as sign;
 ghost use Rattle.cpn_syntax.specs.Completions.{Closes, nothing_more, semicolon};
-ghost use Rattle.cpn_syntax.specs.DeclTrees.{decl, alternative_view, parameter_view, body_view, form_view, decl_view};
+ghost use Rattle.cpn_trees.specs.DeclTrees.{decl, alternative_view, parameter_view, body_view, form_view, decl_view};
 ghost use Rattle.cpn_syntax.specs.Declarations.{SpellsAlternative, SpellsParameter, SpellsBody, SpellsForm, SpellsDecl};
 ghost use Rattle.cpn_syntax.specs.Endings.{Anything, No, EndsBody};
 ghost use Rattle.cpn_syntax.specs.Fragments.{ReadsAs, Halts};
@@ -14,11 +14,11 @@ ghost use Rattle.cpn_syntax.specs.Texts.{Is};
 ghost use Rattle.cpn_syntax.specs.Unread.{unread};
 ghost use Rattle.cpn_syntax.specs.declared.refusals.SyntaxError.TheVariants as errors;
 
-use crate::declaration_trees::{Alternative, Body, Decl, DeclForm, Parameter};
 use crate::inscriptions::inscription;
 use crate::readers::Reader;
 use crate::refusals::SyntaxError;
 use cpn_lex::{Kind, Symbol};
+use cpn_trees::{Alternative, Body, Decl, DeclForm, Parameter};
 use std::alloc::Global;
 
 /// Reads a declaration with its semicolon.

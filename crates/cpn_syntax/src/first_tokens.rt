@@ -5,18 +5,17 @@ ghost use Rattle.cpn_lex.specs.declared.symbols.Symbol.TheVariants as sign;
 ghost use Rattle.cpn_lex.specs.Token as token;
 ghost use Rattle.cpn_syntax.specs.OpenForms.{Opens, wants, front};
 ghost use Rattle.cpn_syntax.specs.ReadForms.{want, have};
-ghost use Rattle.cpn_syntax.specs.Trees.{ast};
-ghost use Rattle.cpn_syntax.specs.AstViews.{form_view};
+ghost use Rattle.cpn_trees.specs.Trees.{ast};
+ghost use Rattle.cpn_trees.specs.AstViews.{form_view};
 ghost use Rattle.cpn_syntax.specs.Steps.{Comes, BreaksOff, next_state};
 ghost use Rattle.cpn_syntax.specs.Unread.{unread};
 ghost use Rattle.cpn_syntax.specs.declared.refusals.SyntaxError.TheVariants as errors;
 
 use crate::open_forms::{Next, Open, OpenFold, Part};
-use crate::operators::Prefix;
 use crate::readers::Reader;
 use crate::refusals::SyntaxError;
-use crate::trees::{Ast, Form};
 use cpn_lex::{Kind, Symbol};
+use cpn_trees::{Ast, Form, Prefix};
 use std::alloc::Global;
 
 /// Reads the tokens that begin a part which has to bind so tightly.

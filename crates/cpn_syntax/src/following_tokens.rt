@@ -4,9 +4,9 @@ ghost use Rattle.std.specs.Prelude.{◌≡◌, ◌≢◌, ℤ, IfOk, IfErr, IfSo
 ghost use Rattle.cpn_syntax.specs.Texts.{Text, Is, IsNumber};
 ghost use Rattle.cpn_syntax.specs.Faults.{fault_at};
 ghost use Rattle.cpn_syntax.specs.Unread.{unread, Reads, Begins};
-ghost use Rattle.cpn_syntax.specs.Trees.{ast, stamped};
-ghost use Rattle.cpn_syntax.specs.PatViews.{pat_view};
-ghost use Rattle.cpn_syntax.specs.AstViews.{ast_view, form_view, arm_view, local_view};
+ghost use Rattle.cpn_trees.specs.Trees.{ast, stamped};
+ghost use Rattle.cpn_trees.specs.PatViews.{pat_view};
+ghost use Rattle.cpn_trees.specs.AstViews.{ast_view, form_view, arm_view, local_view};
 ghost use Rattle.cpn_lex.specs.Token.{PlainToken};
 ghost use Rattle.cpn_syntax.specs.OpenForms.{Opens, wants, condition, consequence, alternative, subject, arm, fold_list, fold_start, fold_body, terms, behind, front, group, items, arguments, local, body};
 ghost use Rattle.cpn_syntax.specs.OpenViews.{open_view, fold_view, opens_view, part_state};
@@ -17,13 +17,12 @@ ghost use Rattle.cpn_syntax.specs.declared.following_tokens.Joint.{Joint};
 ghost use Rattle.cpn_syntax.specs.declared.refusals.SyntaxError.TheVariants as errors;
 
 use crate::open_forms::{Next, Open, OpenFold, OpenForms, Part};
-use crate::operators::{Infix, Prefix, infix_of};
+use crate::operators::{infix_of, left_of, precedence_of};
 use crate::pattern_parser::pattern;
-use crate::patterns::Pat;
 use crate::readers::Reader;
 use crate::refusals::SyntaxError;
-use crate::trees::{Arm, Ast, Asts, Form, LocalValue};
 use cpn_lex::Symbol;
+use cpn_trees::{Arm, Ast, Asts, Form, Infix, LocalValue, Pat, Prefix};
 use std::alloc::{AllocError, Global};
 
 /// How the reading went on behind a part.
@@ -52,7 +51,7 @@ impl Joint {
         ensures { result ≡ joint_left self }
     {
         match self {
-            Joint::Infix(operator) => operator.left(),
+            Joint::Infix(operator) => left_of(operator),
             Joint::Stamp => 4,
             Joint::Term => 3,
         }
@@ -63,7 +62,7 @@ impl Joint {
         ensures { result ≡ joint_precedence self }
     {
         match self {
-            Joint::Infix(operator) => operator.precedence(),
+            Joint::Infix(operator) => precedence_of(operator),
             Joint::Stamp | Joint::Term => 3,
         }
     }
@@ -298,7 +297,7 @@ fn end_operand(
     let right = Box::new(alloc, part.tree)?;
     Ok(Next::Part(whole(
         at,
-        operator.precedence(),
+        precedence_of(operator),
         Form::Infix {
             operator,
             sign,

@@ -1,7 +1,7 @@
 //! The reading of an inscription.
 
 ghost use Rattle.std.specs.Prelude.{◌≢◌, IfOk, IfErr};
-ghost use Rattle.cpn_syntax.specs.AstViews.{ast_view};
+ghost use Rattle.cpn_trees.specs.AstViews.{ast_view};
 ghost use Rattle.cpn_syntax.specs.Readings.{IsReadAs, BreaksOffAt};
 ghost use Rattle.cpn_syntax.specs.Unread.{unread};
 ghost use Rattle.cpn_syntax.specs.declared.refusals.SyntaxError.TheVariants as errors;
@@ -11,7 +11,7 @@ use crate::following_tokens::{Step, go_on};
 use crate::open_forms::{Next, OpenForms};
 use crate::readers::Reader;
 use crate::refusals::SyntaxError;
-use crate::trees::Ast;
+use cpn_trees::Ast;
 use std::alloc::Global;
 
 /// Reads an inscription as far as it reaches.

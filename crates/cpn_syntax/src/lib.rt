@@ -3,32 +3,24 @@
 //!
 //! The crate knows tokens and trees alone: what a name stands for, and which types its parts have, is not
 //! its matter. It keeps the forms that are open in a list of its own and calls nothing recursively while it
-//! reads, so a text may nest as deeply as its length allows.
+//! reads, so a text may nest as deeply as its length allows. The trees are those of `cpn_trees`, which are passed on.
 #![tactic(auto)]
 
-mod declaration_trees;
 mod declarations;
-mod depths;
 mod first_tokens;
 mod following_tokens;
 mod inscriptions;
 mod open_forms;
 mod open_patterns;
 mod operators;
-mod parsed;
 mod parsers;
 mod pattern_parser;
-mod patterns;
 mod readers;
 mod refusals;
-#[cfg(test)]
-mod tests;
-mod trees;
 
-pub use declaration_trees::{Alternative, Body, Decl, DeclForm, Parameter};
-pub use operators::{Infix, Prefix};
-pub use parsed::{Declaration, Guard, Inscription};
+pub use cpn_trees::{
+    Alternative, Arm, Ast, Asts, Body, Decl, DeclForm, Declaration, Form, Guard, Infix,
+    Inscription, LocalValue, Parameter, Pat, PatForm, Pats, Prefix,
+};
 pub use parsers::{parse_decl, parse_delay, parse_expr, parse_guard, parse_mset};
-pub use patterns::{Pat, PatForm, Pats};
 pub use refusals::SyntaxError;
-pub use trees::{Arm, Ast, Asts, Form, LocalValue};

@@ -4,9 +4,8 @@ ghost use Rattle.std.specs.Prelude.{◌≡◌, IfOk, IfSome, OnOk, [], ◌∷◌
 ghost use Rattle.cpn_syntax.specs.OpenForms.{wanted, wants};
 ghost use Rattle.cpn_syntax.specs.OpenViews.{open_view, opens_view};
 
-use crate::operators::{Infix, Prefix};
-use crate::patterns::Pat;
-use crate::trees::{Arm, Ast, Asts, LocalValue};
+use crate::operators::right_of;
+use cpn_trees::{Arm, Ast, Asts, Infix, LocalValue, Pat, Prefix};
 use std::alloc::{AllocError, Global};
 
 /// A `foldl` that is open: what stands left of the part that is read next.
@@ -161,7 +160,7 @@ impl Open {
     {
         match self {
             Open::Terms { .. } => 3,
-            Open::Behind { operator, .. } => operator.right(),
+            Open::Behind { operator, .. } => right_of(*operator),
             Open::Front { .. } => 11,
             _ => 0,
         }

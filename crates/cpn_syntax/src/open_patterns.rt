@@ -2,14 +2,14 @@
 
 ghost use Rattle.std.specs.Prelude.{◌≡◌, IfOk, IfErr, [], ◌∷◌, ◌++◌, MatchOption};
 ghost use Rattle.cpn_syntax.specs.declared.refusals.SyntaxError.TheVariants as errors;
-ghost use Rattle.cpn_syntax.specs.Trees.{pats_from};
-ghost use Rattle.cpn_syntax.specs.PatViews.{pat_view};
+ghost use Rattle.cpn_trees.specs.Trees.{pats_from};
+ghost use Rattle.cpn_trees.specs.PatViews.{pat_view};
 ghost use Rattle.cpn_syntax.specs.OpenPatterns.{inside, closing, bracketed};
 ghost use Rattle.cpn_syntax.specs.OpenPatViews.{parts_view, bracket_view, open_view, opens_view};
 
-use crate::patterns::{Pat, PatForm, Pats};
 use crate::refusals::SyntaxError;
 use cpn_lex::Symbol;
+use cpn_trees::{Pat, PatForm, Pats};
 use std::alloc::Global;
 
 /// What patterns with commas between them stand in.

@@ -1,128 +1,74 @@
-//! The operators of inscriptions, and how tightly each of them binds.
+//! What writes an infix operator, and how tightly each of them binds.
 
 ghost use Rattle.std.specs.Prelude.{◌≡◌, IfSome, None};
 ghost use Rattle.cpn_syntax.specs.Inscriptions.{sign_of, precedence, left, right};
 
 use cpn_lex::Symbol;
+use cpn_trees::Infix;
 
-/// An operator between two operands. Source: the operators of CPN ML, with the multiset forms of its arc
-/// inscriptions.
-#[derive(Clone, Copy, Debug, PartialEq, Eq)]
-pub enum Infix {
-    /// `@+`, a token with a delay
-    Later,
-    /// a backtick, so many tokens of a value
-    Times,
-    /// `orelse`
-    Orelse,
-    /// `andalso`
-    Andalso,
-    /// `=`
-    Equal,
-    /// `<>`
-    NotEqual,
-    /// `<`
-    Less,
-    /// `<=`
-    LessOrEqual,
-    /// `>`
-    Greater,
-    /// `>=`
-    GreaterOrEqual,
-    /// `::`, an item in front of a list
-    Cons,
-    /// `^^`, two lists one after the other
-    Append,
-    /// `+`
-    Add,
-    /// `-`
-    Subtract,
-    /// `^`, two strings one after the other
-    Concatenate,
-    /// `*`
-    Multiply,
-    /// `div`
-    Div,
-    /// `mod`
-    Mod,
+/// How tightly the operator and its operands bind: 3 for `@+` to 10 for `*`.
+pub(crate) fn precedence_of(operator: Infix) -> u8
+    ensures { result ≡ precedence operator }
+{
+    match operator {
+        Infix::Later => 3,
+        Infix::Times => 4,
+        Infix::Orelse => 5,
+        Infix::Andalso => 6,
+        Infix::Equal
+        | Infix::NotEqual
+        | Infix::Less
+        | Infix::LessOrEqual
+        | Infix::Greater
+        | Infix::GreaterOrEqual => 7,
+        Infix::Cons | Infix::Append => 8,
+        Infix::Add | Infix::Subtract | Infix::Concatenate => 9,
+        Infix::Multiply | Infix::Div | Infix::Mod => 10,
+    }
 }
 
-/// An operator in front of its operand.
-#[derive(Clone, Copy, Debug, PartialEq, Eq)]
-pub enum Prefix {
-    /// `not`
-    Not,
-    /// `~`
-    Negate,
-    /// `#` and a number, a component of a product
-    Component(i64),
+/// How tightly the operand on its left has to bind.
+pub(crate) fn left_of(operator: Infix) -> u8
+    ensures { result ≡ left operator }
+{
+    match operator {
+        Infix::Later => 4,
+        Infix::Times | Infix::Orelse => 5,
+        Infix::Andalso => 6,
+        Infix::Equal
+        | Infix::NotEqual
+        | Infix::Less
+        | Infix::LessOrEqual
+        | Infix::Greater
+        | Infix::GreaterOrEqual => 8,
+        Infix::Cons | Infix::Append | Infix::Add | Infix::Subtract | Infix::Concatenate => 9,
+        Infix::Multiply | Infix::Div | Infix::Mod => 10,
+    }
 }
 
-impl Infix {
-    /// How tightly the operator and its operands bind: 3 for `@+` to 10 for `*`.
-    pub fn precedence(self) -> u8
-        ensures { result ≡ precedence self }
-    {
-        match self {
-            Infix::Later => 3,
-            Infix::Times => 4,
-            Infix::Orelse => 5,
-            Infix::Andalso => 6,
-            Infix::Equal
-            | Infix::NotEqual
-            | Infix::Less
-            | Infix::LessOrEqual
-            | Infix::Greater
-            | Infix::GreaterOrEqual => 7,
-            Infix::Cons | Infix::Append => 8,
-            Infix::Add | Infix::Subtract | Infix::Concatenate => 9,
-            Infix::Multiply | Infix::Div | Infix::Mod => 10,
-        }
-    }
-
-    /// How tightly the operand on its left has to bind.
-    pub fn left(self) -> u8
-        ensures { result ≡ left self }
-    {
-        match self {
-            Infix::Later => 4,
-            Infix::Times | Infix::Orelse => 5,
-            Infix::Andalso => 6,
-            Infix::Equal
-            | Infix::NotEqual
-            | Infix::Less
-            | Infix::LessOrEqual
-            | Infix::Greater
-            | Infix::GreaterOrEqual => 8,
-            Infix::Cons | Infix::Append | Infix::Add | Infix::Subtract | Infix::Concatenate => 9,
-            Infix::Multiply | Infix::Div | Infix::Mod => 10,
-        }
-    }
-
-    /// How tightly the operand on its right has to bind.
-    pub fn right(self) -> u8
-        ensures { result ≡ right self }
-    {
-        match self {
-            Infix::Later | Infix::Times => 5,
-            Infix::Orelse => 6,
-            Infix::Andalso => 7,
-            Infix::Equal
-            | Infix::NotEqual
-            | Infix::Less
-            | Infix::LessOrEqual
-            | Infix::Greater
-            | Infix::GreaterOrEqual
-            | Infix::Cons
-            | Infix::Append => 8,
-            Infix::Add | Infix::Subtract | Infix::Concatenate => 10,
-            Infix::Multiply | Infix::Div | Infix::Mod => 11,
-        }
+/// How tightly the operand on its right has to bind.
+pub(crate) fn right_of(operator: Infix) -> u8
+    ensures { result ≡ right operator }
+{
+    match operator {
+        Infix::Later | Infix::Times => 5,
+        Infix::Orelse => 6,
+        Infix::Andalso => 7,
+        Infix::Equal
+        | Infix::NotEqual
+        | Infix::Less
+        | Infix::LessOrEqual
+        | Infix::Greater
+        | Infix::GreaterOrEqual
+        | Infix::Cons
+        | Infix::Append => 8,
+        Infix::Add | Infix::Subtract | Infix::Concatenate => 10,
+        Infix::Multiply | Infix::Div | Infix::Mod => 11,
     }
 }
 
 /// The infix operator that the symbol writes; `None` where it writes none.
-pub fn infix_of(symbol: Symbol) -> Option<Infix>
+pub(crate) fn infix_of(symbol: Symbol) -> Option<Infix>
     ensures some { IfSome result (λ o. symbol ≡ sign_of o) }
     ensures none { result ≡ None → (o : Infix) → symbol ≡ sign_of o → ⊥ }
 {

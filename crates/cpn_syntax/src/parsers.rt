@@ -3,32 +3,32 @@
 ghost use Rattle.std.specs.Prelude.{◌≡◌, ◌≢◌, ◌<◌, ◌≤◌, ◌⊎◌, Bool, true, false, IfOk, IfErr, MatchResult, [], map};
 ghost use Rattle.cpn_lex.specs.Token.{tokens_view};
 ghost use Rattle.cpn_lex.specs.declared.symbols.Symbol.TheVariants as sign;
-ghost use Rattle.cpn_syntax.specs.AstViews.{ast_view, asts_view};
+ghost use Rattle.cpn_trees.specs.AstViews.{ast_view, asts_view};
 ghost use Rattle.cpn_syntax.specs.Completions.{Closes, nothing_more};
-ghost use Rattle.cpn_syntax.specs.DeclTrees.{PlainDecl, decl_view};
+ghost use Rattle.cpn_trees.specs.DeclTrees.{PlainDecl, decl_view};
 ghost use Rattle.cpn_syntax.specs.Declarations.{SpellsDecl};
 ghost use Rattle.cpn_syntax.specs.Delays.{SpellsDelay};
-ghost use Rattle.cpn_syntax.specs.Depth.{depth, deepest, decl_depth};
+ghost use Rattle.cpn_trees.specs.Depth.{depth, deepest, decl_depth};
 ghost use Rattle.cpn_syntax.specs.Faults.{fault_at};
 ghost use Rattle.cpn_syntax.specs.Fragments.{Halts};
 ghost use Rattle.cpn_syntax.specs.Guards.{SpellsGuard, conjuncts_of};
 ghost use Rattle.cpn_syntax.specs.Inscriptions.{Spells};
-ghost use Rattle.cpn_syntax.specs.ParsedViews.{inscription_view, guard_view, declaration_view};
+ghost use Rattle.cpn_trees.specs.ParsedViews.{inscription_view, guard_view, declaration_view};
 ghost use Rattle.cpn_syntax.specs.Parses.{SpellsOnly, Parses};
 ghost use Rattle.cpn_syntax.specs.Texts.{Is};
-ghost use Rattle.cpn_syntax.specs.Trees.{PlainAst, PlainAsts, no_ast, more_asts, asts_from};
+ghost use Rattle.cpn_trees.specs.Trees.{PlainAst, PlainAsts, no_ast, more_asts, asts_from};
 ghost use Rattle.cpn_syntax.specs.Unread.{unread, Begins};
 ghost use Rattle.cpn_syntax.specs.declared.refusals.SyntaxError.TheVariants as errors;
 
-use crate::declaration_trees::Decl;
 use crate::declarations::declaration;
-use crate::depths::{is_any_deeper, is_declaration_deeper, is_deeper};
 use crate::inscriptions::inscription;
-use crate::parsed::{Declaration, Guard, Inscription};
 use crate::readers::Reader;
 use crate::refusals::SyntaxError;
-use crate::trees::{Ast, Asts, Form};
 use cpn_lex::{Symbol, Token, Tokens};
+use cpn_trees::{
+    Ast, Asts, Decl, Declaration, Form, Guard, Inscription, is_any_deeper, is_declaration_deeper,
+    is_deeper,
+};
 use std::alloc::{AllocError, Global};
 
 /// How deep a tree may be.

@@ -6,20 +6,20 @@ ghost use Rattle.cpn_syntax.specs.declared.refusals.SyntaxError.TheVariants as e
 ghost use Rattle.cpn_syntax.specs.Texts.{Is, IsName};
 ghost use Rattle.cpn_lex.specs.declared.symbols.Symbol.TheVariants as sign;
 ghost use Rattle.cpn_syntax.specs.Unread.{unread, Reads, Begins};
-ghost use Rattle.cpn_syntax.specs.Trees.{pat, pat_cons};
+ghost use Rattle.cpn_trees.specs.Trees.{pat, pat_cons};
 ghost use Rattle.cpn_syntax.specs.OpenPatterns.{inside, OpenPats};
 ghost use Rattle.cpn_syntax.specs.ReadPatterns.{wanting, having, whole};
-ghost use Rattle.cpn_syntax.specs.PatForms.{pat_form_view};
-ghost use Rattle.cpn_syntax.specs.PatViews.{pat_view};
+ghost use Rattle.cpn_trees.specs.PatForms.{pat_form_view};
+ghost use Rattle.cpn_trees.specs.PatViews.{pat_view};
 ghost use Rattle.cpn_syntax.specs.OpenPatViews.{parts_view, bracket_view, opens_view};
 ghost use Rattle.cpn_syntax.specs.PatternReadings.{IsReadAsPattern, BreaksOffInPattern};
 ghost use Rattle.cpn_syntax.specs.PatternSteps.{part_state, step_state, PatComes, PatBreaksOff};
 
 use crate::open_patterns::{Bracket, OpenPattern, OpenPatterns, with_last};
-use crate::patterns::{Pat, PatForm, Pats};
 use crate::readers::Reader;
 use crate::refusals::SyntaxError;
 use cpn_lex::{Kind, Symbol};
+use cpn_trees::{Pat, PatForm, Pats};
 use std::alloc::Global;
 
 /// A part of a pattern that was read.
@@ -236,150 +236,4 @@ fn go_on_inside(
         precedence: 1,
         tree,
     }))
-}
-
-#[cfg(test)]
-mod tests {
-    use super::*;
-    use cpn_lex::{Token, Tokens};
-    use std::alloc::AllocError;
-    use std::test::Fail;
-
-    /// The symbols, each a byte behind the one before it.
-    fn signs(tokens: &mut Tokens, symbols: &[Symbol]) -> Result<(), AllocError> {
-        for symbol in symbols {
-            let at = tokens.len();
-            tokens.push(Token {
-                kind: Kind::Symbol(*symbol),
-                at,
-            })?;
-        }
-        Ok(())
-    }
-
-    /// A name of one byte.
-    fn name(tokens: &mut Tokens, alloc: Global, text: &str) -> Result<(), AllocError> {
-        let at = tokens.len();
-        let kind = Kind::Name(String::from_str(alloc, text)?);
-        tokens.push(Token { kind, at })?;
-        Ok(())
-    }
-
-    /// The pattern with the offset of each part behind it.
-    #[cycle(shown)]
-    fn show(out: &mut String, pattern: &Pat) -> Result<(), AllocError> {
-        match &pattern.form {
-            PatForm::Any => out.push_str("_")?,
-            PatForm::Name(name) => out.push_str(name.as_str())?,
-            PatForm::Number(number) => write!(out, "{number}")?,
-            PatForm::Text(text) => out.push_str(text.as_str())?,
-            PatForm::Truth(truth) => write!(out, "{truth}")?,
-            PatForm::Call {
-                constructor,
-                arguments,
-            } => {
-                out.push_str(constructor.as_str())?;
-                show_each(out, arguments)?;
-            }
-            PatForm::Unit => out.push_str("unit")?,
-            PatForm::Tuple(parts) => {
-                out.push_str("tuple")?;
-                show_each(out, parts)?;
-            }
-            PatForm::List(parts) => {
-                out.push_str("list")?;
-                show_each(out, parts)?;
-            }
-            PatForm::Cons { head, tail } => {
-                out.push_str("cons(")?;
-                show(out, head)?;
-                out.push_str(" ")?;
-                show(out, tail)?;
-                out.push_str(")")?;
-            }
-        }
-        let at = pattern.at;
-        write!(out, "@{at}")?;
-        Ok(())
-    }
-
-    #[cycle(shown)]
-    fn show_each(out: &mut String, patterns: &Pats) -> Result<(), AllocError> {
-        out.push_str("(")?;
-        for part in patterns {
-            show(out, part)?;
-        }
-        out.push_str(")")?;
-        Ok(())
-    }
-
-    #[test]
-    fn a_pattern_of_each_form(rt: HostRuntime) -> Result<(), Fail> {
-        let alloc = rt.alloc();
-        let mut tokens = Vec::new(alloc);
-        // (a)::C(_,true)::[(),(b,c)]=>
-        signs(&mut tokens, &[Symbol::OpenParenthesis])?;
-        name(&mut tokens, alloc, "a")?;
-        signs(
-            &mut tokens,
-            &[Symbol::CloseParenthesis, Symbol::DoubleColon],
-        )?;
-        name(&mut tokens, alloc, "C")?;
-        signs(
-            &mut tokens,
-            &[
-                Symbol::OpenParenthesis,
-                Symbol::Underscore,
-                Symbol::Comma,
-                Symbol::True,
-                Symbol::CloseParenthesis,
-                Symbol::DoubleColon,
-                Symbol::OpenBracket,
-                Symbol::OpenParenthesis,
-                Symbol::CloseParenthesis,
-                Symbol::Comma,
-                Symbol::OpenParenthesis,
-            ],
-        )?;
-        name(&mut tokens, alloc, "b")?;
-        signs(&mut tokens, &[Symbol::Comma])?;
-        name(&mut tokens, alloc, "c")?;
-        signs(
-            &mut tokens,
-            &[
-                Symbol::CloseParenthesis,
-                Symbol::CloseBracket,
-                Symbol::Arrow,
-                Symbol::Time,
-            ],
-        )?;
-        let mut reader = Reader::new(&tokens);
-        let tree = pattern(alloc, &mut reader)?;
-        let mut shown = String::new(alloc);
-        show(&mut shown, &tree)?;
-        assert_eq!(rt;
-            shown.as_str(),
-            "cons(a@1 cons(C(_@6true@8)@4 list(unit@12tuple(b@16c@18)@15)@11)@4)@0"
-        );
-        assert!(rt; reader.accept(Symbol::Time));
-        Ok(())
-    }
-
-    #[test]
-    fn a_thousand_parentheses(rt: HostRuntime) -> Result<(), Fail> {
-        let alloc = rt.alloc();
-        let mut tokens = Vec::new(alloc);
-        for _ in 0..1000 {
-            signs(&mut tokens, &[Symbol::OpenParenthesis])?;
-        }
-        signs(&mut tokens, &[Symbol::Underscore])?;
-        for _ in 0..1000 {
-            signs(&mut tokens, &[Symbol::CloseParenthesis])?;
-        }
-        signs(&mut tokens, &[Symbol::Arrow])?;
-        let mut reader = Reader::new(&tokens);
-        let tree = pattern(alloc, &mut reader)?;
-        assert_eq!(rt; tree.at, 1000);
-        Ok(())
-    }
 }

@@ -1,6 +1,11 @@
-//! Tables of texts with their answers, for checks that no document reaches yet. The crate has nothing but its tests: beside the
-//! checks they would have each of these proved a second time.
+//! Texts and what they are answered, in tables that were worked out by hand: the tokens of the lexer, the trees of the parsers, and
+//! the checks that no document reaches yet. The crate has nothing but its tests: beside the code that they test they would have
+//! all of it proved a second time.
 #![tactic(auto)]
 
+#[cfg(test)]
+mod lexing;
+#[cfg(test)]
+mod parsing;
 #[cfg(test)]
 mod unreached;

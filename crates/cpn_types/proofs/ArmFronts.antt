@@ -1,18 +1,17 @@
 -- The arms of a `case` that are checked already, in front of what the rules say of the rest.
 use Rattle.std.proofs.Common.{◌≡◌, ℕ, suc, ◌+◌, ◌<◌, ◌≤◌, drop_of_length-le, List, [], ◌∷◌, ◌++◌, length, get_or, drop, map, refl, sym, ap, ◌∙◌, add-one, rules, drop-cons, Option, Some, None}
-use Rattle.cpn_syntax.specs.AstViews.{arms_from, arm_view, ast_view}
-use Rattle.cpn_syntax.specs.PatViews.{pat_view}
+use Rattle.cpn_trees.specs.AstViews.{arms_from, arm_view, ast_view}
+use Rattle.cpn_trees.specs.PatViews.{pat_view}
 use Rattle.cpn_core.specs.Inscriptions as core
 use Rattle.cpn_core.specs.declared.inscriptions.Arm as core_arm
-use Rattle.cpn_core.specs.declared.inscriptions.Pat.{Pat}
-use Rattle.cpn_types.specs.declared.scopes.Local.{Local}
-use Rattle.cpn_types.specs.declared.typed.Typed as program
-use Rattle.cpn_types.specs.DeclsViews.{scope_view}
-use Rattle.cpn_types.specs.TypedViews.{typed_view}
-use Rattle.cpn_types.specs.TypeViews.{ty_view}
-use Rattle.cpn_types.specs.BoundViews.{bound_view}
-use Rattle.cpn_syntax.specs.declared.trees.Arm.{Arm}
-use Rattle.cpn_syntax.specs.declared.trees.Arm as arm
+use Rattle.cpn_forms.specs.declared.scopes.Local.{Local}
+use Rattle.cpn_forms.specs.declared.typed.Typed as program
+use Rattle.cpn_forms.specs.ScopeViews.{scope_view}
+use Rattle.cpn_forms.specs.TypedViews.{typed_view}
+use Rattle.cpn_declared.specs.TypeViews.{ty_view}
+use Rattle.cpn_forms.specs.BoundViews.{bound_view}
+use Rattle.cpn_trees.specs.declared.trees.Arm.{Arm}
+use Rattle.cpn_trees.specs.declared.trees.Arm as arm
 use Rattle.cpn_definitions.specs.Inscription.{PlainPattern, PlainExpr, PlainArms, no_arms, more_arms}
 use Rattle.cpn_definitions.specs.Inscription as inscription
 use Rattle.cpn_typing.specs.Types.{PlainTy}
@@ -21,7 +20,7 @@ use Rattle.cpn_typing.specs.Places.{Place}
 use Rattle.cpn_typing.specs.PatternRules.{BoundPattern, typed_pattern}
 use Rattle.cpn_typing.specs.Rules.{Typed, Arms}
 use Rattle.cpn_typing.specs.Expressions.{typed, typed_arms}
-use Rattle.cpn_types.specs.Answers.{Refuses}
+use Rattle.cpn_typing.specs.Answers.{Refuses}
 
 abbrev pub arms_before : List (PlainPattern × PlainExpr) → PlainArms → PlainArms
 arms_before [] arms = arms

@@ -1,24 +1,25 @@
 -- The arguments of a call, one by one, and its rule taken apart.
-use Rattle.std.proofs.Common.{◌≡◌, ℕ, zero, suc, ◌<◌, subst, Result, Bool, true, false, nat_eq, List, [], ◌∷◌, length, get_or, drop, map, refl, sym, ap, ◌∙◌, arith, rules, Option, Some, None}
-use Rattle.cpn_definitions.specs.Inscription.{PlainExpr, PlainExprs, tupling, apply, operation, more_exprs, head, tail, list_length, reversal, membership, string_size, Operation}
-use Rattle.cpn_syntax.specs.Trees.{PlainAsts, no_ast, more_asts, asts_from}
-use Rattle.cpn_syntax.specs.AstViews.{ast_view}
-use Rattle.cpn_syntax.specs.declared.trees.Ast.{Ast, the_lemmas}
+use Rattle.std.proofs.Common.{◌≡◌, ℕ, ◌<◌, true, false, nat_eq, List, [], ◌∷◌, length, get_or, drop, map, refl, sym, ap, ◌∙◌, arith, rules, Option, Some, None}
+use Rattle.cpn_definitions.specs.Inscription.{PlainExprs, apply, operation, more_exprs, head, tail, list_length, reversal, membership, string_size, Operation}
+use Rattle.cpn_trees.specs.Trees.{PlainAsts, asts_from}
+use Rattle.cpn_trees.specs.AstViews.{ast_view}
+use Rattle.cpn_trees.specs.declared.trees.Ast.{Ast, the_lemmas}
 use Rattle.cpn_typing.specs.Types.{PlainTy, PlainTys, more_types, unit_type, bool_type, int_type, text_type, enumeration, union, tuples, lists, no_types, same_types}
 use Rattle.cpn_typing.specs.Names.{Name, Declared, Scope, Checked, ok, refused, Refusal, mismatch, ◌>>=◌, accepted_if}
 use Rattle.cpn_typing.specs.Places.{Place}
-use Rattle.cpn_typing.specs.Rules.{Typed, Parts, Spot, Arguments, does, calls, call_rule, on_list, on_string, all_of, argument_rule, parts_of_types, parts_wanted, first_place, item_of, meets, place_of}
+use Rattle.cpn_typing.specs.Rules.{Typed, Parts, Spot, Arguments, does, calls, call_rule, on_list, all_of, argument_rule, parts_of_types, parts_wanted, first_place, item_of, meets, place_of}
 use Rattle.cpn_typing.specs.Expressions.{typed, typed_first, typed_rest, typed_parts}
-use Rattle.cpn_types.specs.DeclsViews.{decls_view, scope_view}
-use Rattle.cpn_types.specs.PlaceViews.{place_view}
-use Rattle.cpn_types.specs.LookupViews.{predeclared_view}
+use Rattle.cpn_declared.specs.DeclsViews.{decls_view}
+use Rattle.cpn_forms.specs.ScopeViews.{scope_view}
+use Rattle.cpn_forms.specs.PlaceViews.{place_view}
+use Rattle.cpn_forms.specs.LookupViews.{predeclared_view}
 use Rattle.cpn_types.specs.Around.{arguments_in}
-use Rattle.cpn_types.specs.Answers.{Refuses}
-use Rattle.cpn_types.specs.Calls.{from_arguments, function_makes, tuple_made, item_or}
-use Rattle.cpn_types.specs.declared.scopes.Local.{Local}
+use Rattle.cpn_typing.specs.Answers.{Refuses}
+use Rattle.cpn_forms.specs.Calls.{from_arguments, function_makes, tuple_made, item_or}
+use Rattle.cpn_forms.specs.declared.scopes.Local.{Local}
 use Rattle.cpn_types.specs.declared.surroundings.Surroundings.{Surroundings}
-use Rattle.cpn_types.specs.declared.lookups.Predeclared.{Predeclared}
-use Rattle.cpn_types.specs.declared.lookups.Predeclared.TheVariants as predeclared
+use Rattle.cpn_forms.specs.declared.lookups.Predeclared.{Predeclared}
+use Rattle.cpn_forms.specs.declared.lookups.Predeclared.TheVariants as predeclared
 
 pub first_is : (ds : Declared) (place : Place) (xs : List Ast) (x : Ast) (at : ℕ) (sc : Scope) (w : Option PlainTy) → 0 < length xs → x ≡ get_or xs 0 x → typed_first ds place (asts_from (map ast_view xs)) at sc w ≡ typed ds place (ast_view x) sc w
 first_is ds place [] x at sc w lt e = absurd (omega arith)

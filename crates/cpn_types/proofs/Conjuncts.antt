@@ -4,16 +4,16 @@ use Rattle.std.proofs.lemmas.List.{map-append}
 use Rattle.cpn_definitions.specs.Inscription.{PlainExpr}
 use Rattle.cpn_core.specs.Inscriptions.{expr_view}
 use Rattle.cpn_core.specs.declared.inscriptions.Expr.{Expr}
-use Rattle.cpn_syntax.specs.Trees.{asts_from}
-use Rattle.cpn_syntax.specs.AstViews.{ast_view}
-use Rattle.cpn_syntax.specs.declared.trees.Ast.{Ast}
+use Rattle.cpn_trees.specs.Trees.{asts_from}
+use Rattle.cpn_trees.specs.AstViews.{ast_view}
+use Rattle.cpn_trees.specs.declared.trees.Ast.{Ast}
 use Rattle.cpn_typing.specs.Types.{PlainTy, bool_type}
 use Rattle.cpn_typing.specs.Names.{Declared, Refusal, Checked, ok, refused, ◌>>=◌}
 use Rattle.cpn_typing.specs.Places.{in_guard}
 use Rattle.cpn_typing.specs.Rules.{Typed}
 use Rattle.cpn_typing.specs.Expressions.{typed}
 use Rattle.cpn_typing.specs.GuardsAndDelays.{checked_guard}
-use Rattle.cpn_types.specs.Answers.{Refuses}
+use Rattle.cpn_typing.specs.Answers.{Refuses}
 
 abbrev pub in_front : List PlainExpr → Checked (List PlainExpr) → Checked (List PlainExpr)
 in_front es (ok fs) = ok (es ++ fs)

@@ -1,15 +1,15 @@
 -- The rule of `foldl`, once its list and its start are typed.
-use Rattle.std.proofs.Common.{◌≡◌, ℕ, List, [], ◌∷◌, ◌++◌, refl, sym, subst, rules, Option, Some, None}
+use Rattle.std.proofs.Common.{◌≡◌, List, [], ◌∷◌, ◌++◌, refl, sym, subst, rules, Option, Some, None}
 use Rattle.cpn_definitions.specs.Inscription.{accumulate}
-use Rattle.cpn_syntax.specs.AstViews.{ast_view}
-use Rattle.cpn_syntax.specs.declared.trees.Ast.{Ast, the_lemmas}
+use Rattle.cpn_trees.specs.AstViews.{ast_view}
+use Rattle.cpn_trees.specs.declared.trees.Ast.{Ast, the_lemmas}
 use Rattle.cpn_typing.specs.Types.{PlainTy}
-use Rattle.cpn_typing.specs.Names.{Name, Scope, local_of, Refusal, Checked, ok, ◌>>=◌}
+use Rattle.cpn_typing.specs.Names.{Name, Scope, local_of, Refusal, ok, ◌>>=◌}
 use Rattle.cpn_typing.specs.Rules.{Typed, part, fold_rule, item_of, place_of}
-use Rattle.cpn_types.specs.Answers.{Refuses}
+use Rattle.cpn_typing.specs.Answers.{Refuses}
 use Rattle.cpn_types.specs.Around.{typed_in, typed_then, body_in}
-use Rattle.cpn_types.specs.DeclsViews.{scope_view}
-use Rattle.cpn_types.specs.declared.scopes.Local.{Local}
+use Rattle.cpn_forms.specs.ScopeViews.{scope_view}
+use Rattle.cpn_forms.specs.declared.scopes.Local.{Local}
 use Rattle.cpn_types.specs.declared.surroundings.Surroundings.{Surroundings}
 use Rattle.cpn_types.proofs.CallFronts.{refused_behind}
 

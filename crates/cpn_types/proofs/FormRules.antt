@@ -1,14 +1,14 @@
 -- The rules of the operators are those that are taken apart.
-use Rattle.std.proofs.Common.{◌≡◌, ℕ, Bool, true, false, if◌then◌else◌, List, map, drop, refl, sym, ap, ◌∙◌, Option, Some, None}
-use Rattle.cpn_definitions.specs.Inscription.{PlainExpr, Operation, apply, operation, equality, inequality, less_than, at_most, greater_than, at_least, appending, addition, subtraction, multiplication, division, remainder, concatenation, conjunction, disjunction}
-use Rattle.cpn_syntax.specs.declared.operators.Infix.{Infix}
-use Rattle.cpn_syntax.specs.declared.operators.Infix.TheVariants as sign
-use Rattle.cpn_syntax.specs.declared.operators.Prefix.{Prefix}
-use Rattle.cpn_syntax.specs.declared.operators.Prefix.TheVariants as front
+use Rattle.std.proofs.Common.{◌≡◌, ℕ, Bool, true, false, if◌then◌else◌, refl, ◌∙◌, Option, Some, None}
+use Rattle.cpn_definitions.specs.Inscription.{PlainExpr, Operation, apply, operation, equality, inequality, less_than, at_most, greater_than, at_least, appending, addition, subtraction, multiplication, division, remainder, concatenation}
+use Rattle.cpn_trees.specs.declared.operators.Infix.{Infix}
+use Rattle.cpn_trees.specs.declared.operators.Infix.TheVariants as sign
+use Rattle.cpn_trees.specs.declared.operators.Prefix.{Prefix}
+use Rattle.cpn_trees.specs.declared.operators.Prefix.TheVariants as front
 use Rattle.cpn_typing.specs.Types.{PlainTy, bool_type, int_type, text_type}
-use Rattle.cpn_typing.specs.Names.{Checked, ok, refused, ◌>>=◌}
-use Rattle.cpn_typing.specs.Rules.{Typed, Sides, Spot, Part, two, meets, infix_rule, prefix_rule, on_two_of, equated, compared, joined, alike, sides, any_type, ordered, a_list, waits, list_wanted}
-use Rattle.cpn_types.specs.Operators.{from_sides, from_left, from_right, operand_wanted, operand_makes, unless_wanted}
+use Rattle.cpn_typing.specs.Names.{Checked, ◌>>=◌}
+use Rattle.cpn_typing.specs.Rules.{Typed, Spot, Part, two, meets, infix_rule, prefix_rule, on_two_of, alike, sides, any_type, ordered, a_list, waits, list_wanted}
+use Rattle.cpn_forms.specs.Operators.{from_sides, operand_wanted, operand_makes, unless_wanted}
 use Rattle.cpn_types.proofs.CallFronts.{regrouped, alike_behind}
 
 -- two parts of given types

@@ -1,12 +1,12 @@
 -- What a form of the program is, where its parts are lent.
-use Rattle.std.proofs.Common.{◌≡◌, ℕ, List, map, refl, Vec, Box, String, Global, rules, string_bytes}
-use Rattle.cpn_syntax.specs.declared.operators.Infix.{Infix}
-use Rattle.cpn_syntax.specs.declared.trees.Ast.{Ast}
-use Rattle.cpn_syntax.specs.declared.trees.LocalValue.{LocalValue}
-use Rattle.cpn_syntax.specs.declared.trees.Form.{Form, the_lemmas}
-use Rattle.cpn_syntax.specs.declared.trees.Form.TheVariants as form
-use Rattle.cpn_syntax.specs.Trees.{call, let_in, infixed, if_else, fold, asts_from}
-use Rattle.cpn_syntax.specs.AstViews.{form_view, ast_view, local_view, locals_from}
+use Rattle.std.proofs.Common.{◌≡◌, ℕ, List, map, Vec, Box, String, Global, rules, string_bytes}
+use Rattle.cpn_trees.specs.declared.operators.Infix.{Infix}
+use Rattle.cpn_trees.specs.declared.trees.Ast.{Ast}
+use Rattle.cpn_trees.specs.declared.trees.LocalValue.{LocalValue}
+use Rattle.cpn_trees.specs.declared.trees.Form.{Form, the_lemmas}
+use Rattle.cpn_trees.specs.declared.trees.Form.TheVariants as form
+use Rattle.cpn_trees.specs.Trees.{call, let_in, infixed, if_else, fold, asts_from}
+use Rattle.cpn_trees.specs.AstViews.{form_view, ast_view, local_view, locals_from}
 
 view_call : (n : String Global) (parts : Vec Ast Global) → form_view (form.Call n parts) ≡ call (string_bytes n) (asts_from (map ast_view parts.items))
 view_call n parts = search (rules, the_lemmas)

@@ -1,8 +1,8 @@
 -- What is checked already, in front of what the rules say of the rest.
 use Rattle.std.proofs.Common.{◌≡◌, ℕ, zero, suc, ◌+◌, ◌-◌, ◌<◌, ◌≤◌, drop_of_length-le, List, [], ◌∷◌, ◌++◌, length, get_or, drop, map, refl, sym, ap, subst, ◌∙◌, arith, add-one, drop-cons, Option, Some, None}
-use Rattle.cpn_syntax.specs.Trees.{asts_from}
-use Rattle.cpn_syntax.specs.AstViews.{ast_view}
-use Rattle.cpn_syntax.specs.declared.trees.Ast.{Ast}
+use Rattle.cpn_trees.specs.Trees.{asts_from}
+use Rattle.cpn_trees.specs.AstViews.{ast_view}
+use Rattle.cpn_trees.specs.declared.trees.Ast.{Ast}
 use Rattle.cpn_definitions.specs.Inscription.{PlainExpr, PlainExprs, no_exprs, more_exprs, exprs_from}
 use Rattle.cpn_core.specs.Inscriptions.{expr_view}
 use Rattle.cpn_core.specs.declared.inscriptions.Expr.{Expr}
@@ -11,11 +11,11 @@ use Rattle.cpn_typing.specs.Names.{Declared, Scope, Refusal, Checked, ok, refuse
 use Rattle.cpn_typing.specs.Places.{Place}
 use Rattle.cpn_typing.specs.Rules.{Typed, Parts, Items, first_wanted, later_wanted}
 use Rattle.cpn_typing.specs.Expressions.{typed, typed_parts, typed_items}
-use Rattle.cpn_types.specs.TypeViews.{ty_view, tys_view}
-use Rattle.cpn_types.specs.Answers.{Refuses}
-use Rattle.cpn_types.specs.TypedViews.{typed_view}
-use Rattle.cpn_types.specs.declared.typed.Typed as program
-use Rattle.cpn_types.specs.declared.types.Ty.{Ty}
+use Rattle.cpn_declared.specs.TypeViews.{ty_view, tys_view}
+use Rattle.cpn_typing.specs.Answers.{Refuses}
+use Rattle.cpn_forms.specs.TypedViews.{typed_view}
+use Rattle.cpn_forms.specs.declared.typed.Typed as program
+use Rattle.cpn_declared.specs.declared.types.Ty.{Ty}
 
 -- some in front of others
 abbrev pub exprs_before : List PlainExpr → PlainExprs → PlainExprs

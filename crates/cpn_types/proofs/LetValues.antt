@@ -6,18 +6,19 @@ use Rattle.std.proofs.lemmas.List.{map-append, length-take, take-append-le}
 use Rattle.cpn_definitions.specs.Inscription.{PlainExpr, ArcInscription, bound}
 use Rattle.cpn_core.specs.declared.inscriptions.Expr.{Expr}
 use Rattle.cpn_core.specs.Inscriptions.{expr_view}
-use Rattle.cpn_syntax.specs.Trees.{PlainAst}
-use Rattle.cpn_syntax.specs.AstViews.{ast_view, local_view, locals_from}
-use Rattle.cpn_syntax.specs.declared.trees.LocalValue.{LocalValue, the_lemmas}
+use Rattle.cpn_trees.specs.Trees.{PlainAst}
+use Rattle.cpn_trees.specs.AstViews.{ast_view, local_view, locals_from}
+use Rattle.cpn_trees.specs.declared.trees.LocalValue.{LocalValue, the_lemmas}
 use Rattle.cpn_typing.specs.Names.{Name, Scope, local_of, Refusal, Checked, ok, refused, ◌>>=◌}
 use Rattle.cpn_typing.specs.Rules.{Typed}
 use Rattle.cpn_typing.specs.Multisets.{Site, marked_let}
-use Rattle.cpn_types.specs.Answers.{refusal_of, Refuses}
-use Rattle.cpn_types.specs.DeclsViews.{scope_view}
-use Rattle.cpn_types.specs.DeclsViews as views
-use Rattle.cpn_types.specs.TypeViews.{ty_view}
-use Rattle.cpn_types.specs.declared.scopes.Local.{Local as Here}
-use Rattle.cpn_types.specs.declared.refusals.TypeError.{TypeError}
+use Rattle.cpn_declared.specs.Answers.{refusal_of}
+use Rattle.cpn_typing.specs.Answers.{Refuses}
+use Rattle.cpn_forms.specs.ScopeViews.{scope_view}
+use Rattle.cpn_forms.specs.ScopeViews as views
+use Rattle.cpn_declared.specs.TypeViews.{ty_view}
+use Rattle.cpn_forms.specs.declared.scopes.Local.{Local as Here}
+use Rattle.cpn_declared.specs.declared.refusals.TypeError.{TypeError}
 use Rattle.cpn_types.specs.Sites.{value_at, all_bound, LetAnswers}
 
 pub view_local : (v : LocalValue) → local_view v ≡ (string_bytes v.name, ast_view v.value)

@@ -1,13 +1,13 @@
 -- A tree with a backtick at its root.
 use Rattle.std.proofs.Common.{◌≡◌, ℕ, true, Box, Global, refl, sym, ap, ◌∙◌, rules}
-use Rattle.cpn_syntax.specs.declared.operators.Infix.{Infix}
-use Rattle.cpn_syntax.specs.declared.operators.Infix.TheVariants as sign
-use Rattle.cpn_syntax.specs.declared.trees.Ast.{Ast}
-use Rattle.cpn_syntax.specs.declared.trees.Ast as tree
-use Rattle.cpn_syntax.specs.declared.trees.Form.{the_lemmas}
-use Rattle.cpn_syntax.specs.declared.trees.Form.TheVariants as form
-use Rattle.cpn_syntax.specs.Trees.{ast, infixed}
-use Rattle.cpn_syntax.specs.AstViews.{ast_view, form_view}
+use Rattle.cpn_trees.specs.declared.operators.Infix.{Infix}
+use Rattle.cpn_trees.specs.declared.operators.Infix.TheVariants as sign
+use Rattle.cpn_trees.specs.declared.trees.Ast.{Ast}
+use Rattle.cpn_trees.specs.declared.trees.Ast as tree
+use Rattle.cpn_trees.specs.declared.trees.Form.{the_lemmas}
+use Rattle.cpn_trees.specs.declared.trees.Form.TheVariants as form
+use Rattle.cpn_trees.specs.Trees.{ast, infixed}
+use Rattle.cpn_trees.specs.AstViews.{ast_view, form_view}
 use Rattle.cpn_typing.specs.Names.{Scope}
 use Rattle.cpn_typing.specs.Multisets.{Site, marked}
 use Rattle.cpn_types.specs.Sites.{is_times, many_tokens}

@@ -2,11 +2,11 @@
 use Rattle.std.proofs.Common.{◌≡◌, ℕ, ◌+◌, ◌<◌, ◌≤◌, List, [], ◌∷◌, ◌++◌, map, length, get_or, drop, refl, sym, ap, ◌∙◌, rules, add-one, drop-cons}
 use Rattle.std.proofs.Math.ListN.{drop_of_length-le}
 use Rattle.cpn_definitions.specs.Inscription.{PlainPattern, ArcInscription, ArcInscriptions, no_inscriptions, more_inscriptions, inscriptions_from, ArcArms, no_arc_arms, more_arc_arms, arc_arms_from}
-use Rattle.cpn_syntax.specs.Trees.{PlainAst, PlainPat, asts_from}
-use Rattle.cpn_syntax.specs.PatViews.{pat_view}
-use Rattle.cpn_syntax.specs.AstViews.{ast_view, arm_view, arms_from}
-use Rattle.cpn_syntax.specs.declared.trees.Ast.{Ast}
-use Rattle.cpn_syntax.specs.declared.trees.Arm.{Arm, the_lemmas}
+use Rattle.cpn_trees.specs.Trees.{PlainAst, PlainPat, asts_from}
+use Rattle.cpn_trees.specs.PatViews.{pat_view}
+use Rattle.cpn_trees.specs.AstViews.{ast_view, arm_view, arms_from}
+use Rattle.cpn_trees.specs.declared.trees.Ast.{Ast}
+use Rattle.cpn_trees.specs.declared.trees.Arm.{Arm, the_lemmas}
 use Rattle.cpn_typing.specs.Types.{PlainTy}
 use Rattle.cpn_typing.specs.Names.{Scope, Refusal, Checked, ok, refused, ◌>>=◌}
 use Rattle.cpn_typing.specs.PatternRules.{BoundPattern, typed_pattern}

@@ -3,7 +3,7 @@ use Rattle.std.proofs.Common.{◌≡◌}
 use Rattle.cpn_definitions.specs.Colour.{PlainColour}
 use Rattle.cpn_definitions.specs.Inscription.{ArcInscription}
 use Rattle.cpn_definitions.proofs.RisingLists.{in_from_contains, contains_from_in}
-use Rattle.cpn_syntax.specs.Trees.{PlainAst}
+use Rattle.cpn_trees.specs.Trees.{PlainAst}
 use Rattle.cpn_typing.specs.Names.{Declared, ok}
 use Rattle.cpn_typing.specs.Multisets.{Side, checked_arc, checked_init}
 use Rattle.cpn_typing.proofs.MeaningsInNets.{arc_means, init_means}

@@ -1,33 +1,28 @@
 -- The values of a `let` that are checked already, around what the rules say of the rest.
-use Rattle.std.proofs.Common.{◌≡◌, ℕ, suc, ◌+◌, ◌<◌, ◌≤◌, drop_of_length-le, List, [], ◌∷◌, ◌++◌, length, get_or, drop, map, refl, sym, ap, ◌∙◌, add-one, length-append, arith, rules, take, subst, Bor, Box, Global, string_bytes, drop-cons, Option, Some, None}
+use Rattle.std.proofs.Common.{◌≡◌, ℕ, suc, ◌+◌, ◌<◌, ◌≤◌, drop_of_length-le, List, [], ◌∷◌, ◌++◌, length, get_or, drop, map, refl, sym, ap, ◌∙◌, add-one, length-append, arith, rules, take, Bor, string_bytes, drop-cons, Option, Some, None}
 use Rattle.std.proofs.lemmas.List.{take-append-le}
-use Rattle.cpn_syntax.specs.AstViews.{locals_from, local_view, ast_view}
-use Rattle.cpn_syntax.specs.declared.trees.LocalValue.{LocalValue}
-use Rattle.cpn_syntax.specs.declared.trees.LocalValue as local_value
+use Rattle.cpn_trees.specs.AstViews.{locals_from, local_view, ast_view}
+use Rattle.cpn_trees.specs.declared.trees.LocalValue.{LocalValue}
+use Rattle.cpn_trees.specs.declared.trees.LocalValue as local_value
 use Rattle.cpn_definitions.specs.Inscription.{PlainExpr, bind}
 use Rattle.cpn_core.specs.Inscriptions.{expr_view}
-use Rattle.cpn_core.specs.declared.inscriptions.Expr.{Expr, the_lemmas}
-use Rattle.cpn_core.specs.declared.inscriptions.Expr.TheVariants as exprs
-use Rattle.cpn_types.specs.declared.scopes.Local.{Local}
-use Rattle.cpn_types.specs.declared.typed.Typed as program
-use Rattle.cpn_types.specs.DeclsViews.{scope_view}
-use Rattle.cpn_types.specs.TypedViews.{typed_view}
-use Rattle.cpn_types.specs.TypeViews.{ty_view}
-use Rattle.cpn_typing.specs.Types.{PlainTy}
+use Rattle.cpn_core.specs.declared.inscriptions.Expr.{Expr}
+use Rattle.cpn_forms.specs.declared.scopes.Local.{Local}
+use Rattle.cpn_forms.specs.declared.typed.Typed as program
+use Rattle.cpn_forms.specs.ScopeViews.{scope_view}
+use Rattle.cpn_forms.specs.TypedViews.{typed_view}
+use Rattle.cpn_declared.specs.TypeViews.{ty_view}
 use Rattle.cpn_typing.specs.Names.{Declared, Scope, local_of, Refusal, Checked, ok, refused, ◌>>=◌}
 use Rattle.cpn_typing.specs.Places.{Place}
 use Rattle.cpn_typing.specs.Rules.{Typed}
 use Rattle.cpn_typing.specs.Expressions.{typed, typed_let}
-use Rattle.cpn_types.specs.Answers.{Refuses}
-use Rattle.cpn_types.specs.Bindings.{bind_all}
+use Rattle.cpn_typing.specs.Answers.{Refuses}
+use Rattle.cpn_typing.specs.Bindings.{bind_all}
+use Rattle.cpn_typing.proofs.Bindings.{bind_more}
 
 abbrev pub around_rest : List PlainExpr → Checked Typed → Checked Typed
 around_rest es (ok r) = ok (record { expr = bind_all es r.expr; type_of = r.type_of })
 around_rest es (refused r) = refused r
-
-pub bind_more : (es : List PlainExpr) (e body : PlainExpr) → bind_all (es ++ e ∷ []) body ≡ bind_all es (bind e body)
-bind_more [] e body = refl
-bind_more (x ∷ es) e body = ap (bind x) (bind_more es e body)
 
 value_in_front : (es : List PlainExpr) (r : Typed) (c : Checked Typed) → around_rest (es ++ r.expr ∷ []) c ≡ around_rest es (c >>= λ rest. ok (record { expr = bind r.expr rest.expr; type_of = rest.type_of }))
 value_in_front es r (ok x) = rw (bind_more es r.expr x.expr) refl
@@ -66,22 +61,6 @@ map_more : {A B : Type 0} (f : A → B) (xs : List A) (x : A) → map f (xs ++ x
 map_more f [] x = refl
 map_more f (y ∷ xs) x = ap (λ ys. f y ∷ ys) (map_more f xs x)
 
-view_let : (a b : Box Expr Global) → expr_view (exprs.Let a b) ≡ bind (expr_view a.value) (expr_view b.value)
-view_let a b = search (rules, the_lemmas)
-
--- the last of the values around what has been made
-pub bind_last : (es rest : List Expr) (v e : Expr) (a b : Box Expr Global) (all : PlainExpr) → es ≡ rest ++ v ∷ [] → a.value ≡ v → b.value ≡ e
-    → bind_all (map expr_view es) (expr_view e) ≡ all → bind_all (map expr_view rest) (expr_view (exprs.Let a b)) ≡ all
-bind_last es rest v e a b all s p q h =
-    ap (bind_all (map expr_view rest)) (view_let a b ∙ ap (λ x. bind (expr_view x) (expr_view b.value)) p ∙ ap (λ x. bind (expr_view v) (expr_view x)) q)
-    ∙ sym (bind_more (map expr_view rest) (expr_view v) (expr_view e))
-    ∙ ap (λ xs. bind_all xs (expr_view e)) (sym (ap (map expr_view) s ∙ map_more expr_view rest v))
-    ∙ h
-
-pub bind_none : (es : List Expr) (e : PlainExpr) → length es ≡ 0 → bind_all (map expr_view es) e ≡ e
-bind_none [] e h = refl
-bind_none (x ∷ es) e h = absurd (omega arith)
-
 local_value_is : (x : LocalValue) → local_view x ≡ (string_bytes x.name, ast_view x.value)
 local_value_is x = search (rules, local_value.the_lemmas)
 
@@ -104,9 +83,3 @@ take_front n xs ys zs ws x le e f h = rw (f, e) (rw take-append-le h)
 
 pub further_front : {A : Type 0} (n : ℕ) (xs ys zs : List A) (x : A) → n ≤ length xs → ys ≡ xs → zs ≡ ys ++ x ∷ [] → n ≤ length zs
 further_front n xs ys zs x le e f = rw (f, e) (let k = length-append xs (x ∷ []) in omega arith)
-
-abbrev pub made_of : PlainExpr → PlainTy → Checked Typed
-made_of e t = ok (record { expr = e; type_of = t })
-
-pub bind_done : (es : List Expr) (e all : PlainExpr) (t u : PlainTy) → length es ≡ 0 → bind_all (map expr_view es) e ≡ all → t ≡ u → made_of all t ≡ made_of e u
-bind_done es e all t u z h s = ap (λ x. made_of x t) (sym h ∙ bind_none es e z) ∙ ap (made_of e) s

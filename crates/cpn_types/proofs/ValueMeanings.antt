@@ -4,7 +4,7 @@ use Rattle.std.specs.List.{AllByRecursion}
 use Rattle.cpn_definitions.specs.Inscription.{PlainExpr}
 use Rattle.cpn_definitions.specs.Bindable.{variables_of}
 use Rattle.cpn_definitions.proofs.RisingLists.{in_from_contains, contains_from_in}
-use Rattle.cpn_syntax.specs.Trees.{PlainAst, PlainAsts}
+use Rattle.cpn_trees.specs.Trees.{PlainAst, PlainAsts}
 use Rattle.cpn_typing.specs.Types.{PlainTy, int_type}
 use Rattle.cpn_typing.specs.Names.{Declared, ok}
 use Rattle.cpn_typing.specs.Places.{in_delay, in_monitor}

@@ -1,15 +1,16 @@
 -- What the rules say of a tree among what is around it.
 use Rattle.std.specs.Prelude.{ℕ, false, List, [], ◌∷◌, ◌++◌, map, Option}
-use Rattle.cpn_syntax.specs.AstViews.{ast_view}
-use Rattle.cpn_syntax.specs.Trees.{asts_from}
-use Rattle.cpn_syntax.specs.declared.trees.Ast.{Ast}
+use Rattle.cpn_trees.specs.AstViews.{ast_view}
+use Rattle.cpn_trees.specs.Trees.{asts_from}
+use Rattle.cpn_trees.specs.declared.trees.Ast.{Ast}
 use Rattle.cpn_typing.specs.Types.{PlainTy}
 use Rattle.cpn_typing.specs.Names.{Name, Scope, local_of, Checked}
 use Rattle.cpn_typing.specs.Rules.{Typed, Checker, Arguments, first_place}
 use Rattle.cpn_typing.specs.Expressions.{typed, typed_first, typed_rest}
-use Rattle.cpn_types.specs.DeclsViews.{decls_view, scope_view}
-use Rattle.cpn_types.specs.PlaceViews.{place_view}
-use Rattle.cpn_types.specs.declared.scopes.Local.{Local}
+use Rattle.cpn_declared.specs.DeclsViews.{decls_view}
+use Rattle.cpn_forms.specs.ScopeViews.{scope_view}
+use Rattle.cpn_forms.specs.PlaceViews.{place_view}
+use Rattle.cpn_forms.specs.declared.scopes.Local.{Local}
 use Rattle.cpn_types.specs.declared.surroundings.Surroundings.{Surroundings}
 
 -- a tree among the locals of its place

@@ -3,8 +3,8 @@ use Rattle.cpn_lex.specs.declared.refusals.LexError.{LexError}
 use Rattle.cpn_lex.specs.declared.refusals.LexError.TheVariants as lexing
 use Rattle.cpn_syntax.specs.declared.refusals.SyntaxError.{SyntaxError}
 use Rattle.cpn_syntax.specs.declared.refusals.SyntaxError.TheVariants as parsing
-use Rattle.cpn_types.specs.declared.refusals.TypeError.{TypeError}
-use Rattle.cpn_types.specs.declared.refusals.TypeError.TheVariants as typing
+use Rattle.cpn_declared.specs.declared.refusals.TypeError.{TypeError}
+use Rattle.cpn_declared.specs.declared.refusals.TypeError.TheVariants as typing
 use Rattle.cpn_types.specs.declared.inscription_errors.InscriptionError.{InscriptionError}
 use Rattle.cpn_types.specs.declared.inscription_errors.InscriptionError.TheVariants as errors
 

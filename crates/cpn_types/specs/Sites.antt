@@ -4,9 +4,9 @@ use Rattle.std.specs.declared.alloc.Global.{Global}
 use Rattle.cpn_definitions.specs.Inscription.{PlainPattern, PlainExpr, ArcInscription, one, times, bound}
 use Rattle.cpn_core.specs.declared.inscriptions.Expr.{Expr}
 use Rattle.cpn_core.specs.Inscriptions.{expr_view}
-use Rattle.cpn_syntax.specs.declared.operators.Infix.{Infix}
-use Rattle.cpn_syntax.specs.declared.operators.Infix.TheVariants as sign
-use Rattle.cpn_syntax.specs.Trees.{PlainAst, PlainPat}
+use Rattle.cpn_trees.specs.declared.operators.Infix.{Infix}
+use Rattle.cpn_trees.specs.declared.operators.Infix.TheVariants as sign
+use Rattle.cpn_trees.specs.Trees.{PlainAst, PlainPat}
 use Rattle.cpn_typing.specs.Types.{PlainTy, int_type}
 use Rattle.cpn_typing.specs.Names.{Scope, Checked, ok, ◌>>=◌}
 use Rattle.cpn_typing.specs.Rules as rules
@@ -14,11 +14,12 @@ use Rattle.cpn_typing.specs.Expressions.{typed}
 use Rattle.cpn_typing.specs.PatternRules.{typed_pattern}
 use Rattle.cpn_typing.specs.Multisets.{inside, marked}
 use Rattle.cpn_typing.specs.Multisets as multisets
-use Rattle.cpn_types.specs.Answers.{refusal_of, Refuses}
-use Rattle.cpn_types.specs.DeclsViews.{decls_view}
-use Rattle.cpn_types.specs.PlaceViews.{side_view}
-use Rattle.cpn_types.specs.TypeViews.{ty_view}
-use Rattle.cpn_types.specs.declared.refusals.TypeError.{TypeError}
+use Rattle.cpn_declared.specs.Answers.{refusal_of}
+use Rattle.cpn_typing.specs.Answers.{Refuses}
+use Rattle.cpn_declared.specs.DeclsViews.{decls_view}
+use Rattle.cpn_forms.specs.PlaceViews.{side_view}
+use Rattle.cpn_declared.specs.TypeViews.{ty_view}
+use Rattle.cpn_declared.specs.declared.refusals.TypeError.{TypeError}
 use Rattle.cpn_types.specs.declared.sites.Site.{Site}
 
 abbrev pub site_view : Site → multisets.Site

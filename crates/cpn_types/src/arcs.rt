@@ -3,22 +3,20 @@
 ghost use Rattle.std.specs.Prelude.{◌≡◌, [], IfOk, map};
 ghost use Rattle.cpn_core.specs.Colours.{colour_view};
 ghost use Rattle.cpn_core.specs.Inscriptions.{multiset_view, term_view};
-ghost use Rattle.cpn_syntax.specs.AstViews.{ast_view};
-ghost use Rattle.cpn_syntax.specs.ParsedViews.{inscription_view};
+ghost use Rattle.cpn_trees.specs.AstViews.{ast_view};
+ghost use Rattle.cpn_trees.specs.ParsedViews.{inscription_view};
 ghost use Rattle.cpn_typing.specs.Multisets.{site_of, marked, checked_arc, checked_init};
 ghost use Rattle.cpn_types.specs.Accepted.{ArcHasMeaning, InitHasMeaning, terms_on};
-ghost use Rattle.cpn_types.specs.Answers.{Answers};
-ghost use Rattle.cpn_types.specs.DeclsViews.{decls_view};
-ghost use Rattle.cpn_types.specs.PlaceViews.{side_view};
+ghost use Rattle.cpn_declared.specs.Answers.{Answers};
+ghost use Rattle.cpn_declared.specs.DeclsViews.{decls_view};
+ghost use Rattle.cpn_forms.specs.PlaceViews.{side_view};
 
-use crate::decls::Decls;
-use crate::input_terms::binding_terms;
-use crate::places::Side;
-use crate::refusals::TypeError;
 use crate::sites::Site;
-use crate::types::Ty;
+use cpn_bindable::binding_terms;
 use cpn_core::{ArcExpr, BindingTerm, Colour, MExpr, Memory};
-use cpn_syntax::{Ast, Inscription};
+use cpn_declared::{Decls, Ty, TypeError};
+use cpn_forms::Side;
+use cpn_trees::{Ast, Inscription};
 use std::alloc::Global;
 
 /// The inscription of tokens of a tree at a place of a colour set.
@@ -98,10 +96,10 @@ pub fn check_init(
     ensures terms { IfOk result (λ arc. arc.terms.items ≡ []) }
     ensures means { IfOk result (λ arc. InitHasMeaning (decls_view decls.now) (colour_view colour.now) (multiset_view arc.expr)) }
 {
+    let colour_of_place = colour.copy()?;
     let expr = check_tokens(alloc, decls, colour, Side::Initial, &written.tree)?;
-    let colour = colour.copy()?;
     Ok(ArcExpr {
-        colour,
+        colour: colour_of_place,
         expr,
         terms: Vec::new(alloc),
     })

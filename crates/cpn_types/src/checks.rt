@@ -2,26 +2,23 @@
 
 ghost use Rattle.std.specs.Prelude.{◌≡◌, IfOk, Some, [], map};
 ghost use Rattle.cpn_core.specs.Inscriptions.{expr_view};
-ghost use Rattle.cpn_syntax.specs.AstViews.{ast_view};
-ghost use Rattle.cpn_syntax.specs.Trees.{asts_from};
-ghost use Rattle.cpn_syntax.specs.ParsedViews.{inscription_view, guard_view};
+ghost use Rattle.cpn_trees.specs.AstViews.{ast_view};
+ghost use Rattle.cpn_trees.specs.Trees.{asts_from};
+ghost use Rattle.cpn_trees.specs.ParsedViews.{inscription_view, guard_view};
 ghost use Rattle.cpn_typing.specs.Expressions.{typed};
 ghost use Rattle.cpn_typing.specs.GuardsAndDelays.{checked_guard, checked_delay, checked_value};
 ghost use Rattle.cpn_types.specs.Accepted.{GuardHasMeaning, IntegerHasMeaning};
-ghost use Rattle.cpn_types.specs.Answers.{Answers};
-ghost use Rattle.cpn_types.specs.DeclsViews.{decls_view};
-ghost use Rattle.cpn_types.specs.PlaceViews.{place_view};
-ghost use Rattle.cpn_types.specs.TypeViews.{ty_view};
-ghost use Rattle.cpn_types.specs.TypedViews.{typed_view};
+ghost use Rattle.cpn_declared.specs.Answers.{Answers};
+ghost use Rattle.cpn_declared.specs.DeclsViews.{decls_view};
+ghost use Rattle.cpn_forms.specs.PlaceViews.{place_view};
+ghost use Rattle.cpn_declared.specs.TypeViews.{ty_view};
+ghost use Rattle.cpn_forms.specs.TypedViews.{typed_view};
 
-use crate::decls::Decls;
 use crate::expressions::check_expr;
-use crate::places::Place;
-use crate::refusals::TypeError;
-use crate::typed::Typed;
-use crate::types::Ty;
 use cpn_core::{Expr, Exprs, Guard};
-use cpn_syntax::{Ast, Inscription};
+use cpn_declared::{Decls, Ty, TypeError};
+use cpn_forms::{Place, Typed};
+use cpn_trees::{Ast, Inscription};
 use std::alloc::Global;
 
 /// The typed inscription of a tree at a place without locals.
@@ -60,7 +57,7 @@ fn check_conjuncts(alloc: Global, decls: &Decls, trees: &[Ast]) -> Result<Exprs,
 pub fn check_guard(
     alloc: Global,
     decls: &Decls,
-    written: &cpn_syntax::Guard,
+    written: &cpn_trees::Guard,
 ) -> Result<Guard, TypeError>
     ensures exact { Answers (λ guard. map expr_view guard.conjuncts.items) result (checked_guard (decls_view decls.now) (guard_view written.now)) }
     ensures means { IfOk result (λ guard. GuardHasMeaning (decls_view decls.now) (map expr_view guard.conjuncts.items)) }

@@ -1,19 +1,18 @@
 //! Declarations, one after another.
 
 ghost use Rattle.std.specs.Prelude.{◌≡◌, OnErr};
-ghost use Rattle.cpn_syntax.specs.DeclTrees.{form_view};
-ghost use Rattle.cpn_syntax.specs.ParsedViews.{declaration_view};
+ghost use Rattle.cpn_trees.specs.DeclTrees.{form_view};
+ghost use Rattle.cpn_trees.specs.ParsedViews.{declaration_view};
 ghost use Rattle.cpn_typing.specs.Consistency.{IsConsistent};
 ghost use Rattle.cpn_typing.specs.Declarations.{declared, declared_form};
-ghost use Rattle.cpn_types.specs.Additions.{Grows};
-ghost use Rattle.cpn_types.specs.Answers.{Answers};
-ghost use Rattle.cpn_types.specs.DeclsViews.{decls_view};
+ghost use Rattle.cpn_declared.specs.Additions.{Grows};
+ghost use Rattle.cpn_declared.specs.Answers.{Answers};
+ghost use Rattle.cpn_declared.specs.DeclsViews.{decls_view};
 
-use crate::colour_sets::{declare_colour_set, declare_variables};
-use crate::decls::Decls;
 use crate::functions::{declare_function, declare_value};
-use crate::refusals::TypeError;
-use cpn_syntax::{DeclForm, Declaration};
+use cpn_colour_sets::{declare_colour_set, declare_variables};
+use cpn_declared::{Decls, TypeError};
+use cpn_trees::{DeclForm, Declaration};
 use std::alloc::Global;
 
 /// Adds a declaration to what has been declared. After an error all is as it was.

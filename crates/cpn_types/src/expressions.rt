@@ -1,22 +1,19 @@
 //! Inscriptions of one value.
 
 ghost use Rattle.std.specs.Prelude.{◌≡◌, option_map};
-ghost use Rattle.cpn_syntax.specs.AstViews.{ast_view};
+ghost use Rattle.cpn_trees.specs.AstViews.{ast_view};
 ghost use Rattle.cpn_typing.specs.Expressions.{typed};
-ghost use Rattle.cpn_types.specs.Answers.{Answers};
-ghost use Rattle.cpn_types.specs.DeclsViews.{decls_view, scope_view};
-ghost use Rattle.cpn_types.specs.PlaceViews.{place_view};
-ghost use Rattle.cpn_types.specs.TypeViews.{ty_view};
-ghost use Rattle.cpn_types.specs.TypedViews.{typed_view};
+ghost use Rattle.cpn_declared.specs.Answers.{Answers};
+ghost use Rattle.cpn_declared.specs.DeclsViews.{decls_view};
+ghost use Rattle.cpn_forms.specs.ScopeViews.{scope_view};
+ghost use Rattle.cpn_forms.specs.PlaceViews.{place_view};
+ghost use Rattle.cpn_declared.specs.TypeViews.{ty_view};
+ghost use Rattle.cpn_forms.specs.TypedViews.{typed_view};
 
-use crate::decls::Decls;
-use crate::places::Place;
-use crate::refusals::TypeError;
-use crate::scopes::Local;
 use crate::surroundings::Surroundings;
-use crate::typed::Typed;
-use crate::types::Ty;
-use cpn_syntax::Ast;
+use cpn_declared::{Decls, Ty, TypeError};
+use cpn_forms::{Local, Place, Typed};
+use cpn_trees::Ast;
 use std::alloc::Global;
 
 /// The typed inscription of a tree among the locals of its place, at a wanted type or with none. The locals are as they

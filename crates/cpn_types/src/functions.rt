@@ -1,29 +1,24 @@
 //! Values and functions that are declared.
 
 ghost use Rattle.std.specs.Prelude.{◌≡◌, map, length, true, [], None, IfOk, IfErr, OnOk};
-ghost use Rattle.cpn_syntax.specs.AstViews.{ast_view};
-ghost use Rattle.cpn_syntax.specs.DeclTrees.{parameter_view, value, function};
+ghost use Rattle.cpn_trees.specs.AstViews.{ast_view};
+ghost use Rattle.cpn_trees.specs.DeclTrees.{parameter_view, value, function};
 ghost use Rattle.cpn_typing.specs.ColourSets.{is_new as may_be_declared, other_names};
 ghost use Rattle.cpn_typing.specs.Declarations.{declared_form, scope_of as scope_of_rules, with_function};
 ghost use Rattle.cpn_typing.specs.Names.{types_of_scope};
-ghost use Rattle.cpn_types.specs.Additions.{Grows};
-ghost use Rattle.cpn_types.specs.Answers.{Answers, refusal_of};
-ghost use Rattle.cpn_types.specs.DeclsViews.{decls_view, scope_view};
-ghost use Rattle.cpn_types.specs.TypeViews.{tys_view};
-ghost use Rattle.cpn_types.specs.TypedViews.{typed_view};
+ghost use Rattle.cpn_declared.specs.Additions.{Grows};
+ghost use Rattle.cpn_declared.specs.Answers.{Answers, refusal_of};
+ghost use Rattle.cpn_declared.specs.DeclsViews.{decls_view};
+ghost use Rattle.cpn_forms.specs.ScopeViews.{scope_view};
+ghost use Rattle.cpn_declared.specs.TypeViews.{tys_view};
+ghost use Rattle.cpn_forms.specs.TypedViews.{typed_view};
 
-use crate::additions::number_of;
-use crate::decls::Decls;
 use crate::expressions::check_expr;
-use crate::meanings::Meaning;
-use crate::naming::type_named;
-use crate::places::Place;
-use crate::refusals::TypeError;
-use crate::scopes::{Local, is_local};
-use crate::typed::Typed;
-use crate::types::Tys;
+use cpn_colour_sets::type_named;
 use cpn_core::{Function, Memory};
-use cpn_syntax::{Ast, Parameter};
+use cpn_declared::{Decls, Meaning, TypeError, Tys, number_of};
+use cpn_forms::{Local, Place, Typed, is_local};
+use cpn_trees::{Ast, Parameter};
 use std::alloc::Global;
 
 /// The parameters as locals, from left to right, each of which has another name than those before it.

@@ -3,7 +3,7 @@
 ghost use Rattle.std.specs.Prelude.{◌≡◌};
 ghost use Rattle.cpn_types.specs.InscriptionErrors.{of_lex, of_syntax, of_typing};
 
-use crate::refusals::TypeError;
+use cpn_declared::TypeError;
 use cpn_lex::LexError;
 use cpn_syntax::SyntaxError;
 use thiserror::Error;

@@ -5,25 +5,23 @@
 ghost use Rattle.std.specs.Prelude.{◌≡◌, map, IfOk};
 ghost use Rattle.cpn_definitions.specs.Inscription.{inscriptions_from, arc_arms_from};
 ghost use Rattle.cpn_core.specs.Inscriptions.{multiset_view, arc_arm_view};
-ghost use Rattle.cpn_syntax.specs.Trees.{asts_from, infixed, case_of, let_in};
-ghost use Rattle.cpn_syntax.specs.Trees as trees;
-ghost use Rattle.cpn_syntax.specs.AstViews.{ast_view, arm_view, local_view, arms_from, locals_from};
-ghost use Rattle.cpn_syntax.specs.declared.operators.Infix.TheVariants as signs;
-ghost use Rattle.cpn_syntax.specs.PatViews.{pat_view};
+ghost use Rattle.cpn_trees.specs.Trees.{asts_from, infixed, case_of, let_in};
+ghost use Rattle.cpn_trees.specs.Trees as trees;
+ghost use Rattle.cpn_trees.specs.AstViews.{ast_view, arm_view, local_view, arms_from, locals_from};
+ghost use Rattle.cpn_trees.specs.declared.operators.Infix.TheVariants as signs;
+ghost use Rattle.cpn_trees.specs.PatViews.{pat_view};
 ghost use Rattle.cpn_typing.specs.Multisets.{marked, marked_form, marked_each, marked_arms};
-ghost use Rattle.cpn_types.specs.Answers.{Answers};
-ghost use Rattle.cpn_types.specs.DeclsViews.{scope_view};
-ghost use Rattle.cpn_types.specs.TypeViews.{ty_view};
+ghost use Rattle.cpn_declared.specs.Answers.{Answers};
+ghost use Rattle.cpn_forms.specs.ScopeViews.{scope_view};
+ghost use Rattle.cpn_declared.specs.TypeViews.{ty_view};
 ghost use Rattle.cpn_types.specs.Sites.{site_view, arm_at};
 
-use crate::patterns::{TypedPattern, check_pattern};
-use crate::refusals::TypeError;
-use crate::scopes::Local;
 use crate::site_parts::{bound_by, chosen_by, is_later, is_times};
 use crate::sites::{Site, at_time, delayed};
-use crate::types::Ty;
 use cpn_core::{MArm, MExpr, MExprs};
-use cpn_syntax::{Arm, Ast, Form, LocalValue};
+use cpn_declared::{Ty, TypeError};
+use cpn_forms::{Local, TypedPattern, check_pattern};
+use cpn_trees::{Arm, Ast, Form, LocalValue};
 
 impl Site<'_> {
     /// The inscription of tokens of a tree among the locals of its place. The locals are as they were.

@@ -5,23 +5,21 @@ ghost use Rattle.std.specs.Option.{option_map};
 ghost use Rattle.cpn_definitions.specs.Inscription.{chosen};
 ghost use Rattle.cpn_core.specs.Inscriptions.{expr_view, multiset_view};
 ghost use Rattle.cpn_typing.specs.Names.{ok};
-ghost use Rattle.cpn_syntax.specs.AstViews.{ast_view, local_view, locals_from};
+ghost use Rattle.cpn_trees.specs.AstViews.{ast_view, local_view, locals_from};
 ghost use Rattle.cpn_typing.specs.Multisets.{marked_let};
-ghost use Rattle.cpn_types.specs.Answers.{Answers};
-ghost use Rattle.cpn_types.specs.DeclsViews.{scope_view};
-ghost use Rattle.cpn_types.specs.TypeViews.{ty_view};
-ghost use Rattle.cpn_types.specs.TypedViews.{typed_view};
+ghost use Rattle.cpn_declared.specs.Answers.{Answers};
+ghost use Rattle.cpn_forms.specs.ScopeViews.{scope_view};
+ghost use Rattle.cpn_declared.specs.TypeViews.{ty_view};
+ghost use Rattle.cpn_forms.specs.TypedViews.{typed_view};
 ghost use Rattle.cpn_types.specs.Sites as sites;
 ghost use Rattle.cpn_types.specs.Sites.{site_view, value_at, one_token, many_tokens, all_bound, LetAnswers};
 
 use crate::expressions::check_expr;
-use crate::refusals::TypeError;
-use crate::scopes::Local;
 use crate::sites::{Site, inside};
-use crate::typed::Typed;
-use crate::types::Ty;
 use cpn_core::{Expr, Exprs, MExpr, Memory};
-use cpn_syntax::{Ast, Infix, LocalValue};
+use cpn_declared::{Ty, TypeError};
+use cpn_forms::{Local, Typed};
+use cpn_trees::{Ast, Infix, LocalValue};
 use std::alloc::Global;
 
 /// Whether the operator is a backtick.

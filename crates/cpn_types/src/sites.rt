@@ -5,14 +5,12 @@ ghost use Rattle.cpn_definitions.specs.Inscription.{later, stamped};
 ghost use Rattle.cpn_core.specs.Inscriptions.{expr_view, multiset_view};
 ghost use Rattle.cpn_typing.specs.Multisets.{delay_rule, stamp_rule};
 ghost use Rattle.cpn_typing.specs.Multisets as multisets;
-ghost use Rattle.cpn_types.specs.Answers.{Answers};
-ghost use Rattle.cpn_types.specs.PlaceViews.{side_view, place_view};
+ghost use Rattle.cpn_declared.specs.Answers.{Answers};
+ghost use Rattle.cpn_forms.specs.PlaceViews.{side_view, place_view};
 
-use crate::decls::Decls;
-use crate::places::{Place, Side};
-use crate::refusals::TypeError;
-use crate::types::Ty;
 use cpn_core::{Expr, MExpr};
+use cpn_declared::{Decls, Ty, TypeError};
+use cpn_forms::{Place, Side};
 use std::alloc::Global;
 
 /// What is around an inscription of tokens.
@@ -77,12 +75,12 @@ pub(crate) fn at_time(
 {
     match side {
         Side::Input => Err(TypeError::TimeNotAllowed(sign)),
-        Side::Output => Err(TypeError::TimeNotAllowed(sign)),
         Side::Initial => {
             if !timed {
                 return Err(TypeError::TimeNotAllowed(sign));
             }
             Ok(MExpr::At(Box::new(alloc, tokens)?, stamp))
         }
+        Side::Output => Err(TypeError::TimeNotAllowed(sign)),
     }
 }

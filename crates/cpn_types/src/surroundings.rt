@@ -5,43 +5,34 @@
 //! little of the machine's stack.
 
 ghost use Rattle.std.specs.Prelude.{◌≡◌, ◌≤◌, ◌++◌, map, drop, take, length, string_bytes, option_map};
-ghost use Rattle.cpn_syntax.specs.AstViews.{ast_view, form_view, arm_view, local_view, arms_from, locals_from};
-ghost use Rattle.cpn_syntax.specs.Trees.{asts_from};
+ghost use Rattle.cpn_trees.specs.AstViews.{ast_view, form_view, arm_view, local_view, arms_from, locals_from};
+ghost use Rattle.cpn_trees.specs.Trees.{asts_from};
 ghost use Rattle.cpn_typing.specs.Names.{found};
 ghost use Rattle.cpn_typing.specs.Expressions.{typed_parts, typed_items, typed_arms, typed_form, typed_let};
 ghost use Rattle.cpn_typing.specs.Rules.{part, if_rule, sides, any_type, fold_rule, call_rule, called_as, argument_rule, first_wanted};
-ghost use Rattle.cpn_types.specs.Answers.{Answers};
-ghost use Rattle.cpn_types.specs.DeclsViews.{decls_view, scope_view};
-ghost use Rattle.cpn_types.specs.PlaceViews.{place_view};
-ghost use Rattle.cpn_types.specs.TypeViews.{ty_view, tys_view};
-ghost use Rattle.cpn_types.specs.TypedViews.{typed_view};
-ghost use Rattle.cpn_types.specs.FormViews.{arms_view, branches_view, items_view, parts_view, spot_view, wanted_view};
-ghost use Rattle.cpn_types.specs.Operators.{from_sides};
-ghost use Rattle.cpn_types.specs.Calls.{from_arguments};
+ghost use Rattle.cpn_declared.specs.Answers.{Answers};
+ghost use Rattle.cpn_declared.specs.DeclsViews.{decls_view};
+ghost use Rattle.cpn_forms.specs.ScopeViews.{scope_view};
+ghost use Rattle.cpn_forms.specs.PlaceViews.{place_view};
+ghost use Rattle.cpn_declared.specs.TypeViews.{ty_view, tys_view};
+ghost use Rattle.cpn_forms.specs.TypedViews.{typed_view};
+ghost use Rattle.cpn_forms.specs.FormViews.{arms_view, branches_view, items_view, parts_view, spot_view, wanted_view};
+ghost use Rattle.cpn_forms.specs.Operators.{from_sides};
+ghost use Rattle.cpn_forms.specs.Calls.{from_arguments};
 ghost use Rattle.cpn_core.specs.Inscriptions.{expr_view};
 ghost use Rattle.cpn_types.specs.Around.{typed_in, arguments_in, body_in, typed_then};
 
-use crate::calls::{
-    Called, constructed, find_called, first_wanted_by, function_called, item_of, operation_makes,
-    others_wanted_by, parts_wanted, tuple_made,
-};
-use crate::decls::Decls;
-use crate::forms::{Arms, Branches, Items, Parts, Spot, copy_wanted, lent, meets};
-use crate::leaves::{check_name, check_time, text_literal};
-use crate::lookups::Predeclared;
-use crate::made::{chosen, folded, listed, nested, selected, tupled, two_locals};
-use crate::operators::{
-    Sides, check_side, is_right_first, item_wanted, operand_makes, operand_wanted, other_wanted,
-    side_wanted, sides_make, waits,
-};
-use crate::patterns::check_pattern;
-use crate::places::Place;
-use crate::refusals::TypeError;
-use crate::scopes::Local;
-use crate::typed::Typed;
-use crate::types::Ty;
 use cpn_core::{Expr, Value};
-use cpn_syntax::{Ast, Asts, Form, Infix, LocalValue};
+use cpn_declared::{Decls, Ty, TypeError};
+use cpn_forms::{
+    Arms, Branches, Called, Items, Local, Parts, Place, Predeclared, Sides, Spot, Typed,
+    check_name, check_pattern, check_side, check_time, chosen, constructed, copy_wanted,
+    find_called, first_wanted_by, folded, function_called, is_right_first, item_of, item_wanted,
+    lent, listed, meets, nested, operand_makes, operand_wanted, operation_makes, other_wanted,
+    others_wanted_by, parts_wanted, selected, side_wanted, sides_make, text_literal, tuple_made,
+    tupled, two_locals, waits,
+};
+use cpn_trees::{Ast, Asts, Form, Infix, LocalValue};
 use std::alloc::Global;
 
 /// What is around an inscription: what is declared, and its place.
@@ -319,7 +310,7 @@ impl Surroundings<'_> {
     #[cycle(check)]
     fn arms<'t>(
         &self,
-        arms: &'t [cpn_syntax::Arm],
+        arms: &'t [cpn_trees::Arm],
         scope: &mut Vec<Local<'t>>,
         subject: &Ty,
         wanted: Option<&Ty>,

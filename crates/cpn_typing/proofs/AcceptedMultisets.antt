@@ -6,9 +6,9 @@ use Rattle.cpn_definitions.specs.Outcome.{HasMeaning}
 use Rattle.cpn_definitions.specs.Inscription.{ArcInscription, one, later, stamped, ArcInscriptions, ArcArms}
 use Rattle.cpn_definitions.specs.Bindable.{variables_of}
 use Rattle.cpn_definitions.specs.Terms.{terms_behind}
-use Rattle.cpn_syntax.specs.declared.operators.Infix.TheVariants as sign
-use Rattle.cpn_syntax.specs.Trees.{PlainAst, ast, PlainForm, empty, let_in, infixed, sum, if_else, case_of, PlainAsts, no_ast, more_asts, PlainArms, no_arm, more_arms, PlainLocals, no_local, more_locals}
-use Rattle.cpn_syntax.specs.Trees as tree
+use Rattle.cpn_trees.specs.declared.operators.Infix.TheVariants as sign
+use Rattle.cpn_trees.specs.Trees.{PlainAst, ast, PlainForm, empty, let_in, infixed, sum, if_else, case_of, PlainAsts, no_ast, more_asts, PlainArms, no_arm, more_arms, PlainLocals, no_local, more_locals}
+use Rattle.cpn_trees.specs.Trees as tree
 use Rattle.cpn_typing.specs.Types.{PlainTy, bool_type, int_type}
 use Rattle.cpn_typing.specs.Names.{Scope, Checked, ok, refused, ◌>>=◌, local_of}
 use Rattle.cpn_typing.specs.Places.{Place}

@@ -4,9 +4,9 @@ use Rattle.std.proofs.Common.{◌≡◌, refl, ℕ, pos, true, false, List, [], 
 use Rattle.cpn_definitions.specs.Value as value
 use Rattle.cpn_definitions.specs.Colour.{PlainColour, int_shape, list_shape}
 use Rattle.cpn_definitions.specs.Inscription.{operation, addition, greater_than, listing, variable_pattern, literal_pattern, PlainExpr, literal, variable, local, the_time, apply, accumulate, no_exprs, exprs_from, ArcInscription, no_token, one, times, sum_of, later, stamped, chosen, selected, bound, inscriptions_from, arc_arms_from}
-use Rattle.cpn_syntax.specs.declared.operators.Infix.TheVariants as sign
-use Rattle.cpn_syntax.specs.Trees.{PlainAst, ast, number, truth, empty, time, name, list, tuple, infixed, sum, if_else, case_of, let_in, fold, no_ast, asts_from, no_arm, more_arms, no_local, more_locals, pat, any, pat_name, pat_number}
-use Rattle.cpn_syntax.specs.Trees as tree
+use Rattle.cpn_trees.specs.declared.operators.Infix.TheVariants as sign
+use Rattle.cpn_trees.specs.Trees.{PlainAst, ast, number, truth, empty, time, name, list, tuple, infixed, sum, if_else, case_of, let_in, fold, no_ast, asts_from, no_arm, more_arms, no_local, more_locals, pat, any, pat_name, pat_number}
+use Rattle.cpn_trees.specs.Trees as tree
 use Rattle.cpn_typing.specs.Names.{Name, Declared, nothing_declared, unknown, mismatch, not_closed, input_delay, time_not_allowed, Checked, ok, refused}
 use Rattle.cpn_typing.specs.ColourSets.{least_int, greatest_int}
 use Rattle.cpn_typing.specs.Multisets.{input, output, checked_arc, checked_init}

@@ -4,7 +4,7 @@ use Rattle.std.specs.List.{AllByRecursion}
 use Rattle.cpn_definitions.specs.Net.{PlainTransition, PlainNet, variable_at}
 use Rattle.cpn_definitions.specs.Bindable.{IsBindable}
 use Rattle.cpn_typing.specs.Names.{too_many, variables, not_bindable, Checked, refused}
-use Rattle.cpn_typing.specs.BindableRule.{most_variables, IsFirstNotBindable, IsBindableAnswer, too_many_are_there, one_is_not, all_are}
+use Rattle.cpn_typing.specs.BindableRule.{most_variables, IsFirstNotBindable, FirstIs, IsBindableAnswer, too_many_are_there, one_is_not, all_are}
 use Rattle.cpn_typing.specs.Closure.{is_found, first_unfound, answer_for, answered}
 use Rattle.cpn_typing.proofs.LeastBindable.{IsFirst, found_is_bindable}
 
@@ -45,10 +45,6 @@ one_answer n t c d (all_are few all) (all_are less each) = refl
 -- ---- it is the one that is found
 
 -- whether the first of several variables that is not bindable is this one, or there is none
-abbrev pub FirstIs : PlainNet → PlainTransition → List ℕ → Option ℕ → Type 0
-FirstIs n t xs None = AllByRecursion (IsBindable n t) xs
-FirstIs n t xs (Some x) = IsFirstNotBindable n t xs x
-
 pub one_more : (n : PlainNet) (t : PlainTransition) (y : ℕ) (ys : List ℕ) (o : Option ℕ) → IsBindable n t y → FirstIs n t ys o → FirstIs n t (y ∷ ys) o
 one_more n t y ys None h k = (h, k)
 one_more n t y ys (Some x) h k = record { before = y ∷ k.before; behind = k.behind; stands = ap (λ xs. y ∷ xs) k.stands; bindable_before = (h, k.bindable_before); not_bindable = k.not_bindable }

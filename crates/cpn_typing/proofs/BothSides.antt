@@ -2,12 +2,12 @@
 use Rattle.std.proofs.Common.{◌≡◌, ℕ, Bool, true, false, [], ◌∷◌, ◌++◌, Option, Some, None, refl, ap, ◌∙◌}
 use Rattle.cpn_definitions.specs.Inscription.{Operation, addition, subtraction, multiplication, division, remainder, negation, concatenation, equality, inequality, less_than, at_most, greater_than, at_least, complement, head, tail, list_length, reversal, membership, string_size, PlainExpr, conjunction, disjunction, ArcInscription, one}
 use Rattle.cpn_definitions.specs.Colour.{PlainColour}
-use Rattle.cpn_syntax.specs.declared.operators.Infix.{Infix}
-use Rattle.cpn_syntax.specs.declared.operators.Infix.TheVariants as sign
-use Rattle.cpn_syntax.specs.declared.operators.Prefix.{Prefix}
-use Rattle.cpn_syntax.specs.declared.operators.Prefix.TheVariants as front
-use Rattle.cpn_syntax.specs.Trees.{PlainAst, ast, PlainForm, number, text, truth, empty, time, name, call, unit, tuple, list, let_in, prefixed, infixed, sum, if_else, case_of, fold, PlainAsts, no_ast, more_asts, PlainArms, no_arm, more_arms, PlainLocals, no_local, more_locals}
-use Rattle.cpn_syntax.specs.Trees as tree
+use Rattle.cpn_trees.specs.declared.operators.Infix.{Infix}
+use Rattle.cpn_trees.specs.declared.operators.Infix.TheVariants as sign
+use Rattle.cpn_trees.specs.declared.operators.Prefix.{Prefix}
+use Rattle.cpn_trees.specs.declared.operators.Prefix.TheVariants as front
+use Rattle.cpn_trees.specs.Trees.{PlainAst, ast, PlainForm, number, text, truth, empty, time, name, call, unit, tuple, list, let_in, prefixed, infixed, sum, if_else, case_of, fold, PlainAsts, no_ast, more_asts, PlainArms, no_arm, more_arms, PlainLocals, no_local, more_locals}
+use Rattle.cpn_trees.specs.Trees as tree
 use Rattle.cpn_typing.specs.Types.{PlainTy, PlainTys, bool_type, int_type, text_type, lists, tuples, no_types, more_types, type_of_shape}
 use Rattle.cpn_typing.specs.Names.{Name, a_variable, a_constant, a_constructor, a_function, Declared, Scope, local_of, Found, a_local, predeclared, declared, nothing, found, Checked, ok, refused, ◌>>=◌}
 use Rattle.cpn_typing.specs.Places.{on_input, on_output}

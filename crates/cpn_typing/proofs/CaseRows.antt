@@ -2,7 +2,7 @@
 use Rattle.std.proofs.Common.{◌≡◌, refl, pos, true, [], ◌∷◌, Some, None, codes}
 use Rattle.cpn_definitions.specs.Value as value
 use Rattle.cpn_definitions.specs.Inscription.{listing, variable, local, apply, select, no_exprs, no_arms, more_arms, any_pattern, variable_pattern, literal_pattern, tuple_pattern, list_pattern, cons_pattern, bare_pattern, applied_pattern, no_patterns, more_patterns}
-use Rattle.cpn_syntax.specs.Trees.{PlainPat, pat, any, pat_number, pat_text, pat_truth, pat_call, pat_unit, pat_tuple, pat_list, pat_cons, pats_from}
+use Rattle.cpn_trees.specs.Trees.{PlainPat, pat, any, pat_number, pat_text, pat_truth, pat_call, pat_unit, pat_tuple, pat_list, pat_cons, pats_from}
 use Rattle.cpn_typing.specs.Types.{PlainTy, unit_type, bool_type, int_type, text_type, enumeration, union, lists}
 use Rattle.cpn_typing.specs.Names.{local_of, unknown, duplicate, mismatch, Checked, ok, refused}
 use Rattle.cpn_typing.specs.Places.{in_guard}

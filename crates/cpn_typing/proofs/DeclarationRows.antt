@@ -2,7 +2,7 @@
 -- which of two refusals comes first.
 use Rattle.std.proofs.Common.{◌≡◌, refl, ℕ, zero, suc, ◌+◌, pos, negsuc, true, false, List, [], ◌∷◌, ◌++◌, Option, Some, None, codes, replicate}
 use Rattle.cpn_definitions.specs.Colour.{PlainShape, PlainColour, unit_shape, boolean_shape, int_shape, text_shape, constant_shape, tuple_shape, union_shape, list_shape, no_shapes, more_shapes, no_constructors, without, taking}
-use Rattle.cpn_syntax.specs.DeclTrees.{PlainBody, PlainDecl, decl, colour_set, variables, unit, bool, int, int_range, string, enumeration, product, list, union, named}
+use Rattle.cpn_trees.specs.DeclTrees.{PlainBody, PlainDecl, decl, colour_set, variables, unit, bool, int, int_range, string, enumeration, product, list, union, named}
 use Rattle.cpn_typing.specs.Types.{int_type}
 use Rattle.cpn_typing.specs.Names.{Name, Meant, a_variable, a_constant, a_constructor, Declared, nothing_declared, colour_named, meant_among, Refusal, unknown, duplicate, too_many, depth, nodes, empty_colour, Checked, ok, refused}
 use Rattle.cpn_typing.specs.ColourSets.{least_int, greatest_int, depth_of, bodies_of}

@@ -1,8 +1,8 @@
 -- Rows: where `[]` has a type, and where it has none and is refused.
 use Rattle.std.proofs.Common.{◌≡◌, refl, [], ◌∷◌, Some, None, codes}
 use Rattle.cpn_definitions.specs.Inscription.{equality, operation, listing, variable, apply, no_exprs}
-use Rattle.cpn_syntax.specs.declared.operators.Infix.TheVariants as sign
-use Rattle.cpn_syntax.specs.Trees.{ast, if_else, fold, pat, any}
+use Rattle.cpn_trees.specs.declared.operators.Infix.TheVariants as sign
+use Rattle.cpn_trees.specs.Trees.{ast, if_else, fold, pat, any}
 use Rattle.cpn_typing.specs.Types.{bool_type, int_type, tuples, lists, types_from}
 use Rattle.cpn_typing.specs.Names.{unknown, mismatch, ok, refused}
 use Rattle.cpn_typing.specs.Places.{in_guard}

@@ -3,9 +3,9 @@
 use Rattle.std.proofs.Common.{◌≡◌, refl, ℕ, pos, List, [], ◌∷◌, ◌++◌, Option, Some, None, codes}
 use Rattle.cpn_definitions.specs.Value as value
 use Rattle.cpn_definitions.specs.Inscription.{operation, addition, calling, literal, local, apply, bind, no_exprs, exprs_from, Functions}
-use Rattle.cpn_syntax.specs.declared.operators.Infix.TheVariants as sign
-use Rattle.cpn_syntax.specs.Trees.{PlainAst, ast, number, empty, time, name, call, list, infixed, stamped, let_in, no_ast, asts_from, no_local, more_locals}
-use Rattle.cpn_syntax.specs.DeclTrees.{PlainDecl, decl, PlainParameter, value, function, enumeration, bool}
+use Rattle.cpn_trees.specs.declared.operators.Infix.TheVariants as sign
+use Rattle.cpn_trees.specs.Trees.{PlainAst, ast, number, empty, time, name, call, list, infixed, stamped, let_in, no_ast, asts_from, no_local, more_locals}
+use Rattle.cpn_trees.specs.DeclTrees.{PlainDecl, decl, PlainParameter, value, function, enumeration, bool}
 use Rattle.cpn_typing.specs.Types.{bool_type, int_type, no_types, types_from}
 use Rattle.cpn_typing.specs.Names.{Name, a_function, Declared, unknown, duplicate, mismatch, not_closed, time_not_allowed, Checked, ok, refused}
 use Rattle.cpn_typing.proofs.DeclarationRows.{colset, var, refused_for, meant_after, after, INT, A, B, int_set, a, c}

@@ -8,7 +8,7 @@ use Rattle.cpn_definitions.specs.Outcome.{no_meaning}
 use Rattle.cpn_definitions.specs.Inscription.{PlainFunction, Functions}
 use Rattle.cpn_definitions.specs.Meaning.{PlainBinding, meant, called, calls_below, setting_below}
 use Rattle.cpn_definitions.specs.Bindable.{variables_of}
-use Rattle.cpn_syntax.specs.Trees.{PlainAst}
+use Rattle.cpn_trees.specs.Trees.{PlainAst}
 use Rattle.cpn_typing.specs.Types.{PlainTy}
 use Rattle.cpn_typing.specs.Names.{Name, Meant, a_variable, a_constant, a_constructor, a_function, NamedMeaning, Declared, meant_among, Scope, types_of_scope, ok}
 use Rattle.cpn_typing.specs.Places.{Place, in_function, is_closed}

@@ -30,3 +30,6 @@ pub mod BindableRows
 pub mod MeaningfulTransitions
 pub mod LimitedColours
 pub mod FirstKnown
+pub mod Answered
+pub mod Bindings
+pub mod Grown

@@ -1,7 +1,7 @@
 -- Each colour set that is declared is within the limits of depth and of the number of bodies.
 use Rattle.std.proofs.Common.{◌≡◌, ◌≤◌, Bool, true, false, nat_le, List, [], ◌∷◌, Some, None, refl, sym, subst, ⊎_elim, leb-true}
 use Rattle.cpn_definitions.specs.Colour.{PlainShape, PlainColour}
-use Rattle.cpn_syntax.specs.DeclTrees.{PlainDecl, decl, PlainDeclForm, colour_set, variables, value, function}
+use Rattle.cpn_trees.specs.DeclTrees.{PlainDecl, decl, PlainDeclForm, colour_set, variables, value, function}
 use Rattle.cpn_typing.specs.Names.{Name, Refusal, Declared, nothing_declared, colour_named, too_many, depth, nodes, ok, accepted_if}
 use Rattle.cpn_typing.specs.Places.{in_function}
 use Rattle.cpn_typing.specs.Expressions.{typed}

@@ -8,8 +8,8 @@ use Rattle.cpn_definitions.specs.Bindable.{variables_of}
 use Rattle.cpn_definitions.specs.Net.{PlainArc, PlainTransition, PlainNet}
 use Rattle.cpn_definitions.specs.Occurrence.{binds, transition_delay}
 use Rattle.cpn_definitions.proofs.RisingLists.{IsIn, in_from_contains, contains_from_in, in_append_left, in_append_right, in_append_cases, all_pass, of_one_in}
-use Rattle.cpn_syntax.specs.Trees.{PlainAsts, no_ast, more_asts}
-use Rattle.cpn_syntax.specs.DeclTrees.{PlainDecl}
+use Rattle.cpn_trees.specs.Trees.{PlainAsts, no_ast, more_asts}
+use Rattle.cpn_trees.specs.DeclTrees.{PlainDecl}
 use Rattle.cpn_typing.specs.Types.{bool_type, int_type}
 use Rattle.cpn_typing.specs.Names.{Declared, nothing_declared, ok}
 use Rattle.cpn_typing.specs.Places.{in_guard, in_delay}

@@ -15,7 +15,7 @@ use Rattle.cpn_definitions.specs.Occurrence.{binds, transition_delay}
 use Rattle.cpn_definitions.specs.Terms.{delay_of, terms_of}
 use Rattle.cpn_definitions.specs.Times.{last_time}
 use Rattle.cpn_definitions.proofs.RisingLists.{IsIn}
-use Rattle.cpn_syntax.specs.Trees.{PlainAst, PlainAsts, no_ast, more_asts}
+use Rattle.cpn_trees.specs.Trees.{PlainAst, PlainAsts, no_ast, more_asts}
 use Rattle.cpn_typing.specs.Types.{PlainTy, bool_type, int_type}
 use Rattle.cpn_typing.specs.Names.{Declared, Scope, ok}
 use Rattle.cpn_typing.specs.Places.{Place, in_guard, in_delay, in_monitor}

@@ -2,8 +2,8 @@
 use Rattle.std.proofs.Common.{◌≡◌, refl, pos, true, [], ◌∷◌, Some, None, codes}
 use Rattle.cpn_definitions.specs.Value as value
 use Rattle.cpn_definitions.specs.Inscription.{addition, list_length, membership, operation, tupling, listing, constructing, calling, literal, variable, local, apply, bind, accumulate, no_exprs, more_exprs}
-use Rattle.cpn_syntax.specs.declared.operators.Infix.TheVariants as sign
-use Rattle.cpn_syntax.specs.Trees.{ast, text, truth, let_in, no_local, more_locals, fold}
+use Rattle.cpn_trees.specs.declared.operators.Infix.TheVariants as sign
+use Rattle.cpn_trees.specs.Trees.{ast, text, truth, let_in, no_local, more_locals, fold}
 use Rattle.cpn_typing.specs.Types.{bool_type, int_type, text_type, enumeration, union, lists}
 use Rattle.cpn_typing.specs.Names.{unknown, mismatch, ok, refused}
 use Rattle.cpn_typing.specs.Places.{in_guard}

@@ -2,9 +2,9 @@
 use Rattle.std.proofs.Common.{◌≡◌, refl, pos, true, [], ◌∷◌, Some, None, codes}
 use Rattle.cpn_definitions.specs.Value as value
 use Rattle.cpn_definitions.specs.Inscription.{addition, less_than, component, operation, literal, variable, apply, conjunction, disjunction, no_exprs, more_exprs}
-use Rattle.cpn_syntax.specs.declared.operators.Infix.TheVariants as sign
-use Rattle.cpn_syntax.specs.declared.operators.Prefix.TheVariants as prefix
-use Rattle.cpn_syntax.specs.Trees.{ast, text, truth, unit, if_else}
+use Rattle.cpn_trees.specs.declared.operators.Infix.TheVariants as sign
+use Rattle.cpn_trees.specs.declared.operators.Prefix.TheVariants as prefix
+use Rattle.cpn_trees.specs.Trees.{ast, text, truth, unit, if_else}
 use Rattle.cpn_typing.specs.Types.{unit_type, bool_type, int_type, text_type, lists}
 use Rattle.cpn_typing.specs.Names.{unknown, mismatch, ok, refused}
 use Rattle.cpn_typing.specs.Places.{in_guard}

@@ -7,7 +7,7 @@ use Rattle.cpn_definitions.specs.Value as value
 use Rattle.cpn_definitions.specs.Order.{same_value}
 use Rattle.cpn_definitions.specs.Inscription.{PlainPattern, literal_pattern, tuple_pattern, list_pattern, cons_pattern, bare_pattern, applied_pattern, PlainPatterns, no_patterns, more_patterns}
 use Rattle.cpn_definitions.specs.Matching.{matched, matched_each, both_bound}
-use Rattle.cpn_syntax.specs.Trees.{PlainPat, pat, PlainPatForm, any, pat_name, pat_number, pat_text, pat_truth, pat_call, pat_unit, pat_tuple, pat_list, pat_cons, PlainPats, no_pat, more_pats}
+use Rattle.cpn_trees.specs.Trees.{PlainPat, pat, PlainPatForm, any, pat_name, pat_number, pat_text, pat_truth, pat_call, pat_unit, pat_tuple, pat_list, pat_cons, PlainPats, no_pat, more_pats}
 use Rattle.cpn_typing.specs.Types.{PlainTy, unit_type, bool_type, int_type, text_type, enumeration, union, tuples, lists, PlainTys, no_types, more_types, same_type}
 use Rattle.cpn_typing.specs.Names.{Name, a_constant, a_constructor, Scope, local_of, Found, declared, found, is_local, mismatch, Checked}
 use Rattle.cpn_typing.specs.PatternRules.{Around, BoundPattern, BoundPatterns, holding, binding, name_pattern, first_at, Constructor, takes, refuses, constructor_of, constructor_named, applied_rule, tuple_rule, argument_rule, bound_by_first, list_rule, cons_rule, bound_by, bound_by_form, bound_by_parts, bound_by_items}

@@ -5,11 +5,11 @@ use Rattle.cpn_definitions.specs.Value.{PlainValue}
 use Rattle.cpn_definitions.specs.Value as value
 use Rattle.cpn_definitions.specs.Inscription.{Operation, addition, subtraction, multiplication, division, remainder, negation, concatenation, equality, inequality, less_than, at_most, greater_than, at_least, complement, cons, appending, head, tail, list_length, reversal, membership, string_size, component, operation, constructing, calling, PlainExpr, literal, variable, local, the_time, apply, conjunction, disjunction, no_exprs, more_exprs}
 use Rattle.cpn_definitions.specs.Operations.{operated}
-use Rattle.cpn_syntax.specs.declared.operators.Infix.{Infix}
-use Rattle.cpn_syntax.specs.declared.operators.Infix.TheVariants as sign
-use Rattle.cpn_syntax.specs.declared.operators.Prefix.{Prefix}
-use Rattle.cpn_syntax.specs.declared.operators.Prefix.TheVariants as front
-use Rattle.cpn_syntax.specs.Trees.{PlainAsts, no_ast, more_asts}
+use Rattle.cpn_trees.specs.declared.operators.Infix.{Infix}
+use Rattle.cpn_trees.specs.declared.operators.Infix.TheVariants as sign
+use Rattle.cpn_trees.specs.declared.operators.Prefix.{Prefix}
+use Rattle.cpn_trees.specs.declared.operators.Prefix.TheVariants as front
+use Rattle.cpn_trees.specs.Trees.{PlainAsts, no_ast, more_asts}
 use Rattle.cpn_typing.specs.Types.{PlainTy, bool_type, int_type, text_type, enumeration, union, tuples, lists, PlainTys, no_types, more_types, same_type, same_types}
 use Rattle.cpn_typing.specs.Names.{Name, a_variable, a_constant, a_constructor, a_function, meant_among, Scope, local_of, Found, a_local, predeclared, declared, Refusal, mismatch, Checked, required}
 use Rattle.cpn_typing.specs.Places.{Place, is_closed, misplaced_delay}

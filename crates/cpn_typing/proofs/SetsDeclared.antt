@@ -2,7 +2,7 @@
 -- declared is of these sets.
 use Rattle.std.proofs.Common.{◌≡◌, ℕ, zero, suc, ◌+◌, ◌<◌, ◌∙◌, List, [], ◌∷◌, ◌++◌, length, slice_get, slice_index_or, Option, Some, None, option_map, refl, ap, subst, arith}
 use Rattle.cpn_definitions.specs.Colour.{PlainShape, PlainColour, constructor_at}
-use Rattle.cpn_syntax.specs.DeclTrees.{PlainAlternative, PlainBody, unit, bool, int, int_range, string, enumeration, product, list, union, named}
+use Rattle.cpn_trees.specs.DeclTrees.{PlainAlternative, PlainBody, unit, bool, int, int_range, string, enumeration, product, list, union, named}
 use Rattle.cpn_typing.specs.Names.{Name, Meant, a_variable, a_constant, a_constructor, a_function, Refusal, NamedConstructor, Declared, colour_named, meant_among, unknown, empty_colour, Checked, ok, refused, required}
 use Rattle.cpn_typing.specs.TypedValues.{Sets, argument_of, argument_types, HasSetsOf, HasSetsOfEach, HasSetsOfArguments}
 use Rattle.cpn_typing.specs.ColourSets.{with_new, with_all_new, component, components, Alternatives, bare_before, taking_before, alternative_of, alternatives_of, Shaped, only_shape, new_enumeration, new_union, shape_of_body, other_names}

@@ -1,8 +1,8 @@
 -- The declared names of the rows, and short words for their trees.
 use Rattle.std.proofs.Common.{ℕ, pos, List, [], ◌∷◌, Option, Some, None, codes}
-use Rattle.cpn_syntax.specs.declared.operators.Infix.{Infix}
-use Rattle.cpn_syntax.specs.declared.operators.Prefix.{Prefix}
-use Rattle.cpn_syntax.specs.Trees.{PlainAst, ast, number, name, call, tuple, list, let_in, prefixed, infixed, case_of, asts_from, PlainPat, pat, pat_name, no_arm, more_arms, no_ast, no_local, more_locals}
+use Rattle.cpn_trees.specs.declared.operators.Infix.{Infix}
+use Rattle.cpn_trees.specs.declared.operators.Prefix.{Prefix}
+use Rattle.cpn_trees.specs.Trees.{PlainAst, ast, number, name, call, tuple, list, let_in, prefixed, infixed, case_of, asts_from, PlainPat, pat, pat_name, no_arm, more_arms, no_ast, no_local, more_locals}
 use Rattle.cpn_typing.specs.Types.{PlainTy, bool_type, int_type, text_type, enumeration, union, tuples, lists, types_from}
 use Rattle.cpn_typing.specs.Names.{Name, NamedMeaning, Meant, a_variable, a_constant, a_constructor, a_function, Declared, Checked, ok, ◌>>=◌}
 use Rattle.cpn_typing.specs.Places.{Place, in_guard}

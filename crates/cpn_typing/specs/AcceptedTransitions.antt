@@ -12,7 +12,7 @@ use Rattle.cpn_definitions.specs.Bindable.{variables_of}
 use Rattle.cpn_definitions.specs.Net.{PlainArc, PlainTransition, PlainNet}
 use Rattle.cpn_definitions.specs.Occurrence.{binds, transition_delay}
 use Rattle.cpn_definitions.specs.Times.{last_time}
-use Rattle.cpn_syntax.specs.Trees.{PlainAst, PlainAsts}
+use Rattle.cpn_trees.specs.Trees.{PlainAst, PlainAsts}
 use Rattle.cpn_typing.specs.Names.{Declared, ok}
 use Rattle.cpn_typing.specs.Multisets.{Side, input, output, checked_arc}
 use Rattle.cpn_typing.specs.GuardsAndDelays.{checked_guard, checked_delay}

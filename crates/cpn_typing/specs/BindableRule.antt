@@ -1,5 +1,5 @@
 -- The rule of the variables of a transition: there are at most 32, and each is bindable. Source: our own profile of CPN ML.
-use Rattle.std.specs.Prelude.{◌≡◌, ℕ, ◌<◌, ◌≤◌, List, ◌∷◌, ◌++◌, length}
+use Rattle.std.specs.Prelude.{◌≡◌, ℕ, ◌<◌, ◌≤◌, List, ◌∷◌, ◌++◌, length, Option, Some, None}
 use Rattle.std.specs.List.{AllByRecursion}
 use Rattle.cpn_definitions.specs.Net.{PlainTransition, PlainNet, variable_at}
 use Rattle.cpn_definitions.specs.Bindable.{IsBindable}
@@ -16,6 +16,11 @@ pub record IsFirstNotBindable (n : PlainNet) (t : PlainTransition) (xs : List �
   pub stands : xs ≡ before ++ x ∷ behind
   pub bindable_before : AllByRecursion (IsBindable n t) before
   pub not_bindable : IsBindable n t x → ⊥
+
+-- the first of several variables, in declaration order, that is not bindable, or none
+abbrev pub FirstIs : PlainNet → PlainTransition → List ℕ → Option ℕ → Type 0
+FirstIs n t xs None = AllByRecursion (IsBindable n t) xs
+FirstIs n t xs (Some x) = IsFirstNotBindable n t xs x
 
 -- The answer for the variables of a transition: too many of them; else the first that is not bindable; else they are
 -- accepted.

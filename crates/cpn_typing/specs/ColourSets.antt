@@ -4,7 +4,7 @@ use Rattle.std.specs.Prelude.{ℕ, ◌+◌, ◌-◌, max, ℤ, pos, negsuc, ◌^
 use Rattle.std.specs.List.{list_any}
 use Rattle.std.specs.Str.{bytes_eq}
 use Rattle.cpn_definitions.specs.Colour.{PlainShape, PlainShapes, Constructors, unit_shape, boolean_shape, int_shape, text_shape, constant_shape, tuple_shape, union_shape, list_shape, no_shapes, more_shapes, no_constructors, without, taking}
-use Rattle.cpn_syntax.specs.DeclTrees.{PlainAlternative, PlainBody, unit, bool, int, int_range, string, enumeration, product, list, union, named}
+use Rattle.cpn_trees.specs.DeclTrees.{PlainAlternative, PlainBody, unit, bool, int, int_range, string, enumeration, product, list, union, named}
 use Rattle.cpn_typing.specs.Types.{type_of_shape}
 use Rattle.cpn_typing.specs.Names.{Name, a_constant, a_constructor, NamedMeaning, NamedConstructor, Declared, colour_named, predeclared_named, unknown, duplicate, too_many, depth, nodes, empty_colour, Checked, ok, ◌>>=◌, accepted_if, required}
 

@@ -4,7 +4,7 @@
 use Rattle.std.specs.Prelude.{ℕ, ◌+◌, Bool, true, false, if◌then◌else◌, List, [], ◌∷◌, ◌++◌, length, map, Some, None}
 use Rattle.cpn_definitions.specs.Colour.{PlainColour}
 use Rattle.cpn_definitions.specs.Net.{Coloured}
-use Rattle.cpn_syntax.specs.DeclTrees.{PlainParameter, PlainDecl, decl, PlainDeclForm, colour_set, variables, value, function}
+use Rattle.cpn_trees.specs.DeclTrees.{PlainParameter, PlainDecl, decl, PlainDeclForm, colour_set, variables, value, function}
 use Rattle.cpn_typing.specs.Types.{PlainTy, type_of_shape}
 use Rattle.cpn_typing.specs.Names.{Name, a_variable, a_function, NamedMeaning, Declared, colour_named, Scope, types_of_scope, is_local, local_of, unknown, duplicate, Checked, ok, ◌>>=◌, accepted_if, required}
 use Rattle.cpn_typing.specs.ColourSets.{with_new, with_all_new, other_names, declared_colour}

@@ -3,8 +3,8 @@
 use Rattle.std.specs.Prelude.{ℕ, false, [], ◌∷◌, ◌++◌, Option, Some, None}
 use Rattle.cpn_definitions.specs.Value as value
 use Rattle.cpn_definitions.specs.Inscription.{tupling, literal, apply, bind, no_exprs, more_exprs, no_arms, more_arms}
-use Rattle.cpn_syntax.specs.Trees.{PlainAst, ast, PlainForm, number, text, truth, empty, time, name, call, unit, tuple, list, let_in, prefixed, infixed, stamped, sum, if_else, case_of, fold, PlainAsts, no_ast, more_asts, PlainArms, no_arm, PlainLocals, no_local, more_locals}
-use Rattle.cpn_syntax.specs.Trees as tree
+use Rattle.cpn_trees.specs.Trees.{PlainAst, ast, PlainForm, number, text, truth, empty, time, name, call, unit, tuple, list, let_in, prefixed, infixed, stamped, sum, if_else, case_of, fold, PlainAsts, no_ast, more_asts, PlainArms, no_arm, PlainLocals, no_local, more_locals}
+use Rattle.cpn_trees.specs.Trees as tree
 use Rattle.cpn_typing.specs.Types.{PlainTy, unit_type, bool_type, int_type, text_type, tuples, PlainTys, no_types, more_types}
 use Rattle.cpn_typing.specs.Names.{Declared, Scope, local_of, found, mismatch, Checked, ok, refused, ◌>>=◌}
 use Rattle.cpn_typing.specs.Places.{Place, may_tell_time, misplaced_stamp}

@@ -2,7 +2,7 @@
 -- stand; `time` stands in delays alone. Source: own choice, after CPN ML.
 use Rattle.std.specs.Prelude.{List, [], ◌∷◌, Some}
 use Rattle.cpn_definitions.specs.Inscription.{PlainExpr}
-use Rattle.cpn_syntax.specs.Trees.{PlainAst, PlainAsts, no_ast, more_asts}
+use Rattle.cpn_trees.specs.Trees.{PlainAst, PlainAsts, no_ast, more_asts}
 use Rattle.cpn_typing.specs.Types.{bool_type, int_type}
 use Rattle.cpn_typing.specs.Names.{Declared, Checked, ok, ◌>>=◌}
 use Rattle.cpn_typing.specs.Places.{in_guard, in_delay, in_monitor}

@@ -6,7 +6,7 @@ use Rattle.cpn_definitions.specs.Outcome.{Outcome, gives, faults, no_meaning, gi
 use Rattle.cpn_definitions.specs.Inscription.{Functions}
 use Rattle.cpn_definitions.specs.Meaning.{PlainBinding, bound_value, Calls, Setting, meant, calls_below}
 use Rattle.cpn_definitions.specs.Bindable.{variables_of}
-use Rattle.cpn_syntax.specs.Trees.{PlainAst}
+use Rattle.cpn_trees.specs.Trees.{PlainAst}
 use Rattle.cpn_typing.specs.Types.{PlainTy, PlainTys}
 use Rattle.cpn_typing.specs.Names.{Name, Meant, a_variable, a_constant, a_constructor, a_function, NamedMeaning, Declared, meant_among, Scope, types_of_scope, Checked, ok}
 use Rattle.cpn_typing.specs.Places.{Place, in_function, is_closed}

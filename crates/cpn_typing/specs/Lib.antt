@@ -15,3 +15,5 @@ pub mod GuardsAndDelays
 pub mod BindableRule
 pub mod Closure
 pub mod AcceptedTransitions
+pub mod Answers
+pub mod Bindings

@@ -5,9 +5,9 @@
 use Rattle.std.specs.Prelude.{ℕ, Bool, true, false, [], ◌∷◌, ◌++◌, Some, None}
 use Rattle.cpn_definitions.specs.Inscription.{ArcInscription, no_token, one, times, sum_of, later, stamped, chosen, selected, bound, ArcInscriptions, no_inscriptions, more_inscriptions, ArcArms, no_arc_arms, more_arc_arms}
 use Rattle.cpn_definitions.specs.Colour.{PlainColour}
-use Rattle.cpn_syntax.specs.declared.operators.Infix.TheVariants as sign
-use Rattle.cpn_syntax.specs.Trees.{PlainAst, ast, PlainForm, empty, let_in, infixed, sum, if_else, case_of, PlainAsts, no_ast, more_asts, PlainArms, no_arm, more_arms, PlainLocals, no_local, more_locals}
-use Rattle.cpn_syntax.specs.Trees as tree
+use Rattle.cpn_trees.specs.declared.operators.Infix.TheVariants as sign
+use Rattle.cpn_trees.specs.Trees.{PlainAst, ast, PlainForm, empty, let_in, infixed, sum, if_else, case_of, PlainAsts, no_ast, more_asts, PlainArms, no_arm, more_arms, PlainLocals, no_local, more_locals}
+use Rattle.cpn_trees.specs.Trees as tree
 use Rattle.cpn_typing.specs.Types.{PlainTy, bool_type, int_type, type_of_shape}
 use Rattle.cpn_typing.specs.Names.{Declared, Scope, local_of, input_delay, time_not_allowed, Checked, ok, refused, ◌>>=◌}
 use Rattle.cpn_typing.specs.Places.{Place, on_input, on_output, in_marking}

@@ -4,11 +4,11 @@
 use Rattle.std.specs.Prelude.{ℕ, zero, suc, ℤ, pos, negsuc, Bool, true, false, not, ◌&&◌, Option, Some, None}
 use Rattle.cpn_definitions.specs.Value as value
 use Rattle.cpn_definitions.specs.Inscription.{Operation, addition, subtraction, multiplication, division, remainder, negation, concatenation, equality, inequality, less_than, at_most, greater_than, at_least, complement, cons, appending, head, tail, list_length, reversal, membership, string_size, component, operation, tupling, listing, constructing, calling, PlainExpr, literal, variable, local, the_time, apply, conjunction, disjunction, choose, select, accumulate, PlainExprs, no_exprs, more_exprs, PlainArms}
-use Rattle.cpn_syntax.specs.declared.operators.Infix.{Infix}
-use Rattle.cpn_syntax.specs.declared.operators.Infix.TheVariants as sign
-use Rattle.cpn_syntax.specs.declared.operators.Prefix.{Prefix}
-use Rattle.cpn_syntax.specs.declared.operators.Prefix.TheVariants as front
-use Rattle.cpn_syntax.specs.Trees.{PlainAst, ast, PlainForm, list, PlainAsts, no_ast, more_asts}
+use Rattle.cpn_trees.specs.declared.operators.Infix.{Infix}
+use Rattle.cpn_trees.specs.declared.operators.Infix.TheVariants as sign
+use Rattle.cpn_trees.specs.declared.operators.Prefix.{Prefix}
+use Rattle.cpn_trees.specs.declared.operators.Prefix.TheVariants as front
+use Rattle.cpn_trees.specs.Trees.{PlainAst, ast, PlainForm, list, PlainAsts, no_ast, more_asts}
 use Rattle.cpn_typing.specs.Types.{PlainTy, bool_type, int_type, text_type, enumeration, union, tuples, lists, PlainTys, no_types, more_types, same_type, same_types, type_at}
 use Rattle.cpn_typing.specs.Names.{Name, a_variable, a_constant, a_constructor, a_function, Found, a_local, predeclared, declared, Refusal, unknown, mismatch, not_closed, time_not_allowed, Checked, ok, refused, ◌>>=◌, accepted_if, required}
 use Rattle.cpn_typing.specs.Places.{Place, is_closed, misplaced_delay}

@@ -1,12 +1,12 @@
 -- What the check refuses is refused where it stands.
-use Rattle.cpn_syntax.specs.ParsedViews.{inscription_view, guard_view}
+use Rattle.cpn_trees.specs.ParsedViews.{inscription_view, guard_view}
 use Rattle.cpn_core.specs.Colours.{colour_view}
-use Rattle.cpn_types.specs.Answers.{refusal_of}
-use Rattle.cpn_types.specs.DeclsViews.{decls_view}
+use Rattle.cpn_declared.specs.Answers.{refusal_of}
+use Rattle.cpn_declared.specs.DeclsViews.{decls_view}
 use Rattle.cpn_typing.specs.Multisets.{output, checked_arc}
 use Rattle.cpn_file.specs.Answers.{load_refusal_of}
 use Rattle.cpn_file.specs.Accepted.{output_at}
-use Rattle.cpn_file.specs.declared.refusals.Pointer.TheVariants.{Expr}
+use Rattle.cpn_document.specs.declared.refusals.Pointer.TheVariants.{Expr}
 use Rattle.cpn_file.proofs.CheckedTexts.{refused_there, refused_then}
 use Rattle.cpn_file.proofs.arcs.output_of.Goals as goal
 

@@ -1,7 +1,7 @@
 -- The transitions are checked in their order.
 use Rattle.std.proofs.Common.{subst, sym, map, arith}
 use Rattle.cpn_core.specs.Nets.{transition_view}
-use Rattle.cpn_types.specs.Answers.{refusal_of}
+use Rattle.cpn_declared.specs.Answers.{refusal_of}
 use Rattle.cpn_file.specs.Answers.{load_refusal_of}
 use Rattle.cpn_file.specs.Joining.{HasItsTerms}
 use Rattle.cpn_file.proofs.Bindables.{bindable_more, bindable_not, bindable_all, terms_there}

@@ -2,7 +2,7 @@
 use Rattle.std.proofs.Common.{◌≡◌, drop, map}
 use Rattle.cpn_definitions.specs.Net.{PlainNet}
 use Rattle.cpn_core.specs.Nets.{transition_view}
-use Rattle.cpn_types.specs.DeclsViews.{decls_view}
+use Rattle.cpn_declared.specs.DeclsViews.{decls_view}
 use Rattle.cpn_file.specs.Reading.{Reading}
 use Rattle.std.specs.Prelude.{Bool}
 use Rattle.cpn_file.specs.Loading.{AreBindable}

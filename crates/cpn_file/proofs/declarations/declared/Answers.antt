@@ -1,7 +1,7 @@
 -- Each declaration comes behind those that are declared.
 use Rattle.std.proofs.Common.{◌∙◌, sym, arith}
 use Rattle.std.proofs.lemmas.Result.{err_from_is_err_and}
-use Rattle.cpn_types.specs.DeclsViews.{decls_view}
+use Rattle.cpn_declared.specs.DeclsViews.{decls_view}
 use Rattle.cpn_file.specs.Answers.{load_refusal_of}
 use Rattle.cpn_file.proofs.DeclaredLists.{declared_more, declared_refused, declared_all}
 use Rattle.cpn_file.proofs.declarations.declared.Goals as goal

@@ -1,9 +1,9 @@
 -- What is declared so far, and the rest.
 use Rattle.std.proofs.Common.{◌≡◌, drop, map}
 use Rattle.cpn_typing.specs.Names.{nothing_declared}
-use Rattle.cpn_types.specs.DeclsViews.{decls_view}
+use Rattle.cpn_declared.specs.DeclsViews.{decls_view}
 use Rattle.cpn_file.specs.Accepted.{declared_from}
-use Rattle.cpn_file.specs.TreesViews.{declared_view}
+use Rattle.cpn_parsing.specs.TreesViews.{declared_view}
 use Rattle.cpn_file.proofs.declarations.declared.Given as goal
 
 abbrev pub invariant-loop-number : goal.invariant-loop-number

@@ -2,7 +2,7 @@
 use Rattle.std.proofs.Common.{refl, subst}
 use Rattle.std.specs.Prelude.{string_bytes}
 use Rattle.cpn_typing.specs.AcceptedTransitions.{HasItsVariables}
-use Rattle.cpn_types.specs.Transitions.{transition_with}
+use Rattle.cpn_bindable.specs.Transitions.{transition_with}
 use Rattle.cpn_file.proofs.joining.completed.Goals as goal
 
 pub returns : goal.returns

@@ -3,7 +3,7 @@ use Rattle.std.proofs.Common.{[], ◌∷◌, map}
 use Rattle.std.proofs.lemmas.List.{map-append}
 use Rattle.cpn_core.specs.Nets.{transition_view}
 use Rattle.cpn_file.specs.Loading.{IsCompleted}
-use Rattle.cpn_file.proofs.ItemByItem.{each_is_more}
+use Rattle.cpn_readings.proofs.ItemByItem.{each_is_more}
 use Rattle.cpn_file.proofs.joining.with_variables.Goals as goal
 
 pub loop-transition-preserved : goal.loop-transition-preserved

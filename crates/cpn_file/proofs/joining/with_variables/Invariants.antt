@@ -2,7 +2,7 @@
 use Rattle.std.proofs.Common.{map}
 use Rattle.cpn_core.specs.Nets.{transition_view}
 use Rattle.cpn_file.specs.Loading.{IsCompleted}
-use Rattle.cpn_file.specs.Trees.{EachIs}
+use Rattle.cpn_readings.specs.ItemByItem.{EachIs}
 use Rattle.cpn_file.proofs.joining.with_variables.Given as goal
 
 abbrev pub invariant-loop-transition : goal.invariant-loop-transition

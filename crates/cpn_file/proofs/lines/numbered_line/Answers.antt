@@ -1,7 +1,7 @@
 use Rattle.std.proofs.Common.{◌≡◌, ◌∙◌, ap, ℕ, List, ◌++◌, codes, append_assoc}
 use Rattle.std.specs.Fmt.{decimal}
 use Rattle.cpn_file.specs.Refusals.{with_space, pointer_text, document_line}
-use Rattle.cpn_file.specs.declared.refusals.Pointer.{Pointer}
+use Rattle.cpn_document.specs.declared.refusals.Pointer.{Pointer}
 use Rattle.cpn_file.proofs.lines.numbered_line.Goals as goal
 
 joined : (number : ℕ) (name text : List ℕ) → codes "error document " ++ (decimal number ++ (codes " " ++ (name ++ (text ++ codes "\n")))) ≡ codes "error document " ++ decimal number ++ codes " " ++ name ++ text ++ codes "\n"

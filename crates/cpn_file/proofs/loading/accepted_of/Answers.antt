@@ -3,10 +3,10 @@ use Rattle.std.proofs.Common.{◌≡◌, ◌<◌, ◌∙◌, length, map, sym, a
 use Rattle.std.specs.List.{AllByRecursion}
 use Rattle.std.proofs.lemmas.List.{length-map}
 use Rattle.cpn_core.specs.Nets.{place_view}
-use Rattle.cpn_types.specs.DeclsViews.{decls_view}
+use Rattle.cpn_declared.specs.DeclsViews.{decls_view}
 use Rattle.cpn_file.specs.Accepted.{net_place}
-use Rattle.cpn_file.specs.TreesViews.{place_trees_view}
-use Rattle.cpn_file.specs.declared.trees.ArcTrees.{ArcTrees}
+use Rattle.cpn_parsing.specs.TreesViews.{place_trees_view}
+use Rattle.cpn_parsing.specs.declared.trees.ArcTrees.{ArcTrees}
 use Rattle.cpn_file.proofs.AcceptedTexts.{each_from_long}
 use Rattle.cpn_file.proofs.loading.accepted_of.Goals as goal
 

@@ -5,14 +5,14 @@ use Rattle.std.proofs.lemmas.List.{map-append}
 use Rattle.std.specs.Prelude.{Option, option_map}
 use Rattle.cpn_core.specs.declared.inscriptions.ArcExpr.{ArcExpr}
 use Rattle.cpn_file.specs.AcceptedViews.{initial_view}
-use Rattle.cpn_file.specs.TreesViews.{place_trees_view}
-use Rattle.cpn_types.specs.DeclsViews.{decls_view}
+use Rattle.cpn_parsing.specs.TreesViews.{place_trees_view}
+use Rattle.cpn_declared.specs.DeclsViews.{decls_view}
 use Rattle.cpn_file.specs.Accepted.{initial_of, initial_at}
 use Rattle.cpn_core.specs.Nets.{place_view}
 use Rattle.cpn_file.specs.Answers.{load_refusal_of, Refuses}
 use Rattle.cpn_file.specs.Reading.{read}
 use Rattle.cpn_file.proofs.PlaceColours.{colour_there}
-use Rattle.cpn_file.proofs.NumberedLists.{numbered_more, numbered_refused, numbered_done}
+use Rattle.cpn_readings.proofs.NumberedLists.{numbered_more, numbered_refused, numbered_done}
 use Rattle.cpn_file.proofs.places.initials_of.Goals as goal
 
 pub returns-in_err-initial_of : goal.returns-in_err-initial_of

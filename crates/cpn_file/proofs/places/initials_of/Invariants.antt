@@ -3,12 +3,12 @@ use Rattle.std.proofs.Common.{◌≡◌, drop, map}
 use Rattle.std.specs.Prelude.{Option, option_map}
 use Rattle.cpn_core.specs.declared.inscriptions.ArcExpr.{ArcExpr}
 use Rattle.cpn_file.specs.AcceptedViews.{initial_view}
-use Rattle.cpn_file.specs.TreesViews.{place_trees_view}
-use Rattle.cpn_types.specs.DeclsViews.{decls_view}
+use Rattle.cpn_parsing.specs.TreesViews.{place_trees_view}
+use Rattle.cpn_declared.specs.DeclsViews.{decls_view}
 use Rattle.cpn_file.specs.Accepted.{initial_of}
 use Rattle.cpn_core.specs.Nets.{place_view}
 use Rattle.cpn_file.specs.Reading.{each_from}
-use Rattle.cpn_file.proofs.ReadLists.{with_front}
+use Rattle.cpn_readings.proofs.ReadLists.{with_front}
 use Rattle.cpn_file.proofs.places.initials_of.Given as goal
 
 abbrev pub invariant-loop-number : goal.invariant-loop-number

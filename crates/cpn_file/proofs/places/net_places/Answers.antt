@@ -3,11 +3,11 @@ use Rattle.std.proofs.Common.{◌∙◌, [], ◌∷◌, map, arith}
 use Rattle.std.proofs.lemmas.Result.{err_from_is_err_and}
 use Rattle.std.proofs.lemmas.List.{map-append}
 use Rattle.cpn_core.specs.Nets.{place_view}
-use Rattle.cpn_file.specs.TreesViews.{place_trees_view}
-use Rattle.cpn_types.specs.DeclsViews.{decls_view}
+use Rattle.cpn_parsing.specs.TreesViews.{place_trees_view}
+use Rattle.cpn_declared.specs.DeclsViews.{decls_view}
 use Rattle.cpn_file.specs.Accepted.{net_place}
 use Rattle.cpn_file.specs.Answers.{load_refusal_of}
-use Rattle.cpn_file.proofs.NumberedLists.{numbered_more, numbered_refused, numbered_done}
+use Rattle.cpn_readings.proofs.NumberedLists.{numbered_more, numbered_refused, numbered_done}
 use Rattle.cpn_file.proofs.places.net_places.Goals as goal
 
 pub returns-in_err-net_place : goal.returns-in_err-net_place

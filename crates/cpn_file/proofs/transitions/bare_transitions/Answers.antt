@@ -3,11 +3,11 @@ use Rattle.std.proofs.Common.{◌∙◌, [], ◌∷◌, map, arith}
 use Rattle.std.proofs.lemmas.Result.{err_from_is_err_and}
 use Rattle.std.proofs.lemmas.List.{map-append}
 use Rattle.cpn_core.specs.Nets.{transition_view}
-use Rattle.cpn_file.specs.TreesViews.{transition_trees_view}
-use Rattle.cpn_types.specs.DeclsViews.{decls_view}
+use Rattle.cpn_parsing.specs.TreesViews.{transition_trees_view}
+use Rattle.cpn_declared.specs.DeclsViews.{decls_view}
 use Rattle.cpn_file.specs.Accepted.{bare_transition}
 use Rattle.cpn_file.specs.Answers.{load_refusal_of}
-use Rattle.cpn_file.proofs.NumberedLists.{numbered_more, numbered_refused, numbered_done}
+use Rattle.cpn_readings.proofs.NumberedLists.{numbered_more, numbered_refused, numbered_done}
 use Rattle.cpn_file.proofs.transitions.bare_transitions.Goals as goal
 
 pub returns-in_err-bare_transition : goal.returns-in_err-bare_transition

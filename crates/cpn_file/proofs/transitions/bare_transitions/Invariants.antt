@@ -1,11 +1,11 @@
 -- What was read, before what the rest is read as, is what the whole list is read as.
 use Rattle.std.proofs.Common.{◌≡◌, drop, map}
 use Rattle.cpn_core.specs.Nets.{transition_view}
-use Rattle.cpn_file.specs.TreesViews.{transition_trees_view}
-use Rattle.cpn_types.specs.DeclsViews.{decls_view}
+use Rattle.cpn_parsing.specs.TreesViews.{transition_trees_view}
+use Rattle.cpn_declared.specs.DeclsViews.{decls_view}
 use Rattle.cpn_file.specs.Accepted.{bare_transition}
 use Rattle.cpn_file.specs.Reading.{each_from}
-use Rattle.cpn_file.proofs.ReadLists.{with_front}
+use Rattle.cpn_readings.proofs.ReadLists.{with_front}
 use Rattle.cpn_file.proofs.transitions.bare_transitions.Given as goal
 
 abbrev pub invariant-loop-number : goal.invariant-loop-number

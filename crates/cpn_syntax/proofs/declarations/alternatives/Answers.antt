@@ -5,7 +5,7 @@ use Rattle.std.proofs.lemmas.Result.{err_from_is_err_and}
 use Rattle.cpn_lex.specs.Token.{PlainToken}
 use Rattle.cpn_lex.specs.declared.symbols.Symbol.TheVariants as sign
 use Rattle.cpn_syntax.specs.Texts.{Text, Is}
-use Rattle.cpn_syntax.specs.DeclTrees.{alternative_view}
+use Rattle.cpn_trees.specs.DeclTrees.{alternative_view}
 use Rattle.cpn_syntax.specs.Endings.{No, EndsBody}
 use Rattle.cpn_syntax.proofs.Fragments.{each_begins, part_and_sign, last_part, no_part}
 use Rattle.cpn_syntax.proofs.DeclarationParts.{ends_body}

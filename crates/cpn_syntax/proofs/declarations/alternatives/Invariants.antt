@@ -1,7 +1,7 @@
 -- `alt {+ alt}` behind `union`.
 use Rattle.std.proofs.Common.{map, length}
 use Rattle.cpn_lex.specs.declared.symbols.Symbol.TheVariants as sign
-use Rattle.cpn_syntax.specs.DeclTrees.{alternative_view}
+use Rattle.cpn_trees.specs.DeclTrees.{alternative_view}
 use Rattle.cpn_syntax.specs.Declarations.{SpellsAlternative}
 use Rattle.cpn_syntax.specs.Endings.{EndsBody}
 use Rattle.cpn_syntax.specs.Fragments.{Leaves}

@@ -3,7 +3,7 @@ use Rattle.std.proofs.Common.{[], refl, ap}
 use Rattle.std.proofs.lemmas.Result.{err_from_is_err_and}
 use Rattle.cpn_lex.specs.Token as token
 use Rattle.cpn_lex.specs.declared.symbols.Symbol.TheVariants as sign
-use Rattle.cpn_syntax.specs.DeclTrees.{enumeration, union}
+use Rattle.cpn_trees.specs.DeclTrees.{enumeration, union}
 use Rattle.cpn_syntax.specs.Endings.{EndsBody}
 use Rattle.cpn_syntax.specs.Fragments.{whole}
 use Rattle.cpn_syntax.proofs.Fragments.{leaves_on, leaves_to_halt, leaves_next, halts_next, whole_ends}

@@ -2,7 +2,7 @@
 use Rattle.std.proofs.Common.{map}
 use Rattle.std.proofs.lemmas.List.{map-append}
 use Rattle.std.proofs.lemmas.Result.{err_from_is_err_and}
-use Rattle.cpn_syntax.specs.DeclTrees.{parameter_view}
+use Rattle.cpn_trees.specs.DeclTrees.{parameter_view}
 use Rattle.cpn_syntax.proofs.Fragments.{each_begins, part_and_sign, last_part, no_part}
 use Rattle.cpn_syntax.proofs.declarations.parameters.Goals as goal
 

@@ -1,7 +1,7 @@
 -- `N : N {, N : N}`.
 use Rattle.std.proofs.Common.{map, length}
 use Rattle.cpn_lex.specs.declared.symbols.Symbol.TheVariants as sign
-use Rattle.cpn_syntax.specs.DeclTrees.{parameter_view}
+use Rattle.cpn_trees.specs.DeclTrees.{parameter_view}
 use Rattle.cpn_syntax.specs.Declarations.{SpellsParameter}
 use Rattle.cpn_syntax.specs.Endings.{No}
 use Rattle.cpn_syntax.specs.Fragments.{Leaves}

@@ -2,7 +2,7 @@
 use Rattle.std.proofs.Common.{◌∷◌, [], string_bytes}
 use Rattle.std.proofs.lemmas.Result.{err_from_is_err_and}
 use Rattle.cpn_lex.specs.declared.symbols.Symbol.TheVariants as sign
-use Rattle.cpn_syntax.specs.DeclTrees.{product}
+use Rattle.cpn_trees.specs.DeclTrees.{product}
 use Rattle.cpn_syntax.specs.Fragments.{whole}
 use Rattle.cpn_syntax.proofs.Fragments.{leaves_on, leaves_to_halt, leaves_next, halts_next, whole_ends}
 use Rattle.cpn_syntax.proofs.Phrases.{name_next, no_name_next, sign_next, no_sign_next, can_sign, can_names}

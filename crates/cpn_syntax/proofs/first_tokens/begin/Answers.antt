@@ -2,7 +2,7 @@
 use Rattle.std.proofs.Common.{rules, refl, sym, ap, ◌∙◌, [], ◌∷◌, subst}
 use Rattle.cpn_lex.specs.Token as token
 use Rattle.cpn_lex.specs.Token.{token_view}
-use Rattle.cpn_syntax.specs.Trees.{ast, number}
+use Rattle.cpn_trees.specs.Trees.{ast, number}
 use Rattle.cpn_syntax.specs.ReadForms.{want, have, Takes}
 use Rattle.cpn_syntax.specs.Steps.{Comes}
 use Rattle.cpn_syntax.specs.Unread.{unread}

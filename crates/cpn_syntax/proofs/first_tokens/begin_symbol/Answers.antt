@@ -2,7 +2,7 @@
 use Rattle.std.proofs.Common.{rules, arith, ◌≤◌, ◌<◌, refl, ap, ◌∷◌, subst, true, false}
 use Rattle.std.proofs.lemmas.Result.{err_from_is_err_and, IfOk-weaker, IfErr-weaker}
 use Rattle.cpn_lex.specs.Token as token
-use Rattle.cpn_syntax.specs.declared.operators.Prefix.TheVariants as prefix
+use Rattle.cpn_trees.specs.declared.operators.Prefix.TheVariants as prefix
 use Rattle.cpn_syntax.specs.OpenForms.{front, wants}
 use Rattle.cpn_syntax.specs.ReadForms.{want}
 use Rattle.cpn_syntax.specs.Steps.{Comes}

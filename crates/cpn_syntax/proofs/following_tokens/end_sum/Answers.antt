@@ -1,5 +1,5 @@
 -- A sum with its last term.
-use Rattle.cpn_syntax.specs.AstViews.{ast_view}
+use Rattle.cpn_trees.specs.AstViews.{ast_view}
 use Rattle.cpn_syntax.proofs.FormViews as levels
 use Rattle.cpn_syntax.proofs.LastParts.{asts_with_last}
 use Rattle.cpn_syntax.proofs.PartSteps as going

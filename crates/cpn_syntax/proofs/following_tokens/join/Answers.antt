@@ -1,6 +1,6 @@
 -- Each sign that takes a part goes on with it as its line of the grammar does.
 use Rattle.std.proofs.lemmas.Result.{err_from_is_err_and}
-use Rattle.cpn_syntax.specs.AstViews.{ast_view}
+use Rattle.cpn_trees.specs.AstViews.{ast_view}
 use Rattle.cpn_syntax.specs.OpenViews.{opens_view}
 use Rattle.cpn_syntax.proofs.PartSteps as going
 use Rattle.cpn_syntax.proofs.following_tokens.join.Goals as goal

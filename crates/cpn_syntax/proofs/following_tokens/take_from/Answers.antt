@@ -1,6 +1,6 @@
 -- `from` behind the list.
 use Rattle.std.proofs.lemmas.Result.{err_from_is_err_and}
-use Rattle.cpn_syntax.specs.AstViews.{ast_view}
+use Rattle.cpn_trees.specs.AstViews.{ast_view}
 use Rattle.cpn_syntax.proofs.PartSteps as going
 use Rattle.cpn_syntax.proofs.following_tokens.take_from.Goals as goal
 

@@ -1,6 +1,6 @@
 -- `::` takes a part that binds tightly, and else the innermost form goes on.
 use Rattle.cpn_syntax.specs.OpenPatViews.{opens_view}
-use Rattle.cpn_syntax.specs.PatViews.{pat_view}
+use Rattle.cpn_trees.specs.PatViews.{pat_view}
 use Rattle.cpn_syntax.specs.Unread.{unread}
 use Rattle.cpn_syntax.proofs.PatternSteps.{cons_comes, comes_from_end, each_comes, each_stops, whole_comes, end_cons_comes}
 use Rattle.cpn_syntax.proofs.pattern_parser.go_on.Goals as goal

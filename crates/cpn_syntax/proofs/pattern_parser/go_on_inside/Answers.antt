@@ -1,7 +1,7 @@
 -- A comma goes on to the bracket's next part, and its closing sign completes it.
 use Rattle.std.proofs.lemmas.Result.{err_from_is_err_and}
 use Rattle.cpn_syntax.specs.OpenPatViews.{parts_view, bracket_view, opens_view}
-use Rattle.cpn_syntax.specs.PatViews.{pat_view}
+use Rattle.cpn_trees.specs.PatViews.{pat_view}
 use Rattle.cpn_syntax.specs.Unread.{unread}
 use Rattle.cpn_syntax.proofs.PatternSteps.{comma_comes, bracket_ends, inside_stops}
 use Rattle.cpn_syntax.proofs.pattern_parser.go_on_inside.Goals as goal

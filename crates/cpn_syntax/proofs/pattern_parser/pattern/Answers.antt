@@ -1,6 +1,6 @@
 -- The arrow ends the pattern, and without it the text breaks off.
 use Rattle.std.proofs.lemmas.Result.{err_from_is_err_and}
-use Rattle.cpn_syntax.specs.PatViews.{pat_view}
+use Rattle.cpn_trees.specs.PatViews.{pat_view}
 use Rattle.cpn_syntax.specs.Unread.{unread}
 use Rattle.cpn_syntax.proofs.Progress.{leads_to_stop}
 use Rattle.cpn_syntax.proofs.PatternEnds.{reads_pattern, whole_stops, breaks_pattern}

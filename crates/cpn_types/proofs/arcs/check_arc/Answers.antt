@@ -1,9 +1,9 @@
 -- What is accepted as the inscription of an arc has terms or a fault.
 use Rattle.cpn_core.specs.Colours.{colour_view}
 use Rattle.cpn_core.specs.Inscriptions.{multiset_view}
-use Rattle.cpn_syntax.specs.ParsedViews.{inscription_view}
-use Rattle.cpn_types.specs.DeclsViews.{decls_view}
-use Rattle.cpn_types.specs.PlaceViews.{side_view}
+use Rattle.cpn_trees.specs.ParsedViews.{inscription_view}
+use Rattle.cpn_declared.specs.DeclsViews.{decls_view}
+use Rattle.cpn_forms.specs.PlaceViews.{side_view}
 use Rattle.cpn_types.proofs.TokenMeanings.{arc_has_meaning}
 use Rattle.cpn_types.proofs.arcs.check_arc.Goals as goal
 

@@ -1,8 +1,8 @@
 -- What is accepted as an initial marking has terms or a fault.
 use Rattle.cpn_core.specs.Colours.{colour_view}
 use Rattle.cpn_core.specs.Inscriptions.{multiset_view}
-use Rattle.cpn_syntax.specs.ParsedViews.{inscription_view}
-use Rattle.cpn_types.specs.DeclsViews.{decls_view}
+use Rattle.cpn_trees.specs.ParsedViews.{inscription_view}
+use Rattle.cpn_declared.specs.DeclsViews.{decls_view}
 use Rattle.cpn_types.proofs.TokenMeanings.{init_has_meaning}
 use Rattle.cpn_types.proofs.arcs.check_init.Goals as goal
 

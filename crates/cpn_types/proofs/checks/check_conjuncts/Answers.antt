@@ -1,15 +1,15 @@
 -- One conjunct more is a truth value.
 use Rattle.std.proofs.Common.{◌∙◌, sym, refl, map, arith}
 use Rattle.cpn_core.specs.Inscriptions.{expr_view}
-use Rattle.cpn_syntax.specs.Trees.{asts_from}
-use Rattle.cpn_syntax.specs.AstViews.{ast_view}
+use Rattle.cpn_trees.specs.Trees.{asts_from}
+use Rattle.cpn_trees.specs.AstViews.{ast_view}
 use Rattle.cpn_typing.specs.GuardsAndDelays.{checked_guard}
-use Rattle.cpn_types.specs.Answers.{refusal_of}
-use Rattle.cpn_types.specs.DeclsViews.{decls_view}
-use Rattle.cpn_types.specs.TypedViews.{typed_view}
-use Rattle.cpn_types.proofs.Answered.{answers_on}
+use Rattle.cpn_declared.specs.Answers.{refusal_of}
+use Rattle.cpn_declared.specs.DeclsViews.{decls_view}
+use Rattle.cpn_forms.specs.TypedViews.{typed_view}
+use Rattle.cpn_typing.proofs.Answered.{answers_on}
 use Rattle.cpn_types.proofs.Conjuncts.{conjunct_more, conjuncts_done, conjunct_refused}
-use Rattle.cpn_types.proofs.TypeLevels.{view_bool}
+use Rattle.cpn_types.proofs.PlainTypes.{view_bool}
 use Rattle.cpn_types.proofs.checks.check_conjuncts.Goals as goal
 
 pub loop-tree-preserved : goal.loop-tree-preserved
@@ -20,7 +20,7 @@ loop-tree-preserved c =
 
 pub returns-in_err-conjunct : goal.returns-in_err-conjunct
 returns-in_err-conjunct c = record {
-  exact = answers_on _ c.from_residual.result c.in_err-conjunct.field-0.0 (checked_guard (decls_view c.args.decls.now) (asts_from (map ast_view c.args.trees.now))) c.from_residual.ensures.1
+  exact = answers_on refusal_of _ c.from_residual.result c.in_err-conjunct.field-0.0 (checked_guard (decls_view c.args.decls.now) (asts_from (map ast_view c.args.trees.now))) c.from_residual.ensures.1
       (conjunct_refused (refusal_of c.in_err-conjunct.field-0.0) (decls_view c.args.decls.now) c.args.trees.now c.loop-tree.tree-index c.tree-item.result _ (map expr_view c.loop-tree.conjuncts.items)
       (checked_guard (decls_view c.args.decls.now) (asts_from (map ast_view c.args.trees.now))) view_bool (omega arith) c.tree-item.is c.in_err-conjunct.ensures.exact c.loop-tree.invariant);
 }

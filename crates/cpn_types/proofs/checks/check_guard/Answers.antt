@@ -1,8 +1,8 @@
 -- What is accepted are truth values or faults.
 use Rattle.std.proofs.Common.{map, rules}
 use Rattle.cpn_core.specs.Inscriptions.{expr_view}
-use Rattle.cpn_syntax.specs.ParsedViews.{guard_view}
-use Rattle.cpn_types.specs.DeclsViews.{decls_view}
+use Rattle.cpn_trees.specs.ParsedViews.{guard_view}
+use Rattle.cpn_declared.specs.DeclsViews.{decls_view}
 use Rattle.cpn_types.proofs.ValueMeanings.{guard_has_meaning}
 use Rattle.cpn_types.proofs.checks.check_guard.Goals as goal
 

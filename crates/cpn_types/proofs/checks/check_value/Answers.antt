@@ -1,8 +1,8 @@
 -- What is accepted is an integer or a fault.
-use Rattle.cpn_syntax.specs.ParsedViews.{inscription_view}
-use Rattle.cpn_types.specs.DeclsViews.{decls_view}
-use Rattle.cpn_types.specs.TypedViews.{typed_view}
-use Rattle.cpn_types.proofs.TypeLevels.{view_int}
+use Rattle.cpn_trees.specs.ParsedViews.{inscription_view}
+use Rattle.cpn_declared.specs.DeclsViews.{decls_view}
+use Rattle.cpn_forms.specs.TypedViews.{typed_view}
+use Rattle.cpn_types.proofs.PlainTypes.{view_int}
 use Rattle.cpn_types.proofs.ValueMeanings.{value_has_meaning}
 use Rattle.cpn_types.proofs.checks.check_value.Goals as goal
 

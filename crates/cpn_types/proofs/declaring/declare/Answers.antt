@@ -1,7 +1,7 @@
 -- What is declared stays consistent.
-use Rattle.cpn_syntax.specs.ParsedViews.{declaration_view}
+use Rattle.cpn_trees.specs.ParsedViews.{declaration_view}
 use Rattle.cpn_typing.proofs.Consistent.{declared_consistent}
-use Rattle.cpn_types.specs.DeclsViews.{decls_view}
+use Rattle.cpn_declared.specs.DeclsViews.{decls_view}
 use Rattle.cpn_types.proofs.declaring.declare.Goals as goal
 
 pub returns-in-Ok-clause-consistent : goal.returns-in-Ok-clause-consistent

@@ -2,8 +2,8 @@
 use Rattle.std.proofs.Common.{◌≡◌, ◌∙◌, map, take, sym, ap, arith}
 use Rattle.std.proofs.lemmas.List.{take_all}
 use Rattle.cpn_typing.specs.Types.{types_from}
-use Rattle.cpn_types.specs.TypeViews.{ty_view}
-use Rattle.cpn_types.proofs.TypeLevels.{types_of_locals}
+use Rattle.cpn_declared.specs.TypeViews.{ty_view}
+use Rattle.cpn_types.proofs.ScopeTypes.{types_of_locals}
 use Rattle.cpn_types.proofs.functions.types_of.Goals as goal
 
 pub returns : goal.returns

@@ -6,15 +6,11 @@ use Rattle.cpn_definitions.specs.Operations.{items_in}
 use Rattle.cpn_eval.specs.Held.{held_view}
 use Rattle.cpn_definitions.specs.Inscription.{arms_from}
 use Rattle.cpn_definitions.specs.Meaning.{meant_among}
-use Rattle.cpn_core.specs.Inscriptions.{op_view, expr_view, exprs_view, arm_view}
-use Rattle.cpn_eval.specs.Frames.{after_outcome, body_of, arms, steps, folded, meant_at, setting_in, head_view, locals_of}
-use Rattle.cpn_eval.proofs.Turns.{goes_same, part_goes, back_goes, forget_goes, start_goes}
+use Rattle.cpn_core.specs.Inscriptions.{op_view, expr_view, arm_view}
+use Rattle.cpn_eval.specs.Frames.{after_outcome, body_of, arms, steps, folded, meant_at, setting_in, locals_of}
+use Rattle.cpn_eval.proofs.Turns.{goes_same, back_goes, forget_goes, start_goes}
 use Rattle.cpn_eval.proofs.LeafOperands.{beside_given}
 use Rattle.cpn_eval.proofs.frames.Machine.go_on.Goals as goal
-
-pub returns-in_ok-push-in-Parts : goal.returns-in_ok-push-in-Parts
-returns-in_ok-push-in-Parts c =
-    rw c.in-Parts.is (goes_same c.args.world.now c.parts.new.self c.parts.result _ _ (part_goes c.args.world.now c.args.self.now (head_view c.in-Parts.head) c.in-Parts.done.items c.push.new.self.items c.args.value (exprs_view c.in-Parts.rest.now) c.in_ok-push-in-Parts.ensures.items) c.parts.ensures)
 
 pub returns-in-Body : goal.returns-in-Body
 returns-in-Body c =

@@ -4,12 +4,12 @@ use Rattle.cpn_definitions.specs.Inscription.{operation, apply}
 use Rattle.cpn_core.specs.Inscriptions.{op_view, expr_view, exprs_view}
 use Rattle.cpn_core.specs.Views.{value_view}
 use Rattle.cpn_eval.specs.Frames.{meant_at, locals_of}
-use Rattle.cpn_eval.proofs.LeafOperands.{beside_goes}
+use Rattle.cpn_eval.proofs.LeafOperands.{beside_goes, local_goes}
 use Rattle.cpn_eval.proofs.Turns.{goes_same, parts_goes}
 use Rattle.cpn_eval.proofs.frames.Machine.operands.Goals as goal
 
-pub returns-in-None : goal.returns-in-None
-returns-in-None c =
+pub returns-in-None-beside_local : goal.returns-in-None-beside_local
+returns-in-None-beside_local c =
     goes_same c.args.world.now c.parts.new.self c.parts.result _ _ (parts_goes c.args.world.now c.args.self.now (operation (op_view c.args.op)) c.new.result.items c.args.parts.now c.args.parts.now (apply (operation (op_view c.args.op)) (exprs_view c.args.parts.now)) c.new.ensures.items refl refl) c.parts.ensures
 
 pub returns-in-Some : goal.returns-in-Some
@@ -18,3 +18,10 @@ returns-in-Some c =
     (beside_goes c.args.world.now c.args.self.now (op_view c.args.op) (meant_at c.args.world.now c.args.self.now.visible (locals_of c.args.self.now) (apply (operation (op_view c.args.op)) (exprs_view c.args.parts.now))) (value_view c.in-Some.both.left.now) (expr_view c.in-Some.both.right.now)
     (c.in-Some.ensures.value c.args.self.now.visible (locals_of c.args.self.now)))
     c.wait.ensures
+
+pub returns-in-Some-beside_local : goal.returns-in-Some-beside_local
+returns-in-Some-beside_local c =
+    goes_same c.args.world.now c.wait-in-Some-beside_local.new.self c.wait-in-Some-beside_local.result _ _
+    (local_goes c.args.world.now c.args.self.now (op_view c.args.op) (meant_at c.args.world.now c.args.self.now.visible (locals_of c.args.self.now) (apply (operation (op_view c.args.op)) (exprs_view c.args.parts.now))) c.in-Some-beside_local.both.left (expr_view c.in-Some-beside_local.both.right.now)
+    c.in-Some-beside_local.ensures.value)
+    c.wait-in-Some-beside_local.ensures

@@ -3,7 +3,7 @@ use Rattle.std.proofs.Common.{map, take, drop, length, ◌-◌}
 use Rattle.cpn_eval.specs.Held.{held_view}
 use Rattle.cpn_core.specs.Inscriptions.{expr_view, exprs_view}
 use Rattle.cpn_eval.specs.Frames.{head_view}
-use Rattle.cpn_eval.proofs.Levels.{first_part}
+use Rattle.cpn_eval.proofs.FirstParts.{first_part}
 use Rattle.cpn_eval.proofs.Turns.{next_goes, goes_same}
 use Rattle.cpn_eval.proofs.frames.Machine.parts.Goals as goal
 

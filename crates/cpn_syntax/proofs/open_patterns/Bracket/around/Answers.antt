@@ -1,11 +1,11 @@
 -- The pattern around the parts is seen as the bracket of their plain patterns.
 use Rattle.std.proofs.Common.{◌≡◌, ◌≢◌, ℕ, List, [], ◌∷◌, ◌++◌, refl, sym, map, length, arith}
 use Rattle.std.proofs.lemmas.Bool.Decides.{nat_tests}
-use Rattle.cpn_syntax.specs.Trees.{PlainPat, pat, pat_tuple, pats_from}
-use Rattle.cpn_syntax.specs.PatViews.{pat_view}
+use Rattle.cpn_trees.specs.Trees.{PlainPat, pat, pat_tuple, pats_from}
+use Rattle.cpn_trees.specs.PatViews.{pat_view}
 use Rattle.cpn_syntax.specs.OpenPatterns.{round, bracketed}
 use Rattle.cpn_syntax.specs.OpenPatViews.{parts_view}
-use Rattle.cpn_syntax.specs.declared.patterns.Pat.{Pat}
+use Rattle.cpn_trees.specs.declared.patterns.Pat.{Pat}
 use Rattle.cpn_syntax.proofs.PatternViews.{view_pat, view_tuple, view_list, view_call}
 use Rattle.cpn_syntax.proofs.open_patterns.Bracket.around.Goals as goal
 use Rattle.cpn_syntax.proofs.open_patterns.Bracket.around.Goals.{in-Round+else-is_empty+in_ok-with_last-in-Round, in-Square+in_ok-with_last-in-Square, in-Call+in_ok-with_last-in-Call}

@@ -2,15 +2,15 @@
 use Rattle.std.proofs.Common.{◌∙◌, ◌∷◌, [], map, sym, ap, subst}
 use Rattle.std.proofs.lemmas.List.{map-append}
 use Rattle.cpn_core.specs.Inscriptions.{multiset_view, arc_arm_view}
-use Rattle.cpn_syntax.specs.Trees.{asts_from}
-use Rattle.cpn_syntax.specs.PatViews.{pat_view}
-use Rattle.cpn_syntax.specs.AstViews.{ast_view, arm_view, arms_from}
+use Rattle.cpn_trees.specs.Trees.{asts_from}
+use Rattle.cpn_trees.specs.PatViews.{pat_view}
+use Rattle.cpn_trees.specs.AstViews.{ast_view, arm_view, arms_from}
 use Rattle.cpn_typing.specs.Multisets.{marked, marked_each, marked_arms}
-use Rattle.cpn_types.specs.Answers.{refusal_of, Answers}
-use Rattle.cpn_types.specs.DeclsViews.{scope_view}
-use Rattle.cpn_types.specs.TypeViews.{ty_view}
+use Rattle.cpn_declared.specs.Answers.{refusal_of, Answers}
+use Rattle.cpn_forms.specs.ScopeViews.{scope_view}
+use Rattle.cpn_declared.specs.TypeViews.{ty_view}
 use Rattle.cpn_types.specs.Sites.{site_view, arm_at}
-use Rattle.cpn_types.proofs.Answered.{answers_on, refuses_through}
+use Rattle.cpn_typing.proofs.Answered.{answers_on, refuses_through}
 use Rattle.cpn_types.proofs.MarkedForms.{many_marked}
 use Rattle.cpn_types.proofs.MarkedParts.{next_part, last_part, next_arm, no_arm, last_arm}
 use Rattle.cpn_types.proofs.sites.Site.+multiset.Goals as goal
@@ -67,7 +67,7 @@ pub arms-returns-in_err-result-clause-exact : goal.arms-returns-in_err-result-cl
 arms-returns-in_err-result-clause-exact t c =
     let g = site_view c.args.self.now in
     let whole = marked_arms g (arms_from (map arm_view c.args.arms.now)) (scope_view c.args.scope.now.items) (ty_view c.args.subject.now) in
-    answers_on _ c.from_residual.result c.in_err-result.field-0.0 whole c.from_residual.ensures.1
+    answers_on refusal_of _ c.from_residual.result c.in_err-result.field-0.0 whole c.from_residual.ensures.1
     (refuses_through (refusal_of c.in_err-result.field-0.0) (arm_at g (pat_view c.arm-item.result.pattern) (ast_view c.arm-item.result.result) (scope_view c.loop-arm.scope.items) (ty_view c.args.subject.now)) whole
     (λ r h. no_arm g c.args.arms.now c.loop-arm.arm-index c.arm-item.result (scope_view c.args.scope.now.items) (ty_view c.args.subject.now) (map arc_arm_view c.loop-arm.made.items) r whole
     c.loop-arm-test.true

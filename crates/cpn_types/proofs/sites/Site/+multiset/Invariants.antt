@@ -1,11 +1,11 @@
 -- The parts and the arms so far, ahead of those of the rest, are all of them; the locals are as they were.
 use Rattle.std.proofs.Common.{◌≡◌, map, drop}
 use Rattle.cpn_core.specs.Inscriptions.{multiset_view, arc_arm_view}
-use Rattle.cpn_syntax.specs.Trees.{asts_from}
-use Rattle.cpn_syntax.specs.AstViews.{ast_view, arm_view, arms_from}
+use Rattle.cpn_trees.specs.Trees.{asts_from}
+use Rattle.cpn_trees.specs.AstViews.{ast_view, arm_view, arms_from}
 use Rattle.cpn_typing.specs.Multisets.{marked_each, marked_arms}
-use Rattle.cpn_types.specs.DeclsViews.{scope_view}
-use Rattle.cpn_types.specs.TypeViews.{ty_view}
+use Rattle.cpn_forms.specs.ScopeViews.{scope_view}
+use Rattle.cpn_declared.specs.TypeViews.{ty_view}
 use Rattle.cpn_types.specs.Sites.{site_view}
 use Rattle.cpn_types.proofs.MarkedParts.{with_front, with_arms}
 use Rattle.cpn_types.proofs.sites.Site.+multiset.Given as goal

@@ -2,13 +2,13 @@
 use Rattle.std.proofs.Common.{◌∙◌, ◌∷◌, [], map, ap, None, string_bytes}
 use Rattle.std.proofs.lemmas.List.{map-append}
 use Rattle.cpn_core.specs.Inscriptions.{expr_view}
-use Rattle.cpn_syntax.specs.AstViews.{ast_view, local_view, locals_from}
+use Rattle.cpn_trees.specs.AstViews.{ast_view, local_view, locals_from}
 use Rattle.cpn_typing.specs.Multisets.{marked_let}
-use Rattle.cpn_types.specs.Answers.{refusal_of}
-use Rattle.cpn_types.specs.DeclsViews.{scope_view}
-use Rattle.cpn_types.specs.TypedViews.{typed_view}
+use Rattle.cpn_declared.specs.Answers.{refusal_of}
+use Rattle.cpn_forms.specs.ScopeViews.{scope_view}
+use Rattle.cpn_forms.specs.TypedViews.{typed_view}
 use Rattle.cpn_types.specs.Sites.{site_view, value_at}
-use Rattle.cpn_types.proofs.Answered.{refuses_through}
+use Rattle.cpn_typing.proofs.Answered.{refuses_through}
 use Rattle.cpn_types.proofs.LetValues.{next_value, no_value, let_refused, scope_more, outer_kept}
 use Rattle.cpn_types.proofs.sites.Site.let_values.Goals as goal
 

@@ -2,10 +2,10 @@
 use Rattle.std.proofs.Common.{◌≡◌, map, take, drop, length}
 use Rattle.cpn_definitions.specs.Inscription.{ArcInscription}
 use Rattle.cpn_core.specs.Inscriptions.{expr_view}
-use Rattle.cpn_syntax.specs.AstViews.{local_view, locals_from}
+use Rattle.cpn_trees.specs.AstViews.{local_view, locals_from}
 use Rattle.cpn_typing.specs.Names.{Scope, Checked}
 use Rattle.cpn_typing.specs.Multisets.{marked_let}
-use Rattle.cpn_types.specs.DeclsViews.{scope_view}
+use Rattle.cpn_forms.specs.ScopeViews.{scope_view}
 use Rattle.cpn_types.specs.Sites.{site_view}
 use Rattle.cpn_types.proofs.LetValues.{around}
 use Rattle.cpn_types.proofs.sites.Site.let_values.Given as goal

@@ -1,29 +1,30 @@
 -- Each form is checked by its rule, over its parts.
 use Rattle.std.proofs.lemmas.Result.{err_from_is_err_and}
-use Rattle.std.proofs.Common.{◌∙◌, ◌++◌, map, arith, length, sym, ap, subst, rules, refl, option_map, drop, ◌+◌, ◌-◌, add-one}
-use Rattle.cpn_syntax.specs.AstViews.{local_view, locals_from, arms_from, ast_view}
+use Rattle.std.proofs.Common.{◌∙◌, ◌++◌, map, arith, length, sym, ap, subst, rules, refl, option_map, drop, ◌+◌, ◌-◌}
+use Rattle.cpn_trees.specs.AstViews.{local_view, locals_from, arms_from, ast_view}
 use Rattle.cpn_typing.specs.Expressions.{typed_let, typed_arms, typed_parts, typed_form, spot_at, typed_items}
-use Rattle.cpn_types.specs.DeclsViews.{decls_view, scope_view}
-use Rattle.cpn_types.specs.PlaceViews.{place_view}
-use Rattle.cpn_types.specs.FormViews.{wanted_view, spot_view}
+use Rattle.cpn_declared.specs.DeclsViews.{decls_view}
+use Rattle.cpn_forms.specs.ScopeViews.{scope_view}
+use Rattle.cpn_forms.specs.PlaceViews.{place_view}
+use Rattle.cpn_forms.specs.FormViews.{wanted_view, spot_view}
 use Rattle.cpn_types.specs.Around.{typed_then, arguments_in, typed_in}
 use Rattle.cpn_types.proofs.ValueFronts.{values_step, take_front, further_front}
 use Rattle.cpn_core.specs.Inscriptions.{expr_view}
 use Rattle.cpn_typing.specs.Names.{ok, ◌>>=◌, found}
-use Rattle.cpn_types.specs.Answers.{Answers, refusal_of}
-use Rattle.cpn_types.specs.Calls.{tuple_made, function_makes}
-use Rattle.cpn_types.specs.TypeViews.{ty_view, tys_view}
+use Rattle.cpn_declared.specs.Answers.{Answers, refusal_of}
+use Rattle.cpn_forms.specs.Calls.{tuple_made, function_makes}
+use Rattle.cpn_declared.specs.TypeViews.{ty_view, tys_view}
 use Rattle.cpn_types.proofs.CallFronts.{arguments_are, predeclared_is, function_is, some_there}
-use Rattle.cpn_syntax.specs.PatViews.{pat_view}
+use Rattle.cpn_trees.specs.PatViews.{pat_view}
 use Rattle.cpn_typing.specs.PatternRules.{typed_pattern}
 use Rattle.cpn_types.proofs.ArmFronts.{arms_step, arms_done}
-use Rattle.cpn_syntax.specs.Trees.{asts_from}
+use Rattle.cpn_trees.specs.Trees.{asts_from}
 use Rattle.cpn_typing.specs.Rules.{call_rule, called_as, part}
-use Rattle.cpn_types.specs.TypedViews.{typed_view}
+use Rattle.cpn_forms.specs.TypedViews.{typed_view}
 use Rattle.cpn_types.proofs.FormRules.{infix_apart}
 use Rattle.cpn_types.proofs.FormViews.{call_is, let_is, infix_is, if_is, fold_is}
 use Rattle.cpn_types.proofs.Fronts.{items_step, items_done, parts_step, parts_done}
-use Rattle.cpn_syntax.specs.AstViews as trees
+use Rattle.cpn_trees.specs.AstViews as trees
 use Rattle.cpn_core.specs.Inscriptions as inscriptions
 use Rattle.cpn_types.proofs.FoldRules.{fold_refused}
 use Rattle.cpn_types.proofs.surroundings.Surroundings.+check.Goals as goal

@@ -1,25 +1,26 @@
 -- What is checked so far, in front of or around what the rules say of the rest, is what they say of all. The check ends, since
 -- it goes down the tree; among calls at one depth each has a lower rank than its caller.
 use Rattle.std.proofs.Common.{◌≡◌, ◌+◌, ◌*◌, ◌≤◌, max, map, drop, take, length, option_map, ◌-◌}
-use Rattle.cpn_syntax.specs.AstViews.{local_view, locals_from, arms_from, ast_view}
+use Rattle.cpn_trees.specs.AstViews.{local_view, locals_from, arms_from, ast_view}
 use Rattle.cpn_core.specs.Inscriptions.{expr_view}
 use Rattle.cpn_typing.specs.Expressions.{typed_let, typed_arms, typed_items, typed_parts}
-use Rattle.cpn_types.specs.DeclsViews.{decls_view, scope_view}
-use Rattle.cpn_types.specs.PlaceViews.{place_view}
-use Rattle.cpn_types.specs.FormViews.{wanted_view}
+use Rattle.cpn_declared.specs.DeclsViews.{decls_view}
+use Rattle.cpn_forms.specs.ScopeViews.{scope_view}
+use Rattle.cpn_forms.specs.PlaceViews.{place_view}
+use Rattle.cpn_forms.specs.FormViews.{wanted_view}
 use Rattle.cpn_types.specs.Around.{typed_then}
 use Rattle.cpn_types.proofs.ValueFronts.{around_rest}
-use Rattle.cpn_types.specs.TypeViews.{ty_view, tys_view}
+use Rattle.cpn_declared.specs.TypeViews.{ty_view, tys_view}
 use Rattle.cpn_types.proofs.ArmFronts.{before_arms}
-use Rattle.cpn_syntax.specs.Trees.{asts_from}
+use Rattle.cpn_trees.specs.Trees.{asts_from}
 use Rattle.cpn_types.proofs.Fronts.{before_items, before_parts}
-use Rattle.cpn_syntax.specs.AstViews as trees
+use Rattle.cpn_trees.specs.AstViews as trees
 use Rattle.cpn_core.specs.Inscriptions as inscriptions
 use denote.Param.Weighed.{most}
-use Rattle.cpn_syntax.specs.declared.trees.Ast.{size-Ast}
-use Rattle.cpn_syntax.specs.declared.trees.Arm.{size-Arm}
-use Rattle.cpn_syntax.specs.declared.trees.Form.{size-Form}
-use Rattle.cpn_syntax.specs.declared.trees.LocalValue.{size-LocalValue}
+use Rattle.cpn_trees.specs.declared.trees.Ast.{size-Ast}
+use Rattle.cpn_trees.specs.declared.trees.Arm.{size-Arm}
+use Rattle.cpn_trees.specs.declared.trees.Form.{size-Form}
+use Rattle.cpn_trees.specs.declared.trees.LocalValue.{size-LocalValue}
 use Rattle.cpn_types.proofs.surroundings.Surroundings.+check.Given as goal
 
 abbrev pub invariant-among_values-loop-local : goal.invariant-among_values-loop-local

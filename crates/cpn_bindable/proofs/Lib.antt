@@ -1,0 +1,9 @@
+pub mod BindableChecked
+pub mod BindingTermForms
+pub mod EquationForms
+pub mod FoundSteps
+pub mod GatheredVariables
+pub mod ListedNumbers
+pub mod PatternLists
+pub mod RisingNumbers
+pub mod SmallAdded

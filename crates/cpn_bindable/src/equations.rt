@@ -1,0 +1,118 @@
+//! The equations of a guard between a variable and an inscription.
+
+ghost use Rattle.std.specs.Prelude.{◌≡◌, ◌++◌, map, IfOk};
+ghost use Rattle.std.specs.List.{flat_map};
+ghost use Rattle.cpn_definitions.specs.Bindable.{conjuncts_of};
+ghost use Rattle.cpn_core.specs.Inscriptions.{op_view, expr_view, exprs_view};
+ghost use Rattle.cpn_typing.specs.Closure.{equation_with, equations_of_part};
+ghost use Rattle.cpn_typing.specs.Closure as closure;
+ghost use Rattle.cpn_definitions.specs.Inscription.{equality, apply, operation};
+ghost use Rattle.cpn_bindable.specs.Equations.{is_equality, equation_view, equations_view};
+
+use crate::variables::push_variables;
+use cpn_core::{Expr, Exprs, Guard, Memory, Op};
+use std::alloc::Global;
+
+/// An equation of a guard: a variable, and the variables of the inscription that it is equal to.
+#[derive(Drop)]
+pub(crate) struct Equation {
+    /// The variable.
+    pub(crate) target: u32,
+    /// The variables of the inscription, as they stand in it.
+    pub(crate) sources: Vec<u32>,
+}
+
+/// Whether the operation is `=`.
+fn is_equality(operation: Op) -> bool
+    ensures exact { result ≡ is_equality (op_view operation) }
+{
+    match operation {
+        Op::Eq => true,
+        _ => false,
+    }
+}
+
+/// Adds the equation, where the first part is a variable.
+fn push_equation(
+    alloc: Global,
+    first: &Expr,
+    second: &Expr,
+    equations: &mut Vec<Equation>,
+) -> Result<(), Memory>
+    ensures added { IfOk result (λ _. equations_view equations.new.items ≡ equations_view equations.old.items ++ equation_with (expr_view first.now) (expr_view second.now)) }
+{
+    match first {
+        Expr::Var(number) => {
+            let mut sources = Vec::new(alloc);
+            push_variables(second, &mut sources)?;
+            equations.push(Equation {
+                target: *number,
+                sources,
+            })?;
+            Ok(())
+        }
+        _ => Ok(()),
+    }
+}
+
+/// Adds the equation of two parts, both ways round; other than two make none.
+fn push_both(alloc: Global, parts: &Exprs, equations: &mut Vec<Equation>) -> Result<(), Memory>
+    ensures added { IfOk result (λ _. equations_view equations.new.items ≡ equations_view equations.old.items ++ equations_of_part (apply (operation equality) (exprs_view parts.now.items))) }
+{
+    if parts.len() != 2 {
+        return Ok(());
+    }
+    push_equation(alloc, &parts[0], &parts[1], equations)?;
+    push_equation(alloc, &parts[1], &parts[0], equations)
+}
+
+/// Adds the equations of a conjunct of a guard, which is split where `andalso` stands at its root.
+fn push_equations(
+    alloc: Global,
+    conjunct: &Expr,
+    equations: &mut Vec<Equation>,
+) -> Result<(), Memory>
+    ensures added { IfOk result (λ _. equations_view equations.new.items ≡ equations_view equations.old.items ++ flat_map equations_of_part (conjuncts_of (expr_view conjunct.now))) }
+{
+    match conjunct {
+        Expr::And(first, second) => {
+            push_equations(alloc, first, equations)?;
+            push_equations(alloc, second, equations)
+        }
+        Expr::Op(operation, parts) => match is_equality(*operation) {
+            true => push_both(alloc, parts, equations),
+            false => Ok(()),
+        },
+        Expr::Lit(_) => Ok(()),
+        Expr::Var(_) => Ok(()),
+        Expr::Local(_) => Ok(()),
+        Expr::Time => Ok(()),
+        Expr::Or(_, _) => Ok(()),
+        Expr::If(_, _, _) => Ok(()),
+        Expr::Case(_, _) => Ok(()),
+        Expr::Let(_, _) => Ok(()),
+        Expr::Fold {
+            list: _,
+            start: _,
+            body: _,
+        } => Ok(()),
+        Expr::Tuple(_) => Ok(()),
+        Expr::List(_) => Ok(()),
+        Expr::Con(_, argument) => match argument {
+            None => Ok(()),
+            Some(_) => Ok(()),
+        },
+        Expr::Call(_, _) => Ok(()),
+    }
+}
+
+/// The equations of a guard, in their order.
+pub(crate) fn equations_of(alloc: Global, guard: &Guard) -> Result<Vec<Equation>, Memory>
+    ensures exact { IfOk result (λ equations. equations_view equations.items ≡ closure.equations_of (map expr_view guard.now.conjuncts.items)) }
+{
+    let mut equations = Vec::new(alloc);
+    for conjunct in &guard.conjuncts {
+        push_equations(alloc, conjunct, &mut equations)?;
+    }
+    Ok(equations)
+}

@@ -1,0 +1,4 @@
+pub mod AlternativeLists
+pub mod Bodies
+pub mod Components
+pub mod NameLists

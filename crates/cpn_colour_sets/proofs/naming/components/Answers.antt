@@ -1,0 +1,17 @@
+-- Each component is the next one.
+use Rattle.std.proofs.Common.{◌+◌, ◌∙◌, ◌∷◌, [], map, ap, drop, string_bytes, arith}
+use Rattle.std.proofs.lemmas.List.{map-append}
+use Rattle.cpn_core.specs.Colours.{shape_view}
+use Rattle.cpn_typing.specs.ColourSets.{components}
+use Rattle.cpn_declared.specs.DeclsViews.{decls_view}
+use Rattle.cpn_colour_sets.proofs.Components.{with_front, component_next, components_end}
+use Rattle.cpn_colour_sets.proofs.naming.components.Goals as goal
+
+pub loop-name-preserved : goal.loop-name-preserved
+loop-name-preserved c =
+    ap (λ front. with_front front (components (decls_view c.args.decls.now) (map string_bytes (drop (c.loop-name.name-index + 1) c.args.names.now)))) (ap (map shape_view) c.in_ok-push.ensures.items ∙ map-append shape_view c.loop-name.shapes.items (c.in_ok-shape.shape ∷ []))
+    ∙ component_next (decls_view c.args.decls.now) c.args.names.now c.loop-name.name-index (map shape_view c.loop-name.shapes.items) c.name-item.result c.loop-name-test.true c.name-item.is c.as_str.result.now c.as_str.ensures.value (shape_view c.in_ok-shape.shape) c.in_ok-shape.ensures.exact
+    ∙ c.loop-name.invariant
+
+pub returns : goal.returns
+returns c = record { exact = components_end (decls_view c.args.decls.now) c.args.names.now c.loop-name.name-index (map shape_view c.loop-name.shapes.items) (omega arith) c.loop-name.invariant }

@@ -1,0 +1,4 @@
+pub mod ConstructorNames
+pub mod Entries
+pub mod NewNames
+pub mod TypeLevels

@@ -1,0 +1,9 @@
+pub mod Reading
+pub mod Parts
+pub mod Texts
+pub mod Document
+pub mod Json
+pub mod Formed
+pub mod Names
+pub mod Views
+pub mod Answers

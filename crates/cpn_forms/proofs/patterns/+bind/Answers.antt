@@ -1,0 +1,48 @@
+-- One more pattern in front of the rest; and nothing is left.
+use Rattle.std.proofs.Common.{◌∙◌, sym, map, arith}
+use Rattle.std.proofs.lemmas.Grind.{common_steps}
+use Rattle.cpn_trees.specs.PatViews.{pat_view}
+use Rattle.cpn_trees.specs.Trees.{pats_from}
+use Rattle.cpn_typing.specs.PatternRules.{bound_by_parts, bound_by_items}
+use Rattle.cpn_forms.specs.BoundViews.{around_view}
+use Rattle.cpn_forms.specs.ScopeViews.{scope_view}
+use Rattle.cpn_declared.specs.TypeViews.{ty_view, tys_view}
+use Rattle.cpn_forms.proofs.PatternFronts.{applied_is, part_step, parts_done, parts_differ, item_step, items_done}
+use Rattle.cpn_forms.proofs.patterns.+bind.Goals as goal
+
+pub bind_parts-loop-i-preserved : goal.bind_parts-loop-i-preserved
+bind_parts-loop-i-preserved t c =
+    part_step (around_view c.args.decls.now c.args.scope.now) c.args.parts.now c.args.types.now c.loop-i.i c.args.at c.index-parts-i.result c.index-types-i.result c.loop-i.patterns.items c.push.new.self.items c.in_ok-pattern.pattern (scope_view c.loop-i.bound.items) (scope_view c.bind.new.bound.items)
+    (bound_by_parts (around_view c.args.decls.now c.args.scope.now) (pats_from (map pat_view c.args.parts.now)) c.args.at (tys_view c.args.types.now) (scope_view c.args.bound.now.items))
+    (grind (arith, common_steps)) (grind (arith, common_steps)) c.index-parts-i.is c.index-types-i.is c.in_ok-pattern.ensures.exact c.in_ok-push.ensures.items c.loop-i.invariant
+
+pub bind_parts-returns-then-parts-types : goal.bind_parts-returns-then-parts-types
+bind_parts-returns-then-parts-types t c = record {
+  exact = sym c.loop-i.invariant
+      ∙ parts_done (around_view c.args.decls.now c.args.scope.now) c.args.parts.now c.args.types.now c.loop-i.i c.args.at c.loop-i.patterns.items (scope_view c.loop-i.bound.items) (grind (arith, common_steps)) (grind (arith, common_steps));
+}
+
+pub bind_parts-returns : goal.bind_parts-returns
+bind_parts-returns t c = record {
+  exact = parts_differ (around_view c.args.decls.now c.args.scope.now) c.args.parts.now c.args.types.now c.loop-i.i c.args.at c.loop-i.patterns.items (scope_view c.loop-i.bound.items)
+      (bound_by_parts (around_view c.args.decls.now c.args.scope.now) (pats_from (map pat_view c.args.parts.now)) c.args.at (tys_view c.args.types.now) (scope_view c.args.bound.now.items))
+      (grind (arith, common_steps)) (λ h. omega arith) c.loop-i.invariant;
+}
+
+pub bind_items-loop-item-preserved : goal.bind_items-loop-item-preserved
+bind_items-loop-item-preserved t c =
+    item_step (around_view c.args.decls.now c.args.scope.now) c.args.items.now (ty_view c.args.ty.now) c.loop-item.item-index c.item-item.result c.loop-item.patterns.items c.push.new.self.items c.in_ok-pattern.pattern (scope_view c.loop-item.bound.items) (scope_view c.bind.new.bound.items)
+    (bound_by_items (around_view c.args.decls.now c.args.scope.now) (pats_from (map pat_view c.args.items.now)) (ty_view c.args.ty.now) (scope_view c.args.bound.now.items))
+    (omega arith) c.item-item.is c.in_ok-pattern.ensures.exact c.in_ok-push.ensures.items c.loop-item.invariant
+
+pub bind_items-returns : goal.bind_items-returns
+bind_items-returns t c = record {
+  exact = sym c.loop-item.invariant
+      ∙ items_done (around_view c.args.decls.now c.args.scope.now) c.args.items.now (ty_view c.args.ty.now) c.loop-item.item-index c.loop-item.patterns.items (scope_view c.loop-item.bound.items) (omega arith);
+}
+
+pub bind-returns-in_ok-inside-in-Call-2 : goal.bind-returns-in_ok-inside-in-Call-2
+bind-returns-in_ok-inside-in-Call-2 t c = record {
+  exact = applied_is (around_view c.args.decls.now c.args.scope.now) c.args.tree.now c.in-Call.constructor c.in-Call.arguments c.deref-in-Call.result.now c.deref-in-Call-2.result.now (ty_view c.args.ty.now) (ty_view c.in_ok-taken-in-Call.taken.argument.now) c.in_ok-taken-in-Call.taken.position (scope_view c.args.bound.now.items) (scope_view c.bind_argument.new.bound.items) c.in_ok-inside-in-Call.inside c.in_ok-inside-in-Call-2.inside
+      c.in-Call.is c.deref-in-Call.ensures c.deref-in-Call-2.ensures.value c.in_ok-taken-in-Call.ensures.exact c.in_ok-inside-in-Call.ensures.exact c.in_ok-inside-in-Call-2.ensures.ok;
+}

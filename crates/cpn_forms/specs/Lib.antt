@@ -1,0 +1,11 @@
+-- what the data of the program stand for
+pub mod ScopeViews
+pub mod PlaceViews
+pub mod TypedViews
+pub mod LookupViews
+pub mod FormViews
+pub mod CalledViews
+pub mod BoundViews
+-- the rules of operators and of calls, taken apart
+pub mod Operators
+pub mod Calls

@@ -1,0 +1,2 @@
+pub mod InscriptionLevels
+pub mod ShapeLevels

@@ -1,0 +1,4 @@
+pub mod Readings
+pub mod ReadLists
+pub mod NumberedLists
+pub mod ItemByItem

@@ -1,7 +1,0 @@
--- The part that is left is no larger than the tree.
-use Rattle.std.proofs.Common.{◌≤◌}
-use Rattle.cpn_syntax.specs.declared.trees.Ast.{size-Ast}
-use Rattle.cpn_syntax.proofs.+tree.Given as goal
-
-abbrev pub invariant-trees::Ast::drop-loop-name : goal.invariant-trees::Ast::drop-loop-name
-invariant-trees::Ast::drop-loop-name l = size-Ast l.self ≤ size-Ast l.initial.self

@@ -1,7 +1,0 @@
--- The plain form that the form of a pattern stands for.
-use Rattle.cpn_syntax.specs.Trees.{PlainPat, PlainPatForm}
-use Rattle.cpn_syntax.specs.PatViews.{pat_form_step, pat_step}
-use Rattle.cpn_syntax.specs.declared.patterns.PatForm.{PatForm, fold-PatForm}
-
-abbrev pub pat_form_view : PatForm → PlainPatForm
-pat_form_view = fold-PatForm PlainPatForm PlainPat pat_form_step pat_step

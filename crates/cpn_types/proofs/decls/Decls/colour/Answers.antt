@@ -1,6 +1,0 @@
--- The map finds the colour set of the name.
-use Rattle.cpn_types.proofs.Entries.{colour_found}
-use Rattle.cpn_types.proofs.decls.Decls.colour.Goals as goal
-
-pub returns : goal.returns
-returns c = record { exact = colour_found c.args.name.now c.args.self.now.colours.entries c.get.result c.get.ensures.value }

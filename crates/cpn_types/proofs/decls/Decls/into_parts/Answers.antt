@@ -1,9 +1,0 @@
--- The names are those of the constructors of all unions.
-use Rattle.std.proofs.Common.{◌∙◌, map, ap}
-use Rattle.cpn_types.specs.DeclsViews.{constructor_names, constructor_view}
-use Rattle.cpn_types.proofs.ConstructorNames.{all_names_are}
-use Rattle.cpn_types.proofs.decls.Decls.into_parts.Goals as goal
-
-pub returns-clause-constructors : goal.returns-clause-constructors
-returns-clause-constructors c =
-    c.in_ok-constructors.ensures.exact ∙ ap (map (λ union. constructor_names (map constructor_view union.items))) c.as_slice.ensures.value ∙ all_names_are c.args.self.unions.items

@@ -1,8 +1,0 @@
--- What was found so far and what is left to find are what is to be found.
-use Rattle.std.proofs.Common.{◌≡◌, ◌++◌, drop}
-use Rattle.cpn_typing.specs.AcceptedTransitions.{arcs_variables}
-use Rattle.cpn_core.specs.Nets.{arcs_view}
-use Rattle.cpn_types.proofs.variables.push_of_arcs.Given as goal
-
-abbrev pub invariant-loop-arc : goal.invariant-loop-arc
-invariant-loop-arc l = l.found.items ++ arcs_variables (arcs_view (drop l.arc-index l.arcs)) ≡ l.initial.found.items ++ arcs_variables (arcs_view l.arcs)

@@ -1,8 +1,0 @@
--- The plain typed inscription that one of the program stands for.
-use Rattle.cpn_core.specs.Inscriptions.{expr_view}
-use Rattle.cpn_typing.specs.Rules as rules
-use Rattle.cpn_types.specs.TypeViews.{ty_view}
-use Rattle.cpn_types.specs.declared.typed.Typed.{Typed}
-
-abbrev pub typed_view : Typed → rules.Typed
-typed_view t = record { expr = expr_view t.expr; type_of = ty_view t.ty }

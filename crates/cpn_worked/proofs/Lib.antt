@@ -1,0 +1,4 @@
+pub mod FiveMeanings
+pub mod TwoPlaceNets
+pub mod PrintedNets
+pub mod PlayedNet

@@ -1,0 +1,72 @@
+-- The net of the worked runs is sound and untimed, and a run of one seat may start from its markings.
+use Rattle.std.proofs.Common.{◌≡◌, ℕ, zero, suc, ◌<◌, ◌≤◌, Bool, true, false, List, [], refl, sym, subst, arith, Contains}
+use Rattle.cpn_definitions.specs.Net.{PlainNet}
+use Rattle.cpn_definitions.specs.Lone.{IsFoundOnTokens}
+use Rattle.cpn_definitions.specs.Sound.{IsSound, IsSoundTransition, IsUntimed, IsMarking}
+use Rattle.cpn_runs.specs.Bounds.{most_steps}
+use Rattle.cpn_runs.specs.State.{PlainSetup}
+use Rattle.cpn_book.specs.Playable.{IsPlayable}
+use Rattle.cpn_worked.specs.ThreePlaces.{arc_of, transition_of, worked, start_of}
+
+-- no variable is listed
+none_there : (x : ℕ) → Contains [] x → ⊥
+none_there x there = let far : there.0 < 0 = there.1 in absurd (omega (arith, far))
+
+move_sound : (name : List ℕ) → IsSoundTransition worked (transition_of name (arc_of 0 1) (arc_of 1 2))
+move_sound name = record {
+  listed = tt;
+  declared = refl;
+  bindable = λ x there. absurd (none_there x there);
+  guard_means = λ b bound. tt;
+  delay_means = λ b time bound soon e. cc;
+  few_arcs = omega arith;
+  inputs_sound = (record { sound = record { place_known = omega arith; colour_is = refl; means = λ b time bound soon e. cc }; terms_are = refl }, tt);
+  outputs_sound = (record { place_known = omega arith; colour_is = refl; means = λ b time bound soon e. cc }, tt);
+}
+
+burst_sound : (name : List ℕ) → IsSoundTransition worked (transition_of name (arc_of 1 2) (arc_of 2 4))
+burst_sound name = record {
+  listed = tt;
+  declared = refl;
+  bindable = λ x there. absurd (none_there x there);
+  guard_means = λ b bound. tt;
+  delay_means = λ b time bound soon e. cc;
+  few_arcs = omega arith;
+  inputs_sound = (record { sound = record { place_known = omega arith; colour_is = refl; means = λ b time bound soon e. cc }; terms_are = refl }, tt);
+  outputs_sound = (record { place_known = omega arith; colour_is = refl; means = λ b time bound soon e. cc }, tt);
+}
+
+is_sound : IsSound worked
+is_sound = record {
+  transitions_sound = (move_sound _, (burst_sound _, tt));
+  functions_closed = tt;
+  few_places = omega arith;
+  few_transitions = omega arith;
+  few_variables = omega arith;
+}
+
+is_untimed : IsUntimed worked
+is_untimed zero = refl
+is_untimed (suc zero) = refl
+is_untimed (suc (suc zero)) = refl
+is_untimed (suc (suc (suc p))) = refl
+
+is_found : IsFoundOnTokens worked
+is_found = (refl, (refl, tt))
+
+is_marking : (second : Bool) → IsMarking worked.places (start_of second)
+is_marking true = (tt, refl, ((tt, tt), refl, (tt, refl, tt)))
+is_marking false = ((tt, tt), refl, (tt, refl, (tt, refl, tt)))
+
+-- a run of one seat may start from the net and one of its markings
+pub may_start : (setup : PlainSetup) (second : Bool) → setup.net ≡ worked → setup.start ≡ start_of second → setup.clock ≡ 0 → setup.limits.until ≡ 0 → setup.limits.steps ≤ most_steps → setup.limits.seats ≡ 1 → IsPlayable setup
+may_start setup second net start clock until steps seat = record {
+  sound = subst IsSound (sym net) is_sound;
+  untimed = subst IsUntimed (sym net) is_untimed;
+  alone = subst IsFoundOnTokens (sym net) is_found;
+  marking = subst (λ (n : PlainNet). IsMarking n.places setup.start) (sym net) (subst (IsMarking worked.places) (sym start) (is_marking second));
+  clock = omega arith;
+  until = omega arith;
+  steps = steps;
+  seat = seat;
+}

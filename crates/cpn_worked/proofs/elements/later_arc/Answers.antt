@@ -1,0 +1,26 @@
+-- The arc has both delays.
+use Rattle.std.proofs.Common.{◌≡◌, ◌∙◌, ap, ap₂, refl, Box, Global, rules}
+use Rattle.cpn_definitions.specs.Inscription.{one, later, the_time}
+use Rattle.cpn_core.specs.declared.inscriptions.Expr.{Expr, the_lemmas as forms}
+use Rattle.cpn_core.specs.declared.inscriptions.Expr.TheVariants as exprs
+use Rattle.cpn_core.specs.declared.inscriptions.MExpr.{MExpr, the_lemmas}
+use Rattle.cpn_core.specs.declared.inscriptions.MExpr.TheVariants as terms
+use Rattle.cpn_core.specs.declared.inscriptions.MExpr.TheViews as tokens
+use Rattle.cpn_core.specs.Inscriptions.{expr_view, multiset_view}
+use Rattle.cpn_worked.proofs.elements.later_arc.Goals as goal
+
+token_is : (e : Expr) → multiset_view (terms.One e) ≡ one (expr_view e)
+token_is e = search (rules, the_lemmas)
+
+later_is : (m : Box MExpr Global) (d : Expr) → multiset_view (tokens.Later m d) ≡ later (multiset_view m.value) (expr_view d)
+later_is m d = search (rules, the_lemmas)
+
+time_is : expr_view exprs.Time ≡ the_time
+time_is = search (rules, forms)
+
+pub returns : goal.returns
+returns c =
+    let first = ap multiset_view c.in_ok-token.ensures.ok ∙ token_is c.args.expr in
+    let second = ap multiset_view c.in_ok-later.ensures.ok ∙ later_is c.in_ok-token.token exprs.Time ∙ ap₂ later first time_is in
+    let both = later_is c.in_ok-later.later c.args.delay ∙ ap (λ m. later m (expr_view c.args.delay)) second in
+    record { arc = rw (c.digits.ensures.colour, both, c.new-3.ensures.items) refl }

@@ -1,0 +1,3 @@
+pub mod FiveVariables
+pub mod TwoPlaces
+pub mod ThreePlaces
