@@ -155,6 +155,10 @@ fn terms_of_sum(alloc: Global, parts: &MExprs) -> Result<Vec<BindingTerm>, Memor
 }
 
 /// The binding terms of an inscription of an arc, in their order.
+///
+/// # Errors
+///
+/// Memory is wanted.
 pub fn binding_terms(alloc: Global, inscription: &MExpr) -> Result<Vec<BindingTerm>, Memory>
     ensures exact { IfOk result (λ terms. map term_view terms.items ≡ bindable.binding_terms (multiset_view inscription.now)) }
 {

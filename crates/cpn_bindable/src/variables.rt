@@ -234,6 +234,10 @@ fn rising(mut numbers: Vec<u32>) -> Vec<u32>
 }
 
 /// The variables of a transition with these parts: each once, in declaration order.
+///
+/// # Errors
+///
+/// Memory is wanted.
 pub fn variables_of(
     alloc: Global,
     guard: &Guard,

@@ -62,6 +62,12 @@ fn add_coloured(
 
 /// Declares variables of a colour set. Their names come first: where one is not new, this is told before that the colour
 /// set is not there.
+///
+/// # Errors
+///
+/// The first reason from left to right: [`TypeError::Duplicate`] at a name that is not new, [`TypeError::Unknown`] where no colour set
+/// has the name, or [`TypeError::Memory`]. The names in front of a refused one stay declared: who wants none of them cuts them
+/// off ([`Decls::cut`]).
 pub fn declare_variables(
     alloc: Global,
     decls: &mut Decls,
@@ -265,6 +271,12 @@ fn add_body(alloc: Global, decls: &mut Decls, name: &str, body: &Body) -> Result
 }
 
 /// Declares a colour set.
+///
+/// # Errors
+///
+/// The first reason from left to right: [`TypeError::Duplicate`] at a name that is not new, or the first refusal of the body
+/// ([`TypeError::Unknown`], [`TypeError::Duplicate`], [`TypeError::EmptyRange`], [`TypeError::TooMany`]); [`TypeError::Memory`]. What was
+/// declared in front of the refused part stays ([`Decls::cut`] takes it back).
 pub fn declare_colour_set(
     alloc: Global,
     decls: &mut Decls,

@@ -48,6 +48,10 @@ pub(crate) fn colour_named<'d>(
 }
 
 /// The type of the colour set of a name.
+///
+/// # Errors
+///
+/// [`TypeError::Unknown`] exactly where no colour set has the name; [`TypeError::Memory`].
 pub fn type_named(alloc: Global, decls: &Decls, name: &str) -> Result<Ty, TypeError>
     ensures exact { Answers ty_view result (type_of_rules (decls_view decls.now) name.now) }
 {

@@ -84,7 +84,6 @@ pub enum Pat {
 pub type Exprs = Vec<Expr>;
 
 /// An inscription whose meaning is a value.
-#[derive(Drop)]
 #[cycle(expr)]
 pub enum Expr {
     /// A literal, which means itself.
@@ -126,6 +125,34 @@ pub enum Expr {
     Call(u32, Exprs),
 }
 
+// Written out, so that whoever lets an inscription go calls this, and does not spell out its forms.
+impl Drop for Expr {
+    #[cycle(expr)]
+    fn drop(self) {
+        match self {
+            Expr::Lit(_value) => {}
+            Expr::Var(_number) => {}
+            Expr::Local(_number) => {}
+            Expr::Time => {}
+            Expr::Op(_operation, _operands) => {}
+            Expr::And(_left, _right) => {}
+            Expr::Or(_left, _right) => {}
+            Expr::If(_condition, _consequence, _alternative) => {}
+            Expr::Case(_subject, _arms) => {}
+            Expr::Let(_value, _body) => {}
+            Expr::Fold {
+                list: _list,
+                start: _start,
+                body: _body,
+            } => {}
+            Expr::Tuple(_parts) => {}
+            Expr::List(_items) => {}
+            Expr::Con(_position, _argument) => {}
+            Expr::Call(_function, _arguments) => {}
+        }
+    }
+}
+
 /// An arm of a `case`.
 #[derive(Drop)]
 #[cycle(expr)]
@@ -163,7 +190,6 @@ pub struct Guard {
 pub type MExprs = Vec<MExpr>;
 
 /// An inscription of an arc or an initial marking, whose value is a multiset of tokens.
-#[derive(Drop)]
 #[cycle(tokens)]
 pub enum MExpr {
     /// `empty`: no token.
@@ -184,6 +210,24 @@ pub enum MExpr {
     Case(Expr, Vec<MArm>),
     /// `let`: the value of the first part is the next local of the second.
     Let(Expr, Box<MExpr>),
+}
+
+// Written out, as that of `Expr`.
+impl Drop for MExpr {
+    #[cycle(tokens)]
+    fn drop(self) {
+        match self {
+            MExpr::Empty => {}
+            MExpr::One(_value) => {}
+            MExpr::Times(_count, _value) => {}
+            MExpr::Sum(_parts) => {}
+            MExpr::Later(_tokens, _delay) => {}
+            MExpr::At(_tokens, _stamp) => {}
+            MExpr::If(_condition, _first, _second) => {}
+            MExpr::Case(_subject, _arms) => {}
+            MExpr::Let(_value, _tokens) => {}
+        }
+    }
 }
 
 /// An arm of a `case` over tokens.

@@ -38,15 +38,21 @@ pub fn number_of(position: usize) -> Result<u32, Memory>
     }
 }
 
-/// How many there are of each kind of thing.
+/// How many things of each kind are declared: what [`Decls::cut`] goes back to.
 #[derive(Drop)]
 pub struct Counts {
-    colours: usize,
-    names: usize,
-    variables: usize,
-    enumerations: usize,
-    unions: usize,
-    functions: usize,
+    /// Colour sets.
+    pub colours: usize,
+    /// Names of all others: of variables, constants, constructors, values and functions.
+    pub names: usize,
+    /// Variables.
+    pub variables: usize,
+    /// Enumerations.
+    pub enumerations: usize,
+    /// Unions.
+    pub unions: usize,
+    /// Functions.
+    pub functions: usize,
 }
 
 impl Decls {
@@ -65,6 +71,11 @@ impl Decls {
     }
 
     /// Adds a name with what it means, unless the name is not new.
+    ///
+    /// # Errors
+    ///
+    /// [`TypeError::Duplicate`] exactly where the name is predeclared, or stands among the others already; [`TypeError::Memory`]. Nothing is
+    /// changed then.
     pub fn add_name(&mut self, alloc: Global, name: &str, meaning: Meaning) -> Result<(), TypeError>
         ensures exact { Answers (λ _. name.now ∷ other_names (decls_view self.old)) result (with_new name.now (other_names (decls_view self.old))) }
         ensures added { OnOk result (decls_view self.new ≡ with_names (decls_view self.old) (record { name = name.now; meant = meaning_view meaning } ∷ [])) }
@@ -78,7 +89,11 @@ impl Decls {
         Ok(())
     }
 
-    /// Adds a colour set under a new name.
+    /// Adds a colour set under a name that is new ([`Decls::is_new_colour`]).
+    ///
+    /// # Errors
+    ///
+    /// Memory is wanted. Nothing is changed then.
     pub fn add_colour(&mut self, alloc: Global, name: &str, colour: Colour) -> Result<(), Memory>
         requires new { may_be_declared name.now (colour_names (decls_view self.old)) ≡ true }
         ensures added { OnOk result (decls_view self.new ≡ with_one_colour (decls_view self.old) name.now (colour_view colour)) }
@@ -90,6 +105,10 @@ impl Decls {
     }
 
     /// Adds a variable.
+    ///
+    /// # Errors
+    ///
+    /// Memory is wanted. Nothing is changed then.
     pub fn add_variable(&mut self, alloc: Global, name: &str, colour: Colour) -> Result<(), Memory>
         ensures added { OnOk result (decls_view self.new ≡ with_more_variables (decls_view self.old) (record { name = name.now; colour = colour_view colour } ∷ [])) }
         ensures unchanged { OnErr result (decls_view self.new ≡ decls_view self.old) }
@@ -100,6 +119,10 @@ impl Decls {
     }
 
     /// Adds the names of the constants of an enumeration.
+    ///
+    /// # Errors
+    ///
+    /// Memory is wanted. Nothing is changed then.
     pub fn add_enumeration(&mut self, constants: Vec<String>) -> Result<(), Memory>
         ensures added { OnOk result (decls_view self.new ≡ with_one_enumeration (decls_view self.old) (map string_bytes constants.items)) }
         ensures unchanged { OnErr result (decls_view self.new ≡ decls_view self.old) }
@@ -109,6 +132,10 @@ impl Decls {
     }
 
     /// Adds the constructors of a union.
+    ///
+    /// # Errors
+    ///
+    /// Memory is wanted. Nothing is changed then.
     pub fn add_union(&mut self, constructors: Vec<Constructor>) -> Result<(), Memory>
         ensures added { OnOk result (decls_view self.new ≡ with_one_union (decls_view self.old) (map constructor_view constructors.items)) }
         ensures unchanged { OnErr result (decls_view self.new ≡ decls_view self.old) }
@@ -118,6 +145,10 @@ impl Decls {
     }
 
     /// Adds a function.
+    ///
+    /// # Errors
+    ///
+    /// Memory is wanted. Nothing is changed then.
     pub fn add_function(&mut self, function: Function) -> Result<(), Memory>
         ensures added { OnOk result (decls_view self.new ≡ with_one_function (decls_view self.old) (function_view function)) }
         ensures unchanged { OnErr result (decls_view self.new ≡ decls_view self.old) }
@@ -127,6 +158,10 @@ impl Decls {
     }
 
     /// The number of the next variable.
+    ///
+    /// # Errors
+    ///
+    /// Memory is wanted past the greatest number of 32 bits.
     pub fn next_variable(&self) -> Result<u32, Memory>
         ensures number { IfOk result (λ number. number ≡ length (decls_view self.now).variables) }
     {
@@ -135,6 +170,10 @@ impl Decls {
     }
 
     /// The number of the next enumeration.
+    ///
+    /// # Errors
+    ///
+    /// Memory is wanted past the greatest number of 32 bits.
     pub fn next_enumeration(&self) -> Result<u32, Memory>
         ensures number { IfOk result (λ number. number ≡ length (decls_view self.now).enumerations) }
     {
@@ -143,6 +182,10 @@ impl Decls {
     }
 
     /// The number of the next union.
+    ///
+    /// # Errors
+    ///
+    /// Memory is wanted past the greatest number of 32 bits.
     pub fn next_union(&self) -> Result<u32, Memory>
         ensures number { IfOk result (λ number. number ≡ length (decls_view self.now).unions) }
     {
@@ -151,6 +194,10 @@ impl Decls {
     }
 
     /// The number of the next function.
+    ///
+    /// # Errors
+    ///
+    /// Memory is wanted past the greatest number of 32 bits.
     pub fn next_function(&self) -> Result<u32, Memory>
         ensures number { IfOk result (λ number. number ≡ length (decls_view self.now).functions) }
     {
@@ -158,7 +205,7 @@ impl Decls {
         Ok(number)
     }
 
-    /// How many there are of each kind of thing.
+    /// How many things of each kind are declared.
     pub fn counts(&self) -> Counts
         ensures exact { record { colours = result.colours; names = result.names; variables = result.variables; enumerations = result.enumerations; unions = result.unions; functions = result.functions } ≡ counts_of (decls_view self.now) }
     {
@@ -172,7 +219,7 @@ impl Decls {
         }
     }
 
-    /// Keeps the first so many of each kind of thing.
+    /// Keeps the first so many things of each kind, in the order of their declaration; where there are fewer, all of them.
     pub fn cut(&mut self, counts: &Counts)
         ensures first { decls_view self.new ≡ first_of (record { colours = counts.now.colours; names = counts.now.names; variables = counts.now.variables; enumerations = counts.now.enumerations; unions = counts.now.unions; functions = counts.now.functions }) (decls_view self.old) }
     {

@@ -24,6 +24,10 @@ pub struct DeclaredParts {
 
 impl Decls {
     /// What a net takes of what has been declared.
+    ///
+    /// # Errors
+    ///
+    /// Memory is wanted.
     pub fn into_parts(self, alloc: Global) -> Result<DeclaredParts, Memory>
         ensures variables { IfOk result (λ parts. map variable_view parts.variables.items ≡ (decls_view self).variables) }
         ensures constants { IfOk result (λ parts. names_view parts.constants.items ≡ (decls_view self).enumerations) }

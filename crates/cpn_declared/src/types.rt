@@ -34,6 +34,10 @@ pub enum Ty {
 
 impl Ty {
     /// A type of its own that is the same.
+    ///
+    /// # Errors
+    ///
+    /// Memory is wanted.
     pub fn copy(&self) -> Result<Ty, Memory>
         ensures same { IfOk result (λ copied. ty_view copied ≡ ty_view self.now) }
     {
@@ -48,6 +52,10 @@ impl Ty {
     }
 
     /// The type of the values of a shape.
+    ///
+    /// # Errors
+    ///
+    /// Memory is wanted.
     pub fn of_shape(alloc: Global, shape: &Shape) -> Result<Ty, Memory>
         ensures exact { IfOk result (λ ty. ty_view ty ≡ type_of_shape (shape_view shape.now)) }
     {

@@ -8,7 +8,7 @@ ghost use Rattle.cpn_document.specs.Views.{places_view, written_views, arc_texts
 ghost use Rattle.cpn_document.specs.Answers.{Gives, Finds};
 
 use crate::document::{ArcTexts, Joined, PlaceTexts, TransitionTexts, Way};
-use crate::names::{Names, place_names, transition_names};
+use crate::names::Names;
 use crate::objects::arc_texts_of;
 use crate::parts::list_at_key;
 use crate::refusals::{DocError, NOT_SERVED, Refused};
@@ -84,8 +84,25 @@ fn have_few_arcs(alloc: Global, count: usize, arcs: &[Joined]) -> Result<bool, A
     Ok(true)
 }
 
-/// The arcs of a module, each among these places and transitions.
+/// The arcs of a module, each among places and transitions of these names.
 #[tactic(auto, unfolding(crate::specs::Document::arcs_in))]
+fn arcs_among<'v>(
+    alloc: Global,
+    value: &'v Value,
+    places: &Names,
+    transitions: &Names,
+) -> Result<Vec<Joined<'v>>, DocError>
+    ensures reads { Gives (λ joined. joined_views joined.items) result (arcs_in places.now transitions.now (view value.now)) }
+{
+    let written = arc_texts_of(alloc, list_at_key(value, "arcs")?)?;
+    let joined = joined_of_each(alloc, places, transitions, written.as_slice())?;
+    if !have_few_arcs(alloc, transitions.len(), joined.as_slice())? {
+        return Err(DocError::from(NOT_SERVED));
+    }
+    Ok(joined)
+}
+
+/// The arcs of a module, each among these places and transitions.
 pub(crate) fn joined_arcs<'v>(
     alloc: Global,
     value: &'v Value,
@@ -96,14 +113,7 @@ pub(crate) fn joined_arcs<'v>(
     requires transitions_apart { are_apart (names_of_transitions (written_views transitions.now)) ≡ true }
     ensures reads { Gives (λ joined. joined_views joined.items) result (arcs_in (names_of_places (places_view places.now)) (names_of_transitions (written_views transitions.now)) (view value.now)) }
 {
-    let names = place_names(alloc, places)?;
-    let place_set = Names::of(alloc, names.as_slice())?;
-    let names = transition_names(alloc, transitions)?;
-    let transition_set = Names::of(alloc, names.as_slice())?;
-    let written = arc_texts_of(alloc, list_at_key(value, "arcs")?)?;
-    let joined = joined_of_each(alloc, &place_set, &transition_set, written.as_slice())?;
-    if !have_few_arcs(alloc, transitions.len(), joined.as_slice())? {
-        return Err(DocError::from(NOT_SERVED));
-    }
-    Ok(joined)
+    let places = Names::of_places(alloc, places)?;
+    let transitions = Names::of_transitions(alloc, transitions)?;
+    arcs_among(alloc, value, &places, &transitions)
 }

@@ -78,7 +78,7 @@ impl<'n> Names<'n> {
     }
 
     /// The names of texts that are apart.
-    pub(crate) fn of(alloc: Global, texts: &[&'n str]) -> Result<Names<'n>, AllocError>
+    fn of(alloc: Global, texts: &[&'n str]) -> Result<Names<'n>, AllocError>
         requires apart { are_all_apart (bytes_of texts.now) ≡ true }
         ensures names { IfOk result (λ names. names ≡ bytes_of texts.now) }
     {
@@ -87,6 +87,30 @@ impl<'n> Names<'n> {
             names.add(text)?;
         }
         Ok(names)
+    }
+
+    /// The names of places that are apart.
+    pub(crate) fn of_places(
+        alloc: Global,
+        places: &[PlaceTexts<'n>],
+    ) -> Result<Names<'n>, AllocError>
+        requires apart { are_all_apart (names_of_places (places_view places.now)) ≡ true }
+        ensures names { IfOk result (λ names. names ≡ names_of_places (places_view places.now)) }
+    {
+        let names = place_names(alloc, places)?;
+        Names::of(alloc, names.as_slice())
+    }
+
+    /// The names of transitions that are apart.
+    pub(crate) fn of_transitions(
+        alloc: Global,
+        transitions: &[TransitionTexts<'n>],
+    ) -> Result<Names<'n>, AllocError>
+        requires apart { are_all_apart (names_of_transitions (written_views transitions.now)) ≡ true }
+        ensures names { IfOk result (λ names. names ≡ names_of_transitions (written_views transitions.now)) }
+    {
+        let names = transition_names(alloc, transitions)?;
+        Names::of(alloc, names.as_slice())
     }
 }
 

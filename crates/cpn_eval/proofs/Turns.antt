@@ -164,6 +164,13 @@ pub parts_goes
     → after_outcome w m (rest_of w m.visible (locals_of m) head (map held_view done) (exprs_view es')) ≡ after_outcome w m (meant_at w m.visible (locals_of m) e)
 parts_goes w m head done es' es e hd he h = rw (hd, he, h) refl
 
+pub all_parts_goes
+    : (w : World) (m : Machine) (head : Head) (es' es : List Expr) (e : PlainExpr)
+    → es' ≡ es
+    → e ≡ apply head (exprs_view es)
+    → after_outcome w m (meant_at w m.visible (locals_of m) (apply head (exprs_view es'))) ≡ after_outcome w m (meant_at w m.visible (locals_of m) e)
+all_parts_goes w m head es' es e he h = rw (he, h) refl
+
 pub part_goes
     : (w : World) (m : Machine) (head : Head) (done done' : List Held) (v : Held) (es : PlainExprs)
     → done' ≡ done ++ v ∷ []

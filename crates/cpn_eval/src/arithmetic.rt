@@ -62,7 +62,6 @@ pub fn negation(number: i64) -> Result<Value, NoValue>
 /// The quotient of two integers, rounded towards minus infinity.
 ///
 /// Source: `div` of the Standard ML Basis Library.
-#[tactic(auto, using(crate::proofs::Division::quotient_by_positive, crate::proofs::Division::quotient_by_negative))]
 pub fn quotient(left: i64, right: i64) -> Result<Value, NoValue>
     ensures quotient { Tells value_view result (divided floor_div left right) }
 {
@@ -79,7 +78,6 @@ pub fn quotient(left: i64, right: i64) -> Result<Value, NoValue>
 /// What is left of that quotient; it has the divisor's sign.
 ///
 /// Source: `mod` of the Standard ML Basis Library.
-#[tactic(auto, using(crate::proofs::Division::rest_by_positive, crate::proofs::Division::rest_by_negative))]
 pub fn remainder(left: i64, right: i64) -> Result<Value, NoValue>
     ensures remainder { Tells value_view result (divided floor_mod left right) }
 {

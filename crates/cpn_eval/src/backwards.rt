@@ -1,7 +1,7 @@
 //! Lists that are kept backwards.
 
 ghost use Rattle.std.specs.Prelude.{◌≡◌, ◌∷◌, [], ◌++◌, map, IfOk};
-ghost use Rattle.cpn_definitions.specs.Operations.{consed, operated};
+ghost use Rattle.cpn_definitions.specs.Operations.{consed, operated, truth_in};
 ghost use Rattle.cpn_definitions.specs.Outcome.{gives};
 ghost use Rattle.cpn_core.specs.Views.{value_view};
 ghost use Rattle.cpn_core.specs.Inscriptions.{op_view};
@@ -10,7 +10,7 @@ ghost use Rattle.cpn_eval.specs.Operands.{head_of, length_of};
 ghost use Rattle.cpn_eval.specs.Held.{backwards_view, held_view, all_held};
 
 use crate::held::{Backwards, Held};
-use crate::kinds::{MOST_NODES, items_in};
+use crate::kinds::{MOST_NODES, items_in, truth_in};
 use crate::refusals::NoValue;
 use cpn_core::{EvalFault, Memory, Op, Value, Values, copy_values};
 
@@ -88,6 +88,14 @@ impl Held {
             Held::Plain(value) => value,
             Held::Backwards(list) => list.into_value(),
         }
+    }
+
+    /// The truth value that the value is.
+    pub fn into_truth(self) -> Result<bool, NoValue>
+        ensures truth { Tells (λ b. b) result (truth_in (held_view self)) }
+    {
+        let value = self.into_value();
+        truth_in(&value)
     }
 
     /// A copy of the value.

@@ -1,6 +1,6 @@
 //! The arm of a `case` that is taken.
 
-ghost use Rattle.std.specs.Prelude.{◌≡◌, map};
+ghost use Rattle.std.specs.Prelude.{map};
 ghost use Rattle.cpn_definitions.specs.Inscription.{arms_from};
 ghost use Rattle.cpn_core.specs.Views.{value_view};
 ghost use Rattle.cpn_core.specs.Inscriptions.{arm_view};

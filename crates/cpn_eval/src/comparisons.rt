@@ -1,7 +1,6 @@
 //! How two operands compare.
 
-ghost use Rattle.std.specs.Prelude.{◌≡◌, Bool};
-ghost use Rattle.std.specs.Ordering.{int_cmp, nat_cmp};
+ghost use Rattle.std.specs.Prelude.{Bool};
 ghost use Rattle.std.specs.declared.cmp.Ordering.{Ordering};
 ghost use Rattle.cpn_definitions.specs.Value.{boolean, int, text};
 ghost use Rattle.cpn_definitions.specs.Operations.{compared};

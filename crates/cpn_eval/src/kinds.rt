@@ -1,6 +1,6 @@
 //! What kind of value an operand is.
 
-ghost use Rattle.std.specs.Prelude.{◌≡◌, map};
+ghost use Rattle.std.specs.Prelude.{map};
 ghost use Rattle.cpn_definitions.specs.Operations.{integer_in, truth_in, string_in, items_in, components_in, sized};
 ghost use Rattle.cpn_core.specs.Views.{value_view};
 ghost use Rattle.cpn_eval.specs.Answers.{Tells};
@@ -16,17 +16,15 @@ pub fn integer_in(value: &Value) -> Result<i64, NoValue>
     ensures integer { Tells (λ z. z) result (integer_in (value_view value.now)) }
 {
     match value {
-        Value::Unit => Err(NoValue::Untyped),
-        Value::Bool(_) => Err(NoValue::Untyped),
         Value::Int(number) => Ok(*number),
-        Value::Enum(_) => Err(NoValue::Untyped),
-        Value::Text(_) => Err(NoValue::Untyped),
-        Value::Tuple(_) => Err(NoValue::Untyped),
-        Value::Con(_, argument) => match argument {
-            None => Err(NoValue::Untyped),
-            Some(_) => Err(NoValue::Untyped),
-        },
-        Value::List(_) => Err(NoValue::Untyped),
+        Value::Unit
+        | Value::Bool(_)
+        | Value::Enum(_)
+        | Value::Text(_)
+        | Value::Tuple(_)
+        | Value::Con(_, None)
+        | Value::Con(_, Some(_))
+        | Value::List(_) => Err(NoValue::Untyped),
     }
 }
 
@@ -35,17 +33,15 @@ pub fn truth_in(value: &Value) -> Result<bool, NoValue>
     ensures truth { Tells (λ b. b) result (truth_in (value_view value.now)) }
 {
     match value {
-        Value::Unit => Err(NoValue::Untyped),
         Value::Bool(truth) => Ok(*truth),
-        Value::Int(_) => Err(NoValue::Untyped),
-        Value::Enum(_) => Err(NoValue::Untyped),
-        Value::Text(_) => Err(NoValue::Untyped),
-        Value::Tuple(_) => Err(NoValue::Untyped),
-        Value::Con(_, argument) => match argument {
-            None => Err(NoValue::Untyped),
-            Some(_) => Err(NoValue::Untyped),
-        },
-        Value::List(_) => Err(NoValue::Untyped),
+        Value::Unit
+        | Value::Int(_)
+        | Value::Enum(_)
+        | Value::Text(_)
+        | Value::Tuple(_)
+        | Value::Con(_, None)
+        | Value::Con(_, Some(_))
+        | Value::List(_) => Err(NoValue::Untyped),
     }
 }
 
@@ -54,17 +50,15 @@ pub fn string_in(value: Value) -> Result<Text, NoValue>
     ensures string { Tells (λ bytes. bytes) result (string_in (value_view value)) }
 {
     match value {
-        Value::Unit => Err(NoValue::Untyped),
-        Value::Bool(_) => Err(NoValue::Untyped),
-        Value::Int(_) => Err(NoValue::Untyped),
-        Value::Enum(_) => Err(NoValue::Untyped),
         Value::Text(text) => Ok(text),
-        Value::Tuple(_) => Err(NoValue::Untyped),
-        Value::Con(_, argument) => match argument {
-            None => Err(NoValue::Untyped),
-            Some(_) => Err(NoValue::Untyped),
-        },
-        Value::List(_) => Err(NoValue::Untyped),
+        Value::Unit
+        | Value::Bool(_)
+        | Value::Int(_)
+        | Value::Enum(_)
+        | Value::Tuple(_)
+        | Value::Con(_, None)
+        | Value::Con(_, Some(_))
+        | Value::List(_) => Err(NoValue::Untyped),
     }
 }
 
@@ -74,17 +68,15 @@ pub fn items_in(value: Value) -> Result<Values, NoValue>
     ensures items { Tells (λ vs. map value_view vs.items) result (items_in (value_view value)) }
 {
     match value {
-        Value::Unit => Err(NoValue::Untyped),
-        Value::Bool(_) => Err(NoValue::Untyped),
-        Value::Int(_) => Err(NoValue::Untyped),
-        Value::Enum(_) => Err(NoValue::Untyped),
-        Value::Text(_) => Err(NoValue::Untyped),
-        Value::Tuple(_) => Err(NoValue::Untyped),
-        Value::Con(_, argument) => match argument {
-            None => Err(NoValue::Untyped),
-            Some(_) => Err(NoValue::Untyped),
-        },
         Value::List(items) => Ok(items),
+        Value::Unit
+        | Value::Bool(_)
+        | Value::Int(_)
+        | Value::Enum(_)
+        | Value::Text(_)
+        | Value::Tuple(_)
+        | Value::Con(_, None)
+        | Value::Con(_, Some(_)) => Err(NoValue::Untyped),
     }
 }
 
@@ -94,17 +86,15 @@ pub fn components_in(value: Value) -> Result<Values, NoValue>
     ensures components { Tells (λ vs. map value_view vs.items) result (components_in (value_view value)) }
 {
     match value {
-        Value::Unit => Err(NoValue::Untyped),
-        Value::Bool(_) => Err(NoValue::Untyped),
-        Value::Int(_) => Err(NoValue::Untyped),
-        Value::Enum(_) => Err(NoValue::Untyped),
-        Value::Text(_) => Err(NoValue::Untyped),
         Value::Tuple(items) => Ok(items),
-        Value::Con(_, argument) => match argument {
-            None => Err(NoValue::Untyped),
-            Some(_) => Err(NoValue::Untyped),
-        },
-        Value::List(_) => Err(NoValue::Untyped),
+        Value::Unit
+        | Value::Bool(_)
+        | Value::Int(_)
+        | Value::Enum(_)
+        | Value::Text(_)
+        | Value::Con(_, None)
+        | Value::Con(_, Some(_))
+        | Value::List(_) => Err(NoValue::Untyped),
     }
 }
 
@@ -113,17 +103,15 @@ pub fn string_of(value: &Value) -> Result<&Text, NoValue>
     ensures string { Tells (λ bytes. bytes.now) result (string_in (value_view value.now)) }
 {
     match value {
-        Value::Unit => Err(NoValue::Untyped),
-        Value::Bool(_) => Err(NoValue::Untyped),
-        Value::Int(_) => Err(NoValue::Untyped),
-        Value::Enum(_) => Err(NoValue::Untyped),
         Value::Text(found) => Ok(found),
-        Value::Tuple(_) => Err(NoValue::Untyped),
-        Value::Con(_, argument) => match argument {
-            None => Err(NoValue::Untyped),
-            Some(_) => Err(NoValue::Untyped),
-        },
-        Value::List(_) => Err(NoValue::Untyped),
+        Value::Unit
+        | Value::Bool(_)
+        | Value::Int(_)
+        | Value::Enum(_)
+        | Value::Tuple(_)
+        | Value::Con(_, None)
+        | Value::Con(_, Some(_))
+        | Value::List(_) => Err(NoValue::Untyped),
     }
 }
 
@@ -133,17 +121,15 @@ pub fn items_of(value: &Value) -> Result<&[Value], NoValue>
     ensures items { Tells (λ vs. map value_view vs.now) result (items_in (value_view value.now)) }
 {
     match value {
-        Value::Unit => Err(NoValue::Untyped),
-        Value::Bool(_) => Err(NoValue::Untyped),
-        Value::Int(_) => Err(NoValue::Untyped),
-        Value::Enum(_) => Err(NoValue::Untyped),
-        Value::Text(_) => Err(NoValue::Untyped),
-        Value::Tuple(_) => Err(NoValue::Untyped),
-        Value::Con(_, argument) => match argument {
-            None => Err(NoValue::Untyped),
-            Some(_) => Err(NoValue::Untyped),
-        },
         Value::List(found) => Ok(found),
+        Value::Unit
+        | Value::Bool(_)
+        | Value::Int(_)
+        | Value::Enum(_)
+        | Value::Text(_)
+        | Value::Tuple(_)
+        | Value::Con(_, None)
+        | Value::Con(_, Some(_)) => Err(NoValue::Untyped),
     }
 }
 
@@ -153,17 +139,15 @@ pub fn components_of(value: &Value) -> Result<&[Value], NoValue>
     ensures components { Tells (λ vs. map value_view vs.now) result (components_in (value_view value.now)) }
 {
     match value {
-        Value::Unit => Err(NoValue::Untyped),
-        Value::Bool(_) => Err(NoValue::Untyped),
-        Value::Int(_) => Err(NoValue::Untyped),
-        Value::Enum(_) => Err(NoValue::Untyped),
-        Value::Text(_) => Err(NoValue::Untyped),
         Value::Tuple(found) => Ok(found),
-        Value::Con(_, argument) => match argument {
-            None => Err(NoValue::Untyped),
-            Some(_) => Err(NoValue::Untyped),
-        },
-        Value::List(_) => Err(NoValue::Untyped),
+        Value::Unit
+        | Value::Bool(_)
+        | Value::Int(_)
+        | Value::Enum(_)
+        | Value::Text(_)
+        | Value::Con(_, None)
+        | Value::Con(_, Some(_))
+        | Value::List(_) => Err(NoValue::Untyped),
     }
 }
 

@@ -1,8 +1,7 @@
 //! Operations on strings, lists and tuples.
 
-ghost use Rattle.std.specs.Prelude.{◌≡◌, map, reverse, length, pos};
+ghost use Rattle.std.specs.Prelude.{◌≡◌, map};
 ghost use Rattle.std.specs.List.{list_any};
-ghost use Rattle.cpn_definitions.specs.Value.{boolean, int};
 ghost use Rattle.cpn_definitions.specs.Order.{same_value};
 ghost use Rattle.cpn_definitions.specs.Operations.{concatenated, appended, member_of};
 ghost use Rattle.cpn_core.specs.Views.{value_view};

@@ -32,15 +32,14 @@ pub fn is_lone(expr: &MExpr) -> bool
     ensures lone { result ≡ is_lone (multiset_view expr.now) }
 {
     match expr {
-        MExpr::One(_) => true,
-        MExpr::Times(_, _) => true,
-        MExpr::Empty => false,
-        MExpr::Sum(_) => false,
-        MExpr::Later(_, _) => false,
-        MExpr::At(_, _) => false,
-        MExpr::If(_, _, _) => false,
-        MExpr::Case(_, _) => false,
-        MExpr::Let(_, _) => false,
+        MExpr::One(_) | MExpr::Times(_, _) => true,
+        MExpr::Empty
+        | MExpr::Sum(_)
+        | MExpr::Later(_, _)
+        | MExpr::At(_, _)
+        | MExpr::If(_, _, _)
+        | MExpr::Case(_, _)
+        | MExpr::Let(_, _) => false,
     }
 }
 
@@ -97,13 +96,13 @@ impl<'w> Arc<'w> {
         match expr {
             MExpr::One(value) => self.term_of(machine, value, 1),
             MExpr::Times(coefficient, value) => self.times(machine, coefficient, value),
-            MExpr::Empty => Err(NoValue::Untyped),
-            MExpr::Sum(_) => Err(NoValue::Untyped),
-            MExpr::Later(_, _) => Err(NoValue::Untyped),
-            MExpr::At(_, _) => Err(NoValue::Untyped),
-            MExpr::If(_, _, _) => Err(NoValue::Untyped),
-            MExpr::Case(_, _) => Err(NoValue::Untyped),
-            MExpr::Let(_, _) => Err(NoValue::Untyped),
+            MExpr::Empty
+            | MExpr::Sum(_)
+            | MExpr::Later(_, _)
+            | MExpr::At(_, _)
+            | MExpr::If(_, _, _)
+            | MExpr::Case(_, _)
+            | MExpr::Let(_, _) => Err(NoValue::Untyped),
         }
     }
 
@@ -132,8 +131,13 @@ impl<'w> Arc<'w> {
         ensures truth { Tells (λ b. b) result (holds_at self.now machine.old (expr_view condition.now)) }
         ensures kept { IfOk result (λ _. Kept machine.old machine.new) }
     {
-        let value = machine.value_of(&self.world, condition)?;
-        truth_in(&value)
+        match machine.truth(&self.world, condition) {
+            Some(truth) => Ok(truth),
+            None => {
+                let value = machine.value_of(&self.world, condition)?;
+                truth_in(&value)
+            }
+        }
     }
 
     /// The tokens of a lone term, behind so many tokens.

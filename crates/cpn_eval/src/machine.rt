@@ -1,20 +1,20 @@
 //! The turns of an evaluation.
 
-ghost use Rattle.std.specs.Prelude.{slice_get, ◌≡◌, ◌≤◌, ◌<◌, ◌^◌, ℕ, List, [], ◌∷◌, ◌++◌, map, length};
-ghost use Rattle.cpn_definitions.specs.Inscription.{arms_from, operation, apply};
-ghost use Rattle.cpn_definitions.specs.Outcome.{given};
-ghost use Rattle.cpn_definitions.specs.Meaning.{meant_among, done_with};
+ghost use Rattle.std.specs.Prelude.{slice_get, ◌≤◌, [], ◌∷◌, ◌++◌, map};
+ghost use Rattle.cpn_definitions.specs.Inscription.{arms_from, no_exprs, operation, apply};
+ghost use Rattle.cpn_definitions.specs.Outcome.{given, gives};
+ghost use Rattle.cpn_definitions.specs.Meaning.{bound_value, done_with};
 ghost use Rattle.cpn_definitions.specs.Times.{last_time};
 ghost use Rattle.cpn_core.specs.Views.{value_view};
 ghost use Rattle.cpn_eval.specs.Held.{held_view, all_held};
 ghost use Rattle.cpn_core.specs.Inscriptions.{op_view, expr_view, exprs_view, arm_view};
-ghost use Rattle.cpn_eval.specs.Frames.{parts, arms, rest_of, folded, one, through, at, after_outcome, after_value, after_frame, after_waiting, locals_of, calls_in, setting_in, meant_at, chosen_by, ahead, Goes, Turned, head_view, frame_view};
+ghost use Rattle.cpn_eval.specs.Frames.{parts, beside, argument, also, otherwise, branches, body_of, forget, arms, start, steps, back, rest_of, after_outcome, after_frame, after_waiting, locals_of, calls_in, meant_at, ahead, Goes, Turned, head_view, frame_view};
 
 use crate::backwards::{hold_all, values_of};
 use crate::choices::{Choice, choice_of};
 use crate::frames::{Frame, Head, Machine, Now, Turn, World};
 use crate::held::Held;
-use crate::kinds::{items_in, sized, truth_in};
+use crate::kinds::{items_in, sized};
 use crate::leaves::beside;
 use crate::locals::{copied, variable};
 use crate::operations::operate;
@@ -49,16 +49,14 @@ impl<'w> Machine<'w> {
         ensures { Goes world.now self.new result (after_outcome world.now self.old (meant_at world.now self.old.visible (locals_of self.old) (expr_view expr.now))) }
     {
         match expr {
-            Expr::Lit(value) => Ok(Now::Given(Held::Plain(value.copy()?))),
-            Expr::Var(number) => Ok(Now::Given(Held::Plain(variable(world.binding, *number)?))),
+            Expr::Lit(value) => self.literal(world, value),
+            Expr::Var(number) => self.variable(world, *number),
             Expr::Local(number) => self.local(world, *number),
             Expr::Time => Ok(Now::Given(Held::Plain(Value::Int(world.time as i64)))),
             Expr::Op(op, parts) => self.operation(world, *op, parts),
-            Expr::Tuple(parts) => self.parts(world, Head::Tuple, Vec::new(self.alloc), parts),
-            Expr::List(parts) => self.parts(world, Head::List, Vec::new(self.alloc), parts),
-            Expr::Call(function, parts) => {
-                self.parts(world, Head::Call(*function), Vec::new(self.alloc), parts)
-            }
+            Expr::Tuple(parts) => self.all_parts(world, Head::Tuple, parts),
+            Expr::List(parts) => self.all_parts(world, Head::List, parts),
+            Expr::Call(function, parts) => self.all_parts(world, Head::Call(*function), parts),
             Expr::Con(position, argument) => match argument {
                 None => Ok(Now::Given(Held::Plain(Value::Con(*position, None)))),
                 Some(inner) => self.wait(world, Frame::Argument(*position), inner),
@@ -95,7 +93,7 @@ impl<'w> Machine<'w> {
             Some(both) => self.wait(world, Frame::Beside(op, both.left), both.right),
             None => match self.beside_local(world, op, parts) {
                 Some(both) => self.wait(world, Frame::BesideLocal(op, both.left), both.right),
-                None => self.parts(world, Head::Op(op), Vec::new(self.alloc), parts),
+                None => self.all_parts(world, Head::Op(op), parts),
             },
         }
     }
@@ -133,6 +131,20 @@ impl<'w> Machine<'w> {
         }
     }
 
+    /// A copy of a literal.
+    fn literal(&mut self, world: &World<'w>, value: &Value) -> Result<Now<'w>, NoValue>
+        ensures { Goes world.now self.new result (after_outcome world.now self.old (gives (value_view value.now))) }
+    {
+        Ok(Now::Given(Held::Plain(value.copy()?)))
+    }
+
+    /// A copy of the value of the variable of that number.
+    fn variable(&mut self, world: &World<'w>, number: u32) -> Result<Now<'w>, NoValue>
+        ensures { Goes world.now self.new result (after_outcome world.now self.old (given (bound_value number world.now.binding.now))) }
+    {
+        Ok(Now::Given(Held::Plain(variable(world.binding, number)?)))
+    }
+
     /// The local of that number: itself where nothing that waits needs it any more, and elsewhere a copy of it.
     fn local(&mut self, world: &World<'w>, number: u32) -> Result<Now<'w>, NoValue>
         ensures { Goes world.now self.new result (after_outcome world.now self.old (given (slice_get (locals_of self.old) number))) }
@@ -157,6 +169,18 @@ impl<'w> Machine<'w> {
     {
         self.frames.push(frame)?;
         Ok(Now::Open(expr))
+    }
+
+    /// Begins the first of all the parts, or does what their head does with none.
+    fn all_parts(
+        &mut self,
+        world: &World<'w>,
+        head: Head,
+        parts: &'w [Expr],
+    ) -> Result<Now<'w>, NoValue>
+        ensures { Goes world.now self.new result (after_outcome world.now self.old (meant_at world.now self.old.visible (locals_of self.old) (apply (head_view head) (exprs_view parts.now)))) }
+    {
+        self.parts(world, head, Vec::new(self.alloc), parts)
     }
 
     /// Begins the first of the parts that are left, or does what their head does.
@@ -248,56 +272,141 @@ impl<'w> Machine<'w> {
     {
         match frame {
             Frame::Parts(head, done, rest) => self.behind(world, head, done, rest, value),
-            Frame::Beside(op, left) => {
-                let right = value.into_value();
-                Ok(Now::Given(Held::Plain(read_two(op, left, &right)?)))
-            }
-            Frame::BesideLocal(op, number) => {
-                let right = value.into_value();
-                Ok(Now::Given(Held::Plain(self.read_beside(op, number, &right)?)))
-            }
-            Frame::Argument(position) => {
-                let argument = Box::new(self.alloc, value.into_value())?;
-                Ok(Now::Given(Held::Plain(sized(Value::Con(position, Some(argument)))?)))
-            }
-            Frame::Also(second) => {
-                if truth_in(&value.into_value())? {
-                    Ok(Now::Open(second))
-                } else {
-                    Ok(Now::Given(Held::Plain(Value::Bool(false))))
-                }
-            }
-            Frame::Otherwise(second) => {
-                if truth_in(&value.into_value())? {
-                    Ok(Now::Given(Held::Plain(Value::Bool(true))))
-                } else {
-                    Ok(Now::Open(second))
-                }
-            }
-            Frame::Branches(yes, no) => {
-                if truth_in(&value.into_value())? {
-                    Ok(Now::Open(yes))
-                } else {
-                    Ok(Now::Open(no))
-                }
-            }
+            Frame::Beside(op, left) => self.with_left(world, op, left, value),
+            Frame::BesideLocal(op, number) => self.with_local(world, op, number, value),
+            Frame::Argument(position) => self.construct(world, position, value),
+            Frame::Also(second) => self.also(world, second, value),
+            Frame::Otherwise(second) => self.otherwise(world, second, value),
+            Frame::Branches(yes, no) => self.branch(world, yes, no, value),
             Frame::Body(body) => self.go_into(world, body, value),
-            Frame::Forget(count) => {
-                self.locals.truncate(count);
-                Ok(Now::Given(value))
-            }
-            Frame::Arms(arms) => self.choose(world, arms, &value.into_value()),
-            Frame::Start(start, body) => {
-                let items = VecDeque::from(items_in(value.into_value())?);
-                self.wait(world, Frame::Items(items, body), start)
-            }
+            Frame::Forget(count) => self.forget(world, count, value),
+            Frame::Arms(arms) => self.choose(world, arms, value),
+            Frame::Start(start, body) => self.begin_fold(world, start, body, value),
             Frame::Items(items, body) => self.step(world, items, body, value),
-            Frame::Caller(visible, locals) => {
-                self.visible = visible;
-                self.locals = locals;
-                Ok(Now::Given(value))
-            }
+            Frame::Caller(visible, locals) => self.leave(world, visible, locals, value),
         }
+    }
+
+    /// Does an operation whose first operand stands somewhere.
+    fn with_left(
+        &mut self,
+        world: &World<'w>,
+        op: Op,
+        left: &'w Value,
+        value: Held,
+    ) -> Result<Now<'w>, NoValue>
+        ensures { Goes world.now self.new result (after_frame world.now self.old (parts (operation (op_view op)) (value_view left.now ∷ []) no_exprs) (held_view value)) }
+    {
+        let right = value.into_value();
+        Ok(Now::Given(Held::Plain(read_two(op, left, &right)?)))
+    }
+
+    /// Does an operation whose first operand is a local.
+    fn with_local(
+        &mut self,
+        world: &World<'w>,
+        op: Op,
+        number: u32,
+        value: Held,
+    ) -> Result<Now<'w>, NoValue>
+        ensures { Goes world.now self.new result (after_frame world.now self.old (beside (op_view op) number) (held_view value)) }
+    {
+        let right = value.into_value();
+        Ok(Now::Given(Held::Plain(self.read_beside(op, number, &right)?)))
+    }
+
+    /// Applies a constructor.
+    fn construct(
+        &mut self,
+        world: &World<'w>,
+        position: u32,
+        value: Held,
+    ) -> Result<Now<'w>, NoValue>
+        ensures { Goes world.now self.new result (after_frame world.now self.old (argument position) (held_view value)) }
+    {
+        let argument = Box::new(self.alloc, value.into_value())?;
+        Ok(Now::Given(Held::Plain(sized(Value::Con(position, Some(argument)))?)))
+    }
+
+    /// Goes on behind the first part of `andalso`.
+    fn also(&mut self, world: &World<'w>, second: &'w Expr, value: Held) -> Result<Now<'w>, NoValue>
+        ensures { Goes world.now self.new result (after_frame world.now self.old (also (expr_view second.now)) (held_view value)) }
+    {
+        if value.into_truth()? {
+            Ok(Now::Open(second))
+        } else {
+            Ok(Now::Given(Held::Plain(Value::Bool(false))))
+        }
+    }
+
+    /// Goes on behind the first part of `orelse`.
+    fn otherwise(
+        &mut self,
+        world: &World<'w>,
+        second: &'w Expr,
+        value: Held,
+    ) -> Result<Now<'w>, NoValue>
+        ensures { Goes world.now self.new result (after_frame world.now self.old (otherwise (expr_view second.now)) (held_view value)) }
+    {
+        if value.into_truth()? {
+            Ok(Now::Given(Held::Plain(Value::Bool(true))))
+        } else {
+            Ok(Now::Open(second))
+        }
+    }
+
+    /// Begins a branch of `if`.
+    fn branch(
+        &mut self,
+        world: &World<'w>,
+        yes: &'w Expr,
+        no: &'w Expr,
+        value: Held,
+    ) -> Result<Now<'w>, NoValue>
+        ensures { Goes world.now self.new result (after_frame world.now self.old (branches (expr_view yes.now) (expr_view no.now)) (held_view value)) }
+    {
+        if value.into_truth()? {
+            Ok(Now::Open(yes))
+        } else {
+            Ok(Now::Open(no))
+        }
+    }
+
+    /// Forgets the locals behind so many.
+    fn forget(&mut self, world: &World<'w>, count: usize, value: Held) -> Result<Now<'w>, NoValue>
+        ensures { Goes world.now self.new result (after_frame world.now self.old (forget count) (held_view value)) }
+    {
+        self.locals.truncate(count);
+        Ok(Now::Given(value))
+    }
+
+    /// Begins the start of a fold over the items of the value.
+    fn begin_fold(
+        &mut self,
+        world: &World<'w>,
+        first: &'w Expr,
+        body: &'w Expr,
+        value: Held,
+    ) -> Result<Now<'w>, NoValue>
+        ensures { Goes world.now self.new result (after_frame world.now self.old (start (expr_view first.now) (expr_view body.now)) (held_view value)) }
+    {
+        let items = VecDeque::from(items_in(value.into_value())?);
+        self.wait(world, Frame::Items(items, body), first)
+    }
+
+    /// Goes back to the caller of a function.
+    fn leave(
+        &mut self,
+        world: &World<'w>,
+        visible: usize,
+        locals: Vec<Held>,
+        value: Held,
+    ) -> Result<Now<'w>, NoValue>
+        ensures { Goes world.now self.new result (after_frame world.now self.old (back visible (all_held locals)) (held_view value)) }
+    {
+        self.visible = visible;
+        self.locals = locals;
+        Ok(Now::Given(value))
     }
 
     /// Begins a body that has the value as its next local.
@@ -307,7 +416,7 @@ impl<'w> Machine<'w> {
         body: &'w Expr,
         value: Held,
     ) -> Result<Now<'w>, NoValue>
-        ensures { Goes world.now self.new result (after_outcome world.now self.old (meant_at world.now self.old.visible (locals_of self.old ++ held_view value ∷ []) (expr_view body.now))) }
+        ensures { Goes world.now self.new result (after_frame world.now self.old (body_of (expr_view body.now)) (held_view value)) }
     {
         let count = self.locals.len();
         self.locals.push(value)?;
@@ -319,12 +428,12 @@ impl<'w> Machine<'w> {
     fn choose(
         &mut self,
         world: &World<'w>,
-        arms: &'w [Arm],
-        value: &Value,
+        cases: &'w [Arm],
+        value: Held,
     ) -> Result<Now<'w>, NoValue>
-        ensures { Goes world.now self.new result (after_outcome world.now self.old (meant_among (arms_from (map arm_view arms.now)) (value_view value.now) (setting_in world.now self.old.visible) (locals_of self.old))) }
+        ensures { Goes world.now self.new result (after_frame world.now self.old (arms (arms_from (map arm_view cases.now))) (held_view value)) }
     {
-        let choice = choice_of(self.alloc, arms, value)?;
+        let choice = choice_of(self.alloc, cases, &value.into_value())?;
         self.take(world, choice)
     }
 
@@ -345,7 +454,7 @@ impl<'w> Machine<'w> {
         body: &'w Expr,
         value: Held,
     ) -> Result<Now<'w>, NoValue>
-        ensures { Goes world.now self.new result (after_outcome world.now self.old (folded world.now self.old.visible (locals_of self.old) (expr_view body.now) (map value_view items.items) (held_view value))) }
+        ensures { Goes world.now self.new result (after_frame world.now self.old (steps (map value_view items.items) (expr_view body.now)) (held_view value)) }
     {
         let mut items = items;
         match items.pop_front() {

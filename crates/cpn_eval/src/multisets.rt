@@ -1,6 +1,6 @@
 //! The terms of the inscription of an arc or an initial marking.
 
-ghost use Rattle.std.specs.Prelude.{◌≡◌, ◌≤◌, [], map, take, IfOk, Some, None};
+ghost use Rattle.std.specs.Prelude.{◌≡◌, ◌≤◌, [], map, IfOk};
 ghost use Rattle.cpn_definitions.specs.Outcome.{HasMeaning};
 ghost use Rattle.cpn_definitions.specs.Inscription.{inscriptions_from, arc_arms_from, later, stamped, selected, bound};
 ghost use Rattle.cpn_definitions.specs.Terms.{terms_of, most_tokens};
@@ -10,7 +10,7 @@ ghost use Rattle.cpn_core.specs.Colours.{colour_view};
 ghost use Rattle.cpn_core.specs.Inscriptions.{expr_view, funs_view, multiset_view, arc_arm_view};
 ghost use Rattle.cpn_eval.specs.Answers.{Answers, Tells};
 ghost use Rattle.cpn_eval.specs.Frames.{Kept};
-ghost use Rattle.cpn_eval.specs.Terms.{items_view, terms_at, terms_with, sum_at, arm_at};
+ghost use Rattle.cpn_eval.specs.Terms.{items_view, terms_at, terms_with, sum_at};
 
 use crate::amounts::tokens_in;
 use crate::arms::{Fit, arm_for};
@@ -19,7 +19,7 @@ use crate::frames::{Machine, World};
 use crate::lone_terms::{Arc, is_lone, then_stamped};
 use crate::refusals::{NoValue, Refused};
 use crate::term::Terms;
-use cpn_core::{ArcExpr, Binding, EvalFault, Expr, Funs, MArm, MExpr, MExprs, Value, Values};
+use cpn_core::{ArcExpr, Binding, Expr, Funs, MArm, MExpr, MExprs, Values};
 use std::alloc::Global;
 
 /// The terms of the inscription under the binding at the time, in order; `Refused::Fault` where its meaning is a fault.
@@ -75,8 +75,7 @@ pub fn terms_behind<'w>(
 {
     match expr {
         MExpr::Empty => Ok(Vec::new(machine.alloc)),
-        MExpr::One(_) => arc.lone_behind(machine, expr, before),
-        MExpr::Times(_, _) => arc.lone_behind(machine, expr, before),
+        MExpr::One(_) | MExpr::Times(_, _) => arc.lone_behind(machine, expr, before),
         MExpr::Sum(parts) => of_each(parts, arc, machine, before),
         MExpr::Later(inner, delay) => of_later(inner, delay, arc, machine, before),
         MExpr::At(inner, stamp) => of_stamped(inner, stamp, arc, machine, before),
@@ -175,9 +174,17 @@ fn of_arms<'w>(
     ensures terms { Tells items_view result (terms_at arc.now machine.old (selected (expr_view subject.now) (arc_arms_from (map arc_arm_view arms.now.items))) before) }
     ensures kept { IfOk result (λ _. Kept machine.old machine.new) }
 {
-    let value = machine.value_of(&arc.world, subject)?;
-    let Fit { position, bound } = arm_for(machine.alloc, arms, &value)?;
-    of_result(&arms[position].result, bound, arc, machine, before)
+    match machine.leaf(&arc.world, subject) {
+        Some(value) => {
+            let Fit { position, bound } = arm_for(machine.alloc, arms, value)?;
+            of_result(&arms[position].result, bound, arc, machine, before)
+        }
+        None => {
+            let value = machine.value_of(&arc.world, subject)?;
+            let Fit { position, bound } = arm_for(machine.alloc, arms, &value)?;
+            of_result(&arms[position].result, bound, arc, machine, before)
+        }
+    }
 }
 
 /// The terms of a `let`.

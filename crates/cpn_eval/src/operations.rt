@@ -1,6 +1,6 @@
 //! What the operations give for the values of their operands.
 
-ghost use Rattle.std.specs.Prelude.{◌∷◌, [], map};
+ghost use Rattle.std.specs.Prelude.{◌∷◌, []};
 ghost use Rattle.cpn_definitions.specs.Operations.{operated};
 ghost use Rattle.cpn_core.specs.Views.{value_view};
 ghost use Rattle.cpn_core.specs.Inscriptions.{op_view};

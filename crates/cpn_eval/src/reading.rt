@@ -1,7 +1,7 @@
 //! What the operations give for operands that stay as they are.
 
 ghost use Rattle.std.specs.Prelude.{◌∷◌, []};
-ghost use Rattle.cpn_definitions.specs.Operations.{operated};
+ghost use Rattle.cpn_definitions.specs.Operations.{concatenated, consed, appended, operated};
 ghost use Rattle.cpn_core.specs.Views.{value_view};
 ghost use Rattle.cpn_core.specs.Inscriptions.{op_view};
 ghost use Rattle.cpn_eval.specs.Answers.{Tells};
@@ -36,30 +36,28 @@ pub fn read_one(op: Op, operand: &Value) -> Result<Value, NoValue>
         Op::Rev => reversed(operand.copy()?),
         Op::Size => size_of(operand),
         Op::Nth(position) => part_of(position, operand),
-        Op::Add => Err(NoValue::Untyped),
-        Op::Sub => Err(NoValue::Untyped),
-        Op::Mul => Err(NoValue::Untyped),
-        Op::Div => Err(NoValue::Untyped),
-        Op::Mod => Err(NoValue::Untyped),
-        Op::Cat => Err(NoValue::Untyped),
-        Op::Eq => Err(NoValue::Untyped),
-        Op::Ne => Err(NoValue::Untyped),
-        Op::Lt => Err(NoValue::Untyped),
-        Op::Le => Err(NoValue::Untyped),
-        Op::Gt => Err(NoValue::Untyped),
-        Op::Ge => Err(NoValue::Untyped),
-        Op::Cons => Err(NoValue::Untyped),
-        Op::Append => Err(NoValue::Untyped),
-        Op::Mem => Err(NoValue::Untyped),
+        Op::Add
+        | Op::Sub
+        | Op::Mul
+        | Op::Div
+        | Op::Mod
+        | Op::Cat
+        | Op::Eq
+        | Op::Ne
+        | Op::Lt
+        | Op::Le
+        | Op::Gt
+        | Op::Ge
+        | Op::Cons
+        | Op::Append
+        | Op::Mem => Err(NoValue::Untyped),
     }
 }
 
 /// Whether the operation makes its value of two operands, which are better moved into it.
 pub fn makes(op: Op) -> bool {
     match op {
-        Op::Cat => true,
-        Op::Cons => true,
-        Op::Append => true,
+        Op::Cat | Op::Cons | Op::Append => true,
         _ => false,
     }
 }
@@ -81,19 +79,35 @@ pub fn read_two(op: Op, left: &Value, right: &Value) -> Result<Value, NoValue>
         Op::Gt => Ok(Value::Bool(order_of(left, right)?.is_gt())),
         Op::Ge => Ok(Value::Bool(order_of(left, right)?.is_ge())),
         Op::Mem => member_of(left, right),
-        Op::Cat => concatenated(left.copy()?, right.copy()?),
-        Op::Cons => {
-            let list = consed(left.copy()?, Held::Plain(right.copy()?))?;
-            Ok(list.into_value())
-        }
-        Op::Append => appended(left.copy()?, right.copy()?),
-        Op::Neg => Err(NoValue::Untyped),
-        Op::Not => Err(NoValue::Untyped),
-        Op::Head => Err(NoValue::Untyped),
-        Op::Tail => Err(NoValue::Untyped),
-        Op::Length => Err(NoValue::Untyped),
-        Op::Rev => Err(NoValue::Untyped),
-        Op::Size => Err(NoValue::Untyped),
-        Op::Nth(_) => Err(NoValue::Untyped),
+        Op::Cat => concatenated_copies(left, right),
+        Op::Cons => consed_copies(left, right),
+        Op::Append => appended_copies(left, right),
+        Op::Neg | Op::Not | Op::Head | Op::Tail | Op::Length | Op::Rev | Op::Size | Op::Nth(_) =>
+            Err(NoValue::Untyped),
     }
+}
+
+/// Copies of two strings as one.
+fn concatenated_copies(left: &Value, right: &Value) -> Result<Value, NoValue>
+    ensures string { Tells value_view result (concatenated (value_view left.now) (value_view right.now)) }
+{
+    let left = left.copy()?;
+    concatenated(left, right.copy()?)
+}
+
+/// A copy of the list with a copy of the item before it.
+fn consed_copies(item: &Value, list: &Value) -> Result<Value, NoValue>
+    ensures list { Tells value_view result (consed (value_view item.now) (value_view list.now)) }
+{
+    let item = item.copy()?;
+    let list = consed(item, Held::Plain(list.copy()?))?;
+    Ok(list.into_value())
+}
+
+/// Copies of two lists as one.
+fn appended_copies(left: &Value, right: &Value) -> Result<Value, NoValue>
+    ensures list { Tells value_view result (appended (value_view left.now) (value_view right.now)) }
+{
+    let left = left.copy()?;
+    appended(left, right.copy()?)
 }

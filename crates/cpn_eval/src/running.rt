@@ -1,6 +1,6 @@
 //! The evaluation of an inscription, turn by turn.
 
-ghost use Rattle.std.specs.Prelude.{◌≡◌, ◌≤◌, [], map, length, IfOk};
+ghost use Rattle.std.specs.Prelude.{◌≡◌, ◌≤◌, [], IfOk};
 ghost use Rattle.cpn_definitions.specs.Outcome.{HasMeaning};
 ghost use Rattle.cpn_definitions.specs.Meaning.{meaning};
 ghost use Rattle.cpn_definitions.specs.Times.{last_time};

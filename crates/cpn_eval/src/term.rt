@@ -1,6 +1,6 @@
 //! A term of a multiset of tokens.
 
-ghost use Rattle.std.specs.Prelude.{◌≤◌, ◌^◌};
+ghost use Rattle.std.specs.Prelude.{◌≤◌};
 ghost use Rattle.cpn_definitions.specs.Times.{last_time};
 
 use cpn_core::Value;

@@ -1,9 +1,8 @@
 -- What is accepted of a document is accepted by the rules of typing: each arc of a net is an accepted arc at a place of the net, and each transition an
 -- accepted transition.
-use Rattle.std.proofs.Common.{◌≡◌, ◌<◌, ◌==◌, ◌∙◌, ℕ, suc, Bool, true, false, cond, List, [], ◌∷◌, ◌++◌, length, refl, sym, ap, subst, arith}
+use Rattle.std.proofs.Common.{◌≡◌, ◌<◌, ◌==◌, ℕ, suc, Bool, true, false, cond, List, [], ◌∷◌, length, refl, ap, subst}
 use Rattle.std.specs.Prelude.{Option, Some, None}
 use Rattle.std.specs.List.{AllByRecursion}
-use Rattle.cpn_definitions.specs.Colour.{PlainColour}
 use Rattle.cpn_definitions.specs.Inscription.{PlainExpr}
 use Rattle.cpn_definitions.specs.Net.{PlainArc, PlainTransition, Coloured}
 use Rattle.cpn_definitions.proofs.RisingLists.{each_appended}
@@ -15,7 +14,7 @@ use Rattle.cpn_typing.specs.AcceptedTransitions.{HasItsVariables, IsAcceptedArc,
 use Rattle.cpn_file.specs.Reading.{read, each_from}
 use Rattle.cpn_parsing.specs.Parsing.{Parsing}
 use Rattle.cpn_parsing.specs.Trees.{TransitionTrees, ArcTrees}
-use Rattle.cpn_file.specs.Accepted.{tree_at, accepted_at, guard_at, delay_at, bare_transition, flattened, Sides, with_first, input_at, output_at, sides_of, arc_of, colour_at, inputs_of, outputs_of, joined_from}
+use Rattle.cpn_file.specs.Accepted.{tree_at, accepted_at, guard_at, delay_at, bare_transition, Sides, with_first, input_at, output_at, sides_of, arc_of, colour_at, inputs_of, outputs_of, joined_from}
 use Rattle.cpn_document.specs.declared.document.Way.{Way}
 use Rattle.cpn_document.specs.declared.document.Way.TheVariants.{ToTransition, ToPlace, Both}
 use Rattle.cpn_document.specs.declared.refusals.Pointer.TheVariants as pointers

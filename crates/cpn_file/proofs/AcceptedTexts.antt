@@ -1,25 +1,26 @@
 -- What was accepted, where something was read.
-use Rattle.std.proofs.Common.{◌≡◌, ◌<◌, ◌^◌, ◌==◌, ◌∙◌, ℕ, suc, Bool, true, false, cond, List, [], ◌∷◌, ◌++◌, length, refl, sym, ap, subst, arith}
+use Rattle.std.proofs.Common.{◌≡◌, ◌<◌, ◌^◌, ◌==◌, ◌∙◌, ℕ, suc, Bool, true, false, cond, List, [], ◌∷◌, length, refl, sym, ap, subst}
 use Rattle.std.specs.Prelude.{Option, Some, None}
 use Rattle.std.specs.List.{AllByRecursion}
 use Rattle.cpn_definitions.specs.Bindable.{binding_terms}
 use Rattle.cpn_definitions.specs.Colour.{PlainColour}
 use Rattle.cpn_definitions.specs.Net.{PlainArc, PlainTransition, Coloured}
 use Rattle.cpn_definitions.proofs.RisingLists.{each_appended}
-use Rattle.cpn_trees.specs.Trees.{PlainAst, PlainAsts}
+use Rattle.cpn_trees.specs.Trees.{PlainAst}
 use Rattle.cpn_trees.specs.DeclTrees.{PlainDecl}
 use Rattle.cpn_typing.specs.Names.{Declared, nothing_declared, Checked, ok}
 use Rattle.cpn_typing.specs.Names as checks
 use Rattle.cpn_typing.specs.Consistency.{IsConsistent}
 use Rattle.cpn_typing.specs.Declarations.{declared}
-use Rattle.cpn_typing.specs.Multisets.{input, output, checked_arc, checked_init}
+use Rattle.cpn_typing.specs.Multisets.{input, checked_arc, checked_init}
 use Rattle.cpn_typing.proofs.Consistent.{nothing_consistent, declared_consistent}
 use Rattle.cpn_typing.proofs.MeaningsInNets.{init_means}
-use Rattle.cpn_file.specs.Reading.{Reading, read, each_from}
+use Rattle.cpn_file.specs.Reading.{Refusal, Reading, read, refused, ◌>>=◌, each_from}
+use Rattle.cpn_file.specs.Answers.{Refuses}
 use Rattle.cpn_parsing.specs.Parsing.{Parsing}
-use Rattle.cpn_parsing.specs.Trees.{PlaceTrees, TransitionTrees, ArcTrees, DocumentTrees}
+use Rattle.cpn_parsing.specs.Trees.{TransitionTrees, ArcTrees, DocumentTrees}
 use Rattle.cpn_file.specs.Accepted.{tree_at, accepted_at, declared_with, declared_from, net_place, Initial, initial_at, initial_of, guard_at, delay_at, bare_transition, Sides, with_first, input_at, output_at, sides_of, arc_of, colour_at, inputs_of, joined_from, Accepted, accepted_in}
-use Rattle.cpn_file.specs.Joining.{HasItsTerms}
+use Rattle.cpn_file.specs.Joining.{HasItsTerms, transitions_in}
 use Rattle.cpn_file.specs.Starts.{IsMeant}
 use Rattle.cpn_file.specs.WellAccepted.{IsWellAccepted}
 use Rattle.cpn_document.specs.declared.document.Way.{Way}
@@ -138,6 +139,41 @@ bare_has ds top i transition bare h =
     subst HasItsTerms (same_read _ bare delay.2) tt
 
 -- ---- the document
+
+-- a value that is made of the values of two readings goes into another; a refusal stays
+module _ {A B C : Type 0} (f : A → B) (g : B → C) where
+  read_into : (r : Reading A) (y : B) → (r >>= λ x. read (f x)) ≡ read y → (r >>= λ x. read (g (f x))) ≡ read (g y)
+  read_into (read x) y h = ap (λ z. read (g z)) (same_read (f x) y h)
+  read_into (refused r) y h = cc
+
+  refused_into : (r : Reading A) (o : Option Refusal) → Refuses o (r >>= λ x. read (f x)) → Refuses o (r >>= λ x. read (g (f x)))
+  refused_into r None h = tt
+  refused_into (read x) (Some refusal) h = cc
+  refused_into (refused r) (Some refusal) h = let e : r ≡ refusal = cc in ap refused e
+
+module _ {A B C D : Type 0} (f : A → B → C) (g : C → D) where
+  read_in_either : (first : Reading A) (second : Reading B) (z : C) → (first >>= λ x. second >>= λ y. read (f x y)) ≡ read z → (first >>= λ x. second >>= λ y. read (g (f x y))) ≡ read (g z)
+  read_in_either (read x) second z h = read_into (f x) g second z h
+  read_in_either (refused r) second z h = cc
+
+  refused_in_either : (first : Reading A) (second : Reading B) (o : Option Refusal) → Refuses o (first >>= λ x. second >>= λ y. read (f x y)) → Refuses o (first >>= λ x. second >>= λ y. read (g (f x y)))
+  refused_in_either first second None h = tt
+  refused_in_either (read x) second (Some refusal) h = refused_into (f x) g second (Some refusal) h
+  refused_in_either (refused r) second (Some refusal) h = let e : r ≡ refusal = cc in ap refused e
+
+module _ (document : DocumentTrees) (ds : Declared) (places : List Coloured) (initials : List (Option Initial)) (declared_is : declared_from 0 nothing_declared document.declarations ≡ read ds) (places_are : each_from (net_place ds document.name) 0 document.places ≡ read places) (initials_are : each_from (initial_of ds places) 0 document.places ≡ read initials) where
+  -- what is accepted, with these transitions
+  abbrev pub accepted_with : List PlainTransition → Accepted
+  accepted_with ts = record { declared = ds; places = places; initials = initials; transitions = ts }
+
+  -- the transitions are read, or refused
+  pub transitions_read : (ts : List PlainTransition) → transitions_in ds places document ≡ read ts → accepted_in document ≡ read (accepted_with ts)
+  unfolding accepted_in transitions_in
+  transitions_read ts h = rw (declared_is, places_are, initials_are) (read_in_either (joined_from 0) accepted_with (each_from (bare_transition ds document.name) 0 document.transitions) (each_from (arc_of ds places) 0 document.arcs) ts h)
+
+  pub transitions_refused : (o : Option Refusal) → Refuses o (transitions_in ds places document) → Refuses o (accepted_in document)
+  unfolding accepted_in transitions_in
+  transitions_refused o h = rw (declared_is, places_are, initials_are) (refused_in_either (joined_from 0) accepted_with (each_from (bare_transition ds document.name) 0 document.transitions) (each_from (arc_of ds places) 0 document.arcs) o h)
 
 pub well_accepted : (document : DocumentTrees) (a : Accepted) → length document.places < 2 ^ 32 → accepted_in document ≡ read a → IsWellAccepted a
 unfolding accepted_in

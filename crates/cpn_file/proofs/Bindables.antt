@@ -1,5 +1,5 @@
 -- Transitions whose variables are bindable, one after another.
-use Rattle.std.proofs.Common.{◌≡◌, ℕ, zero, suc, ◌+◌, ◌<◌, ◌≤◌, Bool, true, List, [], ◌∷◌, length, drop, get_or, map, refl, sym, ap, subst, ◌∙◌, add-one, arith}
+use Rattle.std.proofs.Common.{◌≡◌, ℕ, zero, suc, ◌+◌, ◌<◌, ◌≤◌, Bool, true, List, [], ◌∷◌, length, drop, get_or, map, refl, subst, add-one, arith}
 use Rattle.std.specs.Prelude.{Option, Some, None, option_map}
 use Rattle.std.specs.List.{AllByRecursion}
 use Rattle.std.proofs.lemmas.List.{drop_more, drop_all}
@@ -7,10 +7,9 @@ use Rattle.cpn_definitions.specs.Net.{PlainTransition, PlainNet}
 use Rattle.cpn_core.specs.Nets.{transition_view}
 use Rattle.cpn_core.specs.declared.nets.Transition.{Transition}
 use Rattle.cpn_typing.specs.Names.{ok, Refusal as TypeRefusal}
-use Rattle.cpn_typing.specs.Names as checks
 use Rattle.cpn_typing.specs.BindableRule.{IsBindableAnswer}
 use Rattle.cpn_typing.specs.Answers.{RefusesBy as ForbidsBy}
-use Rattle.cpn_file.specs.Reading.{Refusal, Reading, read, refused, inscription, typing}
+use Rattle.cpn_file.specs.Reading.{Refusal, Reading, read, inscription, typing}
 use Rattle.cpn_file.specs.Answers.{RefusesBy}
 use Rattle.cpn_file.specs.Loading.{AreBindable, none_left, these_are, one_is_not}
 use Rattle.cpn_file.specs.Joining.{HasItsTerms}

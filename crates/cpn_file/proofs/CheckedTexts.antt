@@ -1,10 +1,9 @@
 -- What a check refuses is refused where it stands.
-use Rattle.std.proofs.Common.{◌≡◌, refl, sym, ap, subst}
+use Rattle.std.proofs.Common.{◌≡◌, refl}
 use Rattle.std.specs.Prelude.{Option, Some, None, option_map}
-use Rattle.cpn_typing.specs.Names.{Checked, ok, Refusal as TypeRefusal}
-use Rattle.cpn_typing.specs.Names as checks
+use Rattle.cpn_typing.specs.Names.{Checked, Refusal as TypeRefusal}
 use Rattle.cpn_typing.specs.Answers.{Refuses as Forbids}
-use Rattle.cpn_file.specs.Reading.{typing, inscription, Refusal, Reading, read, refused, ◌>>=◌}
+use Rattle.cpn_file.specs.Reading.{typing, inscription, Refusal, Reading, ◌>>=◌}
 use Rattle.cpn_file.specs.Accepted.{accepted_at}
 use Rattle.cpn_file.specs.Answers.{Refuses}
 use Rattle.cpn_document.specs.declared.refusals.Pointer.{Pointer}

@@ -1,6 +1,6 @@
 -- What is declared, declaration by declaration.
-use Rattle.std.proofs.Common.{◌≡◌, ℕ, suc, ◌+◌, ◌<◌, ◌≤◌, List, [], ◌∷◌, length, drop, get_or, map, refl, sym, ap, ◌∙◌, add-one}
-use Rattle.std.specs.Prelude.{Option, Some, None, Result}
+use Rattle.std.proofs.Common.{◌≡◌, ℕ, ◌+◌, ◌<◌, ◌≤◌, List, ◌∷◌, length, drop, get_or, map, refl, sym, ◌∙◌, add-one}
+use Rattle.std.specs.Prelude.{Option, Result}
 use Rattle.std.proofs.lemmas.List.{drop_more, drop_all}
 use Rattle.cpn_trees.specs.declared.parsed.Declaration.{Declaration}
 use Rattle.cpn_typing.specs.Names.{Declared}

@@ -1,12 +1,12 @@
 -- What refuses an initial marking that has a fault.
-use Rattle.std.proofs.Common.{◌≡◌, ℕ, List, refl, sym, subst}
+use Rattle.std.proofs.Common.{◌≡◌, ℕ, List, refl}
 use Rattle.std.specs.Prelude.{Option, Some, None}
 use Rattle.cpn_definitions.specs.Net.{Coloured}
-use Rattle.cpn_definitions.specs.Outcome.{Fault, Outcome, faults}
+use Rattle.cpn_definitions.specs.Outcome.{Outcome, faults}
 use Rattle.cpn_definitions.specs.Terms.{PlainTerm}
 use Rattle.cpn_core.specs.Faults.{fault_view}
 use Rattle.cpn_core.specs.declared.faults.EvalFault.{EvalFault}
-use Rattle.cpn_file.specs.Reading.{Refusal, init, refused}
+use Rattle.cpn_file.specs.Reading.{Refusal}
 use Rattle.cpn_file.specs.Answers.{Refuses}
 use Rattle.cpn_file.specs.Loading.{tokens_in}
 use Rattle.cpn_file.specs.Starts.{IsInitOrNone, IsFaulted}

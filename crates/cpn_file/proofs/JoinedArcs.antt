@@ -1,6 +1,6 @@
 -- The arcs of a net joined to their transitions, arc by arc.
-use Rattle.std.proofs.Common.{◌≡◌, ℕ, zero, suc, ◌+◌, ◌<◌, ◌≤◌, ◌==◌, Bool, true, false, cond, List, [], ◌∷◌, ◌++◌, length, get_or, set, map, refl, sym, ap, ◌∙◌, append_assoc, arith, add-one, eqb-true, eq-eqb, if◌then◌else◌}
-use Rattle.std.specs.Prelude.{Option, Some, None}
+use Rattle.std.proofs.Common.{◌≡◌, ℕ, zero, suc, ◌+◌, ◌<◌, ◌≤◌, ◌==◌, Bool, true, false, cond, List, [], ◌∷◌, ◌++◌, length, get_or, set, map, refl, sym, ap, ◌∙◌, append_assoc, arith, eqb-true, eq-eqb}
+use Rattle.std.specs.Prelude.{Option, Some, None, Result, Ok, Err, IfOk}
 use Rattle.std.proofs.lemmas.List.{append-nil, get_or-map, map-set, length-map}
 use Rattle.cpn_core.specs.Nets.{transition_view}
 use Rattle.cpn_core.specs.declared.nets.Transition.{Transition}
@@ -71,6 +71,11 @@ module _ (arc : Sides) where
   joined_at t (suc i) (x ∷ xs) d is lt = skipped t x xs (set xs i (joined_with (get_or xs i d) arc)) (λ e. omega arith) (joined_at (suc t) i xs d (omega arith) (omega arith))
 
 -- ---- the transitions of the program
+
+-- what follows from what an answer says
+pub if_answered : {X E : Type 0} {P Q : Type 0} (answer : Result X E) → (P → Q) → IfOk answer (λ _. P) → IfOk answer (λ _. Q)
+if_answered (Ok x) f h = f h
+if_answered (Err e) f h = tt
 
 module _ (transitions : List Transition) (arc : Sides) where
   -- an arc of one of them

@@ -1,12 +1,12 @@
 -- The steps of the reading of a document, put together.
-use Rattle.std.proofs.Common.{◌≡◌, Bool, true, List, [], ◌∷◌, refl, sym, ap, subst}
+use Rattle.std.proofs.Common.{◌≡◌, true, List, [], ◌∷◌, refl, sym, ap, subst}
 use Rattle.std.specs.List.{AllByRecursion}
 use Rattle.std.specs.Prelude.{Option, Some, None, option_map, Result, Ok, Err}
 use Rattle.serde_json.specs.Data.{Data}
 use Rattle.cpn_definitions.specs.Net.{PlainTransition, PlainNet}
 use Rattle.cpn_readings.specs.Reading.{refused_as}
 use Rattle.cpn_document.specs.Reading as form
-use Rattle.cpn_file.specs.Reading.{Refusal, Reading, read, refused, of_form}
+use Rattle.cpn_file.specs.Reading.{Refusal, Reading, read, of_form}
 use Rattle.cpn_file.specs.Relations.{just, such_that, ◌>>=◌}
 use Rattle.cpn_document.specs.Document.{RawDocument, document_in}
 use Rattle.cpn_readings.specs.ItemByItem.{EachIs}

@@ -1,15 +1,15 @@
 -- A net of what is declared names the constants and the constructors of the colour sets of its places and its variables.
-use Rattle.std.proofs.Common.{◌≡◌, ℕ, zero, suc, ◌+◌, ◌<◌, ◌≤◌, ◌∙◌, true, nat_le, List, [], ◌∷◌, length, map, slice_get, slice_index_or, Option, Some, None, option_map, refl, sym, ap, subst, arith}
+use Rattle.std.proofs.Common.{◌≡◌, ℕ, zero, suc, ◌<◌, ◌≤◌, true, nat_le, List, [], ◌∷◌, length, map, slice_get, slice_index_or, option_map, refl, sym, subst, arith}
 use Rattle.std.specs.List.{list_all, AllByRecursion}
 use Rattle.std.proofs.lemmas.Bool.{le-leb}
 use Rattle.std.proofs.lemmas.List.{length-map}
-use Rattle.cpn_definitions.specs.Colour.{PlainColour, PlainShape, PlainShapes, Constructors, unit_shape, boolean_shape, int_shape, text_shape, constant_shape, tuple_shape, union_shape, list_shape, no_shapes, more_shapes, no_constructors, without, taking, constructor_at}
+use Rattle.cpn_definitions.specs.Colour.{PlainShape, PlainShapes, Constructors, unit_shape, boolean_shape, int_shape, text_shape, constant_shape, tuple_shape, union_shape, list_shape, no_shapes, more_shapes, no_constructors, without, taking, constructor_at}
 use Rattle.cpn_definitions.specs.Named.{count_of, has_names, have_names, arguments_have_names, is_named, IsNamed}
 use Rattle.cpn_definitions.specs.Net.{PlainTransition, Coloured, PlainNet, nothing}
-use Rattle.cpn_typing.specs.Names.{NamedConstructor, Declared, colour_named, unknown, ok}
+use Rattle.cpn_typing.specs.Names.{NamedConstructor, Declared, colour_named, unknown}
 use Rattle.cpn_typing.specs.TypedValues.{argument_of, argument_types, sets_of, HasSetsOf, HasSetsOfEach, HasSetsOfArguments}
 use Rattle.cpn_typing.specs.Declarations.{colour_of}
-use Rattle.cpn_typing.specs.Consistency.{IsConsistent, variable_numbered}
+use Rattle.cpn_typing.specs.Consistency.{IsConsistent}
 use Rattle.cpn_typing.proofs.Consistent.{required_is}
 use Rattle.cpn_typing.proofs.MeaningsInNets.{own_sets}
 use Rattle.cpn_file.specs.Reading.{read, each_from}

@@ -1,5 +1,5 @@
 -- A place of the net, as plain data.
-use Rattle.std.proofs.Common.{◌≡◌, ℕ, ◌<◌, List, length, get_or, map, sym, ap, ◌∙◌}
+use Rattle.std.proofs.Common.{◌≡◌, ℕ, ◌<◌, length, get_or, sym, ap, ◌∙◌}
 use Rattle.std.proofs.lemmas.List.{get_or-map}
 use Rattle.cpn_core.specs.Nets.{place_view, net_view}
 use Rattle.cpn_core.specs.declared.nets.Place.{Place}

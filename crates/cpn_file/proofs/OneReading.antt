@@ -1,6 +1,6 @@
 -- A document has one reading: each step of its reading has at most one outcome.
 use Rattle.std.proofs.Common.{◌≡◌, ◌==◌, ◌<◌, nat_lt, true, false, inl, inr, arith, ℕ, suc, Bool, List, [], ◌∷◌, refl, sym, ap, ◌∙◌, subst}
-use Rattle.std.specs.Prelude.{Option, Some, None, Contains, ◌↔◌}
+use Rattle.std.specs.Prelude.{Option, Some, None, Contains}
 use Rattle.std.specs.Ordering.{nat_cmp}
 use Rattle.std.proofs.lemmas.Bool.{ltb-true}
 use Rattle.serde_json.specs.Data.{Data}
@@ -8,8 +8,7 @@ use Rattle.cpn_definitions.specs.Lists.{Rises}
 use Rattle.cpn_definitions.specs.Net.{PlainTransition, PlainNet}
 use Rattle.cpn_typing.specs.Names.{Checked, ok}
 use Rattle.cpn_typing.specs.Names as checks
-use Rattle.cpn_typing.specs.BindableRule.{IsBindableAnswer}
-use Rattle.cpn_typing.specs.AcceptedTransitions.{HasItsVariables, transition_variables}
+use Rattle.cpn_typing.specs.AcceptedTransitions.{transition_variables}
 use Rattle.cpn_typing.proofs.BindableAnswers.{one_answer}
 use Rattle.std.specs.List.{AllByRecursion}
 use Rattle.std.specs.declared.cmp.Ordering.TheVariants.{Less, Equal, Greater}
@@ -22,14 +21,14 @@ use Rattle.cpn_syntax.specs.Guards.{SpellsGuard}
 use Rattle.cpn_syntax.specs.Delays.{SpellsDelay}
 use Rattle.cpn_readings.specs.Reading.{refused_as}
 use Rattle.cpn_document.specs.Json.{HasJson}
-use Rattle.cpn_file.specs.Reading.{Refusal, Reading, read, refused, of_form, inscription, typing}
+use Rattle.cpn_file.specs.Reading.{Reading, read, refused, of_form}
 use Rattle.cpn_file.specs.Relations.{just, such_that, After, ◌>>=◌}
 use Rattle.cpn_parsing.specs.Parsing.{IsParsedAs, IsDeclaration, IsInscription, IsGuard, IsDelay}
 use Rattle.cpn_document.specs.Document.{RawPlace, RawTransition, JoinedArc, RawDocument, document_in}
 use Rattle.cpn_readings.specs.ItemByItem.{EachIs, OptionIs}
 use Rattle.cpn_parsing.specs.Trees.{PlaceTrees, TransitionTrees, ArcTrees, DocumentTrees, ArePlaceTrees, AreTransitionTrees, AreArcTrees, AreTrees}
 use Rattle.cpn_file.specs.Accepted.{Accepted, accepted_in}
-use Rattle.cpn_file.specs.Loading.{PlainLoaded, with_variables, IsCompleted, net_from, IsItsNet, AreBindable, none_left, these_are, one_is_not, loaded_from}
+use Rattle.cpn_file.specs.Loading.{with_variables, IsCompleted, net_from, IsItsNet, AreBindable, none_left, these_are, one_is_not, loaded_from}
 use Rattle.cpn_file.specs.Reads.{loaded_by, loaded_in, IsReadingOf, IsReadAs}
 
 -- at most one outcome

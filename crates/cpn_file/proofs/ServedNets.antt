@@ -1,7 +1,7 @@
 -- A net that is served keeps no time stamps, has few variables, and each variable of its transitions stands alone on an input arc.
 use Rattle.std.proofs.Common.{◌≡◌, ◌<◌, ◌^◌, Bool, true, false, not, ◌&&◌, nat_lt, length, refl}
 use Rattle.std.specs.List.{list_all}
-use Rattle.std.proofs.lemmas.Bool.{and_parts, ltb-true}
+use Rattle.std.proofs.lemmas.Bool.{ltb-true}
 use Rattle.cpn_definitions.specs.Lone.{stands_alone, HasLoneVariables, IsFoundOnTokens}
 use Rattle.cpn_definitions.specs.Net.{PlainTransition, Coloured, PlainNet, nothing}
 use Rattle.cpn_definitions.specs.Sound.{IsUntimed}

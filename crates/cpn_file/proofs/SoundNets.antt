@@ -1,11 +1,11 @@
 -- Each transition of a net that is read is sound: its inscriptions are accepted, its variables bindable, its arcs few.
-use Rattle.std.proofs.Common.{◌≡◌, ℕ, suc, ◌+◌, ◌<◌, ◌≤◌, Bool, List, [], ◌∷◌, length, refl, sym, subst}
+use Rattle.std.proofs.Common.{◌≡◌, ℕ, suc, Bool, List, [], ◌∷◌, refl, sym, subst}
 use Rattle.std.specs.List.{AllByRecursion}
 use Rattle.cpn_definitions.specs.Bindable.{binding_terms, IsBindable}
 use Rattle.cpn_definitions.specs.Net.{PlainArc, PlainTransition, Coloured, PlainNet}
 use Rattle.cpn_definitions.specs.Sound.{IsSoundArc, IsSoundInput, IsSoundTransition}
 use Rattle.cpn_definitions.proofs.RisingLists.{in_from_contains, of_one_in}
-use Rattle.cpn_typing.specs.AcceptedTransitions.{HasItsVariables, IsNetOf, ArcMeans}
+use Rattle.cpn_typing.specs.AcceptedTransitions.{HasItsVariables, ArcMeans}
 use Rattle.cpn_typing.specs.BindableRule.{IsBindableAnswer, too_many_are_there, one_is_not, all_are}
 use Rattle.cpn_typing.specs.Consistency.{IsConsistent}
 use Rattle.cpn_typing.specs.Multisets.{Side, input, output}
@@ -18,7 +18,6 @@ use Rattle.cpn_file.specs.Loading.{with_variables, IsCompleted, net_from, AreBin
 use Rattle.cpn_file.specs.Loading as loading
 use Rattle.cpn_file.proofs.AcceptedNets.{IsGoodArc, IsGoodTransition, good_accepted}
 use Rattle.cpn_file.proofs.FewArcs.{HasFewArcs}
-use Rattle.cpn_readings.proofs.Readings.{same_read}
 
 -- ---- bindable variables
 

@@ -1,7 +1,7 @@
 -- The initial marking of a net, place by place.
-use Rattle.std.proofs.Common.{◌≡◌, ℕ, zero, suc, subst, ◌+◌, ◌-◌, ◌<◌, ◌≤◌, List, [], ◌∷◌, ◌++◌, length, map, take, drop, get_or, set, replicate, refl, sym, ap, ◌∙◌, arith, add-one}
+use Rattle.std.proofs.Common.{◌≡◌, ℕ, zero, suc, subst, ◌+◌, ◌<◌, ◌≤◌, List, [], ◌∷◌, length, map, take, drop, get_or, set, replicate, refl, sym, ap, ◌∙◌, arith, add-one}
 use Rattle.std.specs.Prelude.{Option, option_map}
-use Rattle.std.proofs.lemmas.List.{drop_more, drop_all, append-nil, get_or-set_other, get_or-replicate, length-set, length-replicate, take_all}
+use Rattle.std.proofs.lemmas.List.{get_or-set_other, get_or-replicate, length-set, length-replicate, take_all}
 use Rattle.std.proofs.Math.Seq.{take-suc-set}
 use Rattle.std.specs.List.{AllByRecursion}
 use Rattle.cpn_definitions.specs.Net.{PlainNet}
@@ -9,7 +9,7 @@ use Rattle.cpn_definitions.specs.Marking.{Tokens, Marking}
 use Rattle.cpn_core.specs.declared.inscriptions.ArcExpr.{ArcExpr}
 use Rattle.cpn_file.specs.Reading.{Refusal, Reading, read, refused, each_from}
 use Rattle.cpn_file.specs.Accepted.{Initial}
-use Rattle.cpn_file.specs.AcceptedViews.{initial_view, initials_view}
+use Rattle.cpn_file.specs.AcceptedViews.{initial_view}
 use Rattle.cpn_file.specs.Loading.{start_of}
 use Rattle.cpn_file.specs.Answers.{Refuses}
 use Rattle.cpn_readings.proofs.ReadLists.{with_front}

@@ -1,9 +1,9 @@
 -- The start of one place.
-use Rattle.std.proofs.Common.{◌≡◌, ℕ, ◌<◌, List, [], length, get_or, set, refl, sym, ap, ◌∙◌, subst, string_bytes}
+use Rattle.std.proofs.Common.{◌≡◌, ℕ, ◌<◌, List, [], length, get_or, set, sym, ap, ◌∙◌, subst, string_bytes}
 use Rattle.std.specs.Prelude.{Option, Some}
 use Rattle.std.proofs.lemmas.List.{get_or-set_same}
-use Rattle.cpn_definitions.specs.Marking.{Tokens, Marking}
-use Rattle.cpn_definitions.specs.Net.{Coloured, place_at}
+use Rattle.cpn_definitions.specs.Marking.{Marking}
+use Rattle.cpn_definitions.specs.Net.{Coloured}
 use Rattle.cpn_definitions.specs.Outcome.{Outcome, gives}
 use Rattle.cpn_definitions.specs.Terms.{PlainTerm, terms_of}
 use Rattle.cpn_core.specs.Inscriptions.{funs_view}
@@ -14,7 +14,7 @@ use Rattle.cpn_core.specs.declared.nets.Place.{Place}
 use Rattle.cpn_file.specs.Reading.{Refusal, read}
 use Rattle.cpn_file.specs.AcceptedViews.{initial_view}
 use Rattle.cpn_file.specs.Answers.{Refuses}
-use Rattle.cpn_file.specs.Loading.{tokens_of, tokens_in, start_of}
+use Rattle.cpn_file.specs.Loading.{tokens_in, start_of}
 use Rattle.cpn_file.specs.Starts.{tokens_with, IsFaulted}
 use Rattle.cpn_file.proofs.FaultedMarkings.{start_refused}
 use Rattle.cpn_file.proofs.NetPlaces.{place_there}

@@ -1,8 +1,8 @@
 -- The steps of a reading that is told by relations.
-use Rattle.std.proofs.Common.{◌≡◌, refl, subst, sym}
+use Rattle.std.proofs.Common.{refl, sym}
 use Rattle.std.specs.Prelude.{Option, Some, None}
 use Rattle.cpn_file.specs.Reading.{Refusal, Reading, read, refused}
-use Rattle.cpn_file.specs.Relations.{just, such_that, ◌>>=◌}
+use Rattle.cpn_file.specs.Relations.{just, ◌>>=◌}
 use Rattle.cpn_file.specs.Answers.{Refuses, RefusesBy}
 
 module _ {A B : Type 0} (first : Reading A → Type 0) (next : A → Reading B → Type 0) where

@@ -1,10 +1,10 @@
 -- Whatever a document of the form is read as is well loaded: a sound net that names what a report prints, with an initial marking of its places.
-use Rattle.std.proofs.Common.{◌≡◌, ◌∙◌, ℕ, suc, ◌+◌, ◌<◌, ◌≤◌, ◌^◌, Bool, true, List, [], ◌∷◌, length, refl, sym, ap, subst, arith}
+use Rattle.std.proofs.Common.{◌≡◌, ◌∙◌, ℕ, suc, ◌+◌, ◌<◌, ◌≤◌, ◌^◌, List, [], ◌∷◌, length, refl, sym, ap, subst, arith}
 use Rattle.std.specs.List.{AllByRecursion}
 use Rattle.std.specs.Prelude.{Result, Ok, Err, IfOk}
 use Rattle.cpn_definitions.specs.Bindable.{AreClosed}
 use Rattle.cpn_definitions.specs.Named.{IsNamed}
-use Rattle.cpn_definitions.specs.Net.{PlainTransition, Coloured, PlainNet}
+use Rattle.cpn_definitions.specs.Net.{PlainTransition, PlainNet}
 use Rattle.cpn_typing.specs.Consistency.{IsConsistent}
 use Rattle.cpn_typing.specs.Names.{nothing_declared}
 use Rattle.cpn_file.specs.Reading.{Reading, read, refused, check, each_from, not_served}

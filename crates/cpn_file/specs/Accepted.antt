@@ -12,8 +12,9 @@ use Rattle.cpn_trees.specs.DeclTrees.{PlainDecl}
 use Rattle.cpn_typing.specs.Names.{Declared, nothing_declared, Checked, ok}
 use Rattle.cpn_typing.specs.Names as checks
 use Rattle.cpn_typing.specs.Declarations.{colour_of, declared}
-use Rattle.cpn_typing.specs.Multisets.{input, output, checked_arc, checked_init}
+use Rattle.cpn_typing.specs.Multisets.{Side, input, output, checked_arc, checked_init}
 use Rattle.cpn_typing.specs.GuardsAndDelays.{checked_guard, checked_delay}
+use Rattle.cpn_types.specs.Accepted.{terms_on}
 use Rattle.cpn_file.specs.Reading.{no_tree, typing, inscription, Reading, read, refused, ◌>>=◌, each_from}
 use Rattle.cpn_parsing.specs.Parsing.{Parsing, parsed, unparsed}
 use Rattle.cpn_parsing.specs.Trees.{PlaceTrees, TransitionTrees, ArcTrees, DocumentTrees}
@@ -123,6 +124,12 @@ unfoldable pub output_at : Declared → PlainColour → ℕ → ℕ → PlainAst
 output_at ds colour i p tree = do
   m ← accepted_at (Expr i) (checked_arc ds output colour tree)
   read (record { place = p; colour = colour; expr = m; terms = [] })
+
+-- an arc on a side of its transition, with the binding terms that it has there
+unfoldable pub arc_at : Side → Declared → PlainColour → ℕ → ℕ → PlainAst → Reading PlainArc
+arc_at side ds colour i p tree = do
+  m ← accepted_at (Expr i) (checked_arc ds side colour tree)
+  read (record { place = p; colour = colour; expr = m; terms = terms_on side m })
 
 -- An arc that leads both ways is checked as an input arc, then as an output arc.
 unfoldable pub sides_of : Way → Declared → PlainColour → ℕ → ArcTrees → PlainAst → Reading Sides

@@ -6,8 +6,10 @@ ghost use Rattle.cpn_core.specs.Colours.{colour_view};
 ghost use Rattle.cpn_core.specs.Nets.{arc_view, place_view as net_place_view};
 ghost use Rattle.cpn_trees.specs.ParsedViews.{inscription_view};
 ghost use Rattle.cpn_declared.specs.DeclsViews.{decls_view};
+ghost use Rattle.cpn_document.specs.declared.document.Way.TheVariants.{Both};
+ghost use Rattle.cpn_forms.specs.PlaceViews.{side_view};
 ghost use Rattle.cpn_file.specs.Reading.{each_from};
-ghost use Rattle.cpn_file.specs.Accepted.{input_at, output_at, sides_of as sides_in, arc_of as arc_in};
+ghost use Rattle.cpn_file.specs.Accepted.{arc_at, sides_of as sides_in, arc_of as arc_in};
 ghost use Rattle.cpn_parsing.specs.TreesViews.{arc_trees_view};
 ghost use Rattle.cpn_file.specs.AcceptedViews.{sides_view, sides_views};
 ghost use Rattle.cpn_file.specs.Answers.{Loads};
@@ -31,44 +33,53 @@ pub struct Sides {
     pub output: Option<PlaceArc>,
 }
 
-/// An input arc at a place of the colour set.
-#[tactic(auto, unfolding(crate::specs::Accepted::input_at))]
-fn input_of(
+/// An arc of the net on a side of its transition, at a place of the colour set.
+#[tactic(auto, unfolding(crate::specs::Accepted::arc_at))]
+fn side_of(
     alloc: Global,
     decls: &Decls,
     colour: &Colour,
+    side: Side,
     number: usize,
     place: u32,
     tree: &Inscription,
 ) -> Result<PlaceArc, LoadError>
-    ensures reads { Loads arc_view result (input_at (decls_view decls.now) (colour_view colour.now) number place (inscription_view tree.now)) }
+    ensures reads { Loads arc_view result (arc_at (side_view side) (decls_view decls.now) (colour_view colour.now) number place (inscription_view tree.now)) }
 {
-    match check_arc(alloc, decls, colour, Side::Input, tree) {
+    match check_arc(alloc, decls, colour, side, tree) {
         Ok(inscription) => Ok(PlaceArc { place, inscription }),
         Err(error) => Err(not_accepted(Pointer::Expr(number), error)),
     }
 }
 
-/// An output arc at a place of the colour set.
-#[tactic(auto, unfolding(crate::specs::Accepted::output_at))]
-fn output_of(
+/// The two arcs of the net that an arc both ways with this tree stands for.
+#[tactic(auto, unfolding(crate::specs::Accepted::sides_of, crate::specs::Accepted::input_at, crate::specs::Accepted::output_at, crate::specs::Accepted::arc_at))]
+fn both_sides(
     alloc: Global,
     decls: &Decls,
     colour: &Colour,
     number: usize,
-    place: u32,
+    arc: &ArcTrees,
     tree: &Inscription,
-) -> Result<PlaceArc, LoadError>
-    ensures reads { Loads arc_view result (output_at (decls_view decls.now) (colour_view colour.now) number place (inscription_view tree.now)) }
+) -> Result<Sides, LoadError>
+    ensures reads { Loads sides_view result (sides_in Both (decls_view decls.now) (colour_view colour.now) number (arc_trees_view arc.now) (inscription_view tree.now)) }
 {
-    match check_arc(alloc, decls, colour, Side::Output, tree) {
-        Ok(inscription) => Ok(PlaceArc { place, inscription }),
-        Err(error) => Err(not_accepted(Pointer::Expr(number), error)),
+    let input = side_of(alloc, decls, colour, Side::Input, number, arc.place, tree)?;
+    match side_of(alloc, decls, colour, Side::Output, number, arc.place, tree) {
+        Ok(output) => Ok(Sides {
+            transition: arc.transition,
+            input: Some(input),
+            output: Some(output),
+        }),
+        Err(error) => {
+            drop(input);
+            Err(error)
+        }
     }
 }
 
 /// The arcs of the net that an arc with this tree stands for.
-#[tactic(auto, unfolding(crate::specs::Accepted::sides_of))]
+#[tactic(auto, unfolding(crate::specs::Accepted::sides_of, crate::specs::Accepted::input_at, crate::specs::Accepted::output_at, crate::specs::Accepted::arc_at))]
 fn sides_of(
     alloc: Global,
     decls: &Decls,
@@ -79,33 +90,24 @@ fn sides_of(
 ) -> Result<Sides, LoadError>
     ensures reads { Loads sides_view result (sides_in arc.now.way (decls_view decls.now) (colour_view colour.now) number (arc_trees_view arc.now) (inscription_view tree.now)) }
 {
-    let transition = arc.transition;
     match arc.way {
         Way::ToTransition => {
-            let input = input_of(alloc, decls, colour, number, arc.place, tree)?;
+            let input = side_of(alloc, decls, colour, Side::Input, number, arc.place, tree)?;
             Ok(Sides {
-                transition,
+                transition: arc.transition,
                 input: Some(input),
                 output: None,
             })
         }
         Way::ToPlace => {
-            let output = output_of(alloc, decls, colour, number, arc.place, tree)?;
+            let output = side_of(alloc, decls, colour, Side::Output, number, arc.place, tree)?;
             Ok(Sides {
-                transition,
+                transition: arc.transition,
                 input: None,
                 output: Some(output),
             })
         }
-        Way::Both => {
-            let input = input_of(alloc, decls, colour, number, arc.place, tree)?;
-            let output = output_of(alloc, decls, colour, number, arc.place, tree)?;
-            Ok(Sides {
-                transition,
-                input: Some(input),
-                output: Some(output),
-            })
-        }
+        Way::Both => both_sides(alloc, decls, colour, number, arc, tree),
     }
 }
 

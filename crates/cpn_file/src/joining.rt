@@ -30,22 +30,21 @@ fn push_arc(arcs: &mut Vec<PlaceArc>, arc: Option<PlaceArc>) -> Result<(), Alloc
 fn join(transition: &mut Transition, arc: Sides) -> Result<(), AllocError>
     ensures joined { IfOk result (λ _. transition_view transition.new ≡ joined_with (transition_view transition.old) (sides_view arc)) }
 {
-    push_arc(&mut transition.inputs, arc.input)?;
-    push_arc(&mut transition.outputs, arc.output)?;
-    Ok(())
+    let inputs = push_arc(&mut transition.inputs, arc.input);
+    let outputs = push_arc(&mut transition.outputs, arc.output);
+    inputs.and(outputs)
 }
 
 /// Joins the arcs that an arc of the document stands for to their transition among these.
 fn join_among(transitions: &mut Vec<Transition>, arc: Sides) -> Result<(), AllocError>
     ensures joined { IfOk result (λ _. map transition_view transitions.new.items ≡ joined_from 0 (map transition_view transitions.old.items) (sides_view arc ∷ [])) }
 {
-    let number = arc.transition as usize;
-    if number < transitions.len() {
-        let transition = &mut transitions[number];
-        join(transition, arc)?;
-        Ok(())
-    } else {
-        Ok(())
+    match transitions.get_mut(arc.transition as usize) {
+        Some(transition) => join(transition, arc),
+        None => {
+            drop(arc);
+            Ok(())
+        }
     }
 }
 

@@ -5,6 +5,7 @@ ghost use Rattle.std.specs.List.{AllByRecursion};
 ghost use Rattle.cpn_core.specs.Nets.{place_view, transition_view, net_view};
 ghost use Rattle.cpn_declared.specs.DeclsViews.{decls_view};
 ghost use Rattle.cpn_file.specs.Accepted.{accepted_in};
+ghost use Rattle.cpn_file.specs.Joining.{transitions_in};
 ghost use Rattle.cpn_file.specs.Loading.{net_from, loaded_from};
 ghost use Rattle.cpn_file.specs.Reads.{loaded_by};
 ghost use Rattle.cpn_parsing.specs.TreesViews.{document_trees_view};
@@ -52,6 +53,23 @@ pub(crate) struct Accepted {
     pub(crate) transitions: Vec<Transition>,
 }
 
+/// The transitions of a document with their arcs; their variables are not listed yet.
+#[tactic(auto, unfolding(crate::specs::Joining::transitions_in))]
+fn transitions_of(
+    alloc: Global,
+    decls: &Decls,
+    places: &[Place],
+    trees: &DocumentTrees,
+) -> Result<Vec<Transition>, LoadError>
+    requires at_places { AllByRecursion (λ arc. arc.place < length places.now) trees.now.arcs.items }
+    ensures reads { Loads (λ made. map transition_view made.items) result (transitions_in (decls_view decls.now) (map place_view places.now) (document_trees_view trees.now)) }
+{
+    let mut transitions = bare_transitions(alloc, decls, trees.name, trees.transitions.as_slice())?;
+    let arcs = arcs_of(alloc, decls, places, trees.arcs.as_slice())?;
+    join_arcs(&mut transitions, arcs)?;
+    Ok(transitions)
+}
+
 /// What is accepted of a document with the trees of its texts, or the first refusal.
 #[tactic(auto, unfolding(crate::specs::Accepted::accepted_in))]
 pub(crate) fn accepted_of(alloc: Global, trees: &DocumentTrees) -> Result<Accepted, LoadError>
@@ -61,14 +79,7 @@ pub(crate) fn accepted_of(alloc: Global, trees: &DocumentTrees) -> Result<Accept
     let decls = declared(alloc, trees.declarations.as_slice())?;
     let places = net_places(alloc, &decls, trees.name, trees.places.as_slice())?;
     let initials = initials_of(alloc, &decls, places.as_slice(), trees.places.as_slice())?;
-    let mut transitions = bare_transitions(
-        alloc,
-        &decls,
-        trees.name,
-        trees.transitions.as_slice(),
-    )?;
-    let arcs = arcs_of(alloc, &decls, places.as_slice(), trees.arcs.as_slice())?;
-    join_arcs(&mut transitions, arcs)?;
+    let transitions = transitions_of(alloc, &decls, places.as_slice(), trees)?;
     Ok(Accepted {
         decls,
         places,

@@ -54,8 +54,8 @@ fn net_place(
 {
     match decls.colour(place.colour) {
         Some(colour) => {
-            let colour = colour.copy()?;
             let name = flattened(alloc, top, place.name)?;
+            let colour = colour.copy()?;
             Ok(Place { name, colour })
         }
         None => Err(unknown_colour(alloc, number, place.colour)),

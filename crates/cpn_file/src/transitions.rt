@@ -106,9 +106,9 @@ fn bare_transition(
 ) -> Result<Transition, LoadError>
     ensures reads { Loads transition_view result (bare_transition_in (decls_view decls.now) top.now number (transition_trees_view transition.now)) }
 {
+    let name = flattened(alloc, top, transition.name)?;
     let guard = guard_of(alloc, decls, number, &transition.guard)?;
     let delay = delay_of(alloc, decls, number, &transition.delay)?;
-    let name = flattened(alloc, top, transition.name)?;
     Ok(Transition {
         name,
         guard,

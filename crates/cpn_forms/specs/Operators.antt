@@ -8,7 +8,7 @@ use Rattle.cpn_trees.specs.declared.operators.Infix.TheVariants as sign
 use Rattle.cpn_trees.specs.declared.operators.Prefix.{Prefix}
 use Rattle.cpn_trees.specs.declared.operators.Prefix.TheVariants as front
 use Rattle.cpn_typing.specs.Types.{PlainTy, bool_type, int_type, text_type, lists}
-use Rattle.cpn_typing.specs.Names.{mismatch, Checked, refused, ◌>>=◌, required}
+use Rattle.cpn_typing.specs.Names.{mismatch, Checked, ok, refused, ◌>>=◌, required}
 use Rattle.cpn_typing.specs.Places.{misplaced_delay}
 use Rattle.cpn_typing.specs.Rules.{Typed, Part, Spot, two, meets, item_wanted, list_wanted, waits, any_type, ordered, a_list, part_of, part_number}
 
@@ -133,14 +133,22 @@ sides_make sign.Append spot at s = applied appending spot s s.last
 sides_make sign.Later spot at s = refused (misplaced_delay spot.place spot.at at)
 sides_make sign.Times spot at s = refused (mismatch spot.at)
 
+-- the same sides, exchanged
+abbrev pub turned : TypedSides → TypedSides
+turned s = record { left = s.right; right = s.left; first = s.first; last = s.last }
+
+-- two operands in the order in which they are checked: the one that comes first has a type that the operator takes, and the
+-- other one has the type that is wanted beside it
+abbrev pub in_turn : Infix → Option PlainTy → Part → Part → Checked TypedSides
+in_turn o w a b =
+    a.check w >>= λ x. side_test o x.type_of a.at >>= λ t. b.check (other_wanted o x.type_of) >>= λ y. ok (record { left = x.expr; right = y.expr; first = x.type_of; last = y.type_of })
+
 -- the rule of an operator, taken apart
 abbrev pub from_right : Infix → Spot → ℕ → Part → Part → Checked Typed
-from_right o spot at a b =
-    b.check (side_wanted o spot.wanted) >>= λ y. side_test o y.type_of b.at >>= λ t. a.check (other_wanted o y.type_of) >>= λ x. sides_make o spot at (record { left = x.expr; right = y.expr; first = y.type_of; last = x.type_of })
+from_right o spot at a b = in_turn o (side_wanted o spot.wanted) b a >>= λ s. sides_make o spot at (turned s)
 
 abbrev pub from_left : Infix → Spot → ℕ → Part → Part → Checked Typed
-from_left o spot at a b =
-    a.check (side_wanted o spot.wanted) >>= λ x. side_test o x.type_of a.at >>= λ t. b.check (other_wanted o x.type_of) >>= λ y. sides_make o spot at (record { left = x.expr; right = y.expr; first = x.type_of; last = y.type_of })
+from_left o spot at a b = in_turn o (side_wanted o spot.wanted) a b >>= λ s. sides_make o spot at s
 
 abbrev pub from_sides : Infix → Spot → ℕ → Part → Part → Checked Typed
 from_sides o spot at a b = if right_first o spot.wanted (waits a b) then from_right o spot at a b else from_left o spot at a b

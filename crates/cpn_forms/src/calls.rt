@@ -118,6 +118,10 @@ pub fn first_wanted_by(function: Predeclared) -> Option<Ty>
 }
 
 /// What a predeclared function wants of the arguments behind the first one, by its type.
+///
+/// # Errors
+///
+/// [`TypeError::Mismatch`] at the first argument, where a list is wanted and it is none; [`TypeError::Memory`].
 pub fn others_wanted_by(
     alloc: Global,
     function: Predeclared,
@@ -142,6 +146,10 @@ pub fn others_wanted_by(
 }
 
 /// The type of a list's items.
+///
+/// # Errors
+///
+/// [`TypeError::Mismatch`] at the offset exactly where the type is no list's; [`TypeError::Memory`].
 pub fn item_of(ty: &Ty, at: usize) -> Result<&Ty, TypeError>
     ensures exact { Answers (λ item. ty_view item.now) result (item_type (ty_view ty.now) at) }
 {
@@ -179,6 +187,11 @@ fn result_of(function: Predeclared, first: Ty) -> Ty
 }
 
 /// What a predeclared function makes of its first argument and those behind it.
+///
+/// # Errors
+///
+/// [`TypeError::Mismatch`] at the call, where the arguments behind the first are not of the types that are wanted of them, or not as
+/// many, or where its place wants another type; [`TypeError::Memory`].
 #[tactic(auto, using(crate::proofs::Heads::exprs_headed))]
 pub fn operation_makes(
     function: Predeclared,
@@ -208,6 +221,10 @@ pub fn operation_makes(
 }
 
 /// Several arguments of a constructor are the parts of a tuple.
+///
+/// # Errors
+///
+/// [`TypeError::Mismatch`] at the first argument, where the constructor's argument is no tuple of just these types; [`TypeError::Memory`].
 pub fn tuple_made(argument: &Ty, at: usize, parts: Parts) -> Result<Expr, TypeError>
     ensures exact { Answers expr_view result (rules.tuple_made (ty_view argument.now) at (parts_view parts)) }
 {
@@ -240,6 +257,10 @@ pub fn parts_wanted(wanted: Option<&Ty>) -> &[Ty]
 }
 
 /// A constructor with its argument.
+///
+/// # Errors
+///
+/// [`TypeError::Mismatch`] at the call, where its place wants another type; [`TypeError::Memory`].
 pub fn constructed(
     alloc: Global,
     union: u32,
@@ -259,6 +280,11 @@ pub fn constructed(
 }
 
 /// A call of a function with its arguments.
+///
+/// # Errors
+///
+/// [`TypeError::Mismatch`] at the call, where the arguments are not of the parameters' types, or not as many, or where its place wants
+/// another type; [`TypeError::Memory`].
 pub fn function_called(
     number: u32,
     parameters: &Tys,
@@ -275,6 +301,7 @@ pub fn function_called(
             found: None,
         });
     }
+    let ty = given.copy()?;
     let call = Expr::Call(number, arguments.exprs);
-    meets(spot.wanted, spot.at, call, given.copy()?)
+    meets(spot.wanted, spot.at, call, ty)
 }

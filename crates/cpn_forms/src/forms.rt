@@ -5,7 +5,7 @@ ghost use Rattle.cpn_core.specs.Inscriptions.{expr_view};
 ghost use Rattle.cpn_typing.specs.Rules.{meets as meets_rule};
 ghost use Rattle.cpn_declared.specs.TypeViews.{ty_view};
 ghost use Rattle.cpn_forms.specs.TypedViews.{typed_view};
-ghost use Rattle.cpn_forms.specs.FormViews.{wanted_view};
+ghost use Rattle.cpn_forms.specs.FormViews.{branches_view, wanted_view};
 ghost use Rattle.cpn_declared.specs.Answers.{Answers};
 
 use crate::places::Place;
@@ -51,6 +51,31 @@ pub struct Branches {
     pub ty: Ty,
 }
 
+impl Branches {
+    /// Two typed parts, with the type of the one on the right.
+    pub fn of(left: Typed, right: Typed) -> Branches
+        ensures exact { branches_view result ≡ record { left = expr_view left.expr; right = expr_view right.expr; side = ty_view right.ty } }
+    {
+        Branches {
+            left: left.expr,
+            right: right.expr,
+            ty: right.ty,
+        }
+    }
+
+    /// The same parts, exchanged.
+    pub fn turned(self) -> Branches
+        ensures exact { branches_view result ≡ record { left = expr_view self.right; right = expr_view self.left; side = ty_view self.ty } }
+    {
+        let Branches { left, right, ty } = self;
+        Branches {
+            left: right,
+            right: left,
+            ty,
+        }
+    }
+}
+
 /// Where a form stands: its place, the offset of its first token, and the type that is wanted of it, if one is.
 #[derive(Clone, Copy)]
 pub struct Spot<'w> {
@@ -63,6 +88,10 @@ pub struct Spot<'w> {
 }
 
 /// A form with its type, at the wanted type.
+///
+/// # Errors
+///
+/// [`TypeError::Mismatch`] at the form, with both types, exactly where another type is wanted; [`TypeError::Memory`].
 pub fn meets(wanted: Option<&Ty>, at: usize, expr: Expr, ty: Ty) -> Result<Typed, TypeError>
     ensures exact { Answers typed_view result (meets_rule (wanted_view wanted.entry) at (expr_view expr) (ty_view ty)) }
 {
@@ -80,6 +109,10 @@ pub fn meets(wanted: Option<&Ty>, at: usize, expr: Expr, ty: Ty) -> Result<Typed
 }
 
 /// A wanted type of its own.
+///
+/// # Errors
+///
+/// Memory is wanted.
 pub fn copy_wanted(wanted: Option<&Ty>) -> Result<Option<Ty>, Memory>
     ensures same { IfOk result (λ copied. option_map ty_view copied ≡ wanted_view wanted.entry) }
 {

@@ -23,6 +23,10 @@ use cpn_declared::{Decls, Meaning, Ty, TypeError};
 use std::alloc::Global;
 
 /// A string.
+///
+/// # Errors
+///
+/// [`TypeError::Mismatch`] where its place wants another type; [`TypeError::Memory`].
 pub fn text_literal(alloc: Global, text: &str, spot: Spot<'_>) -> Result<Typed, TypeError>
     ensures exact { Answers typed_view result (meets_rule (spot_view spot.entry).wanted spot.entry.at (literal (plain_text text.now)) text_type) }
 {
@@ -37,6 +41,11 @@ pub fn text_literal(alloc: Global, text: &str, spot: Spot<'_>) -> Result<Typed, 
 }
 
 /// `time`.
+///
+/// # Errors
+///
+/// [`TypeError::TimeNotAllowed`] where the place may not tell the time; [`TypeError::Mismatch`] where it wants another type;
+/// [`TypeError::Memory`].
 pub fn check_time(spot: Spot<'_>) -> Result<Typed, TypeError>
     ensures exact { Answers typed_view result (time_rule (may_tell_time (place_view spot.entry.place)) (spot_view spot.entry)) }
 {
@@ -48,6 +57,11 @@ pub fn check_time(spot: Spot<'_>) -> Result<Typed, TypeError>
 }
 
 /// A name alone: a local, a variable, a constant, a constructor without argument, a function without parameters.
+///
+/// # Errors
+///
+/// [`TypeError::Unknown`] where the name is not there or needs arguments, [`TypeError::NotClosed`] at a variable in a closed text,
+/// [`TypeError::Mismatch`] where its place wants another type; [`TypeError::Memory`].
 pub fn check_name(
     alloc: Global,
     decls: &Decls,
@@ -59,7 +73,10 @@ pub fn check_name(
 {
     match find(name, scope, decls) {
         Found::Local(number, ty) => match u32::try_from(number) {
-            Ok(local) => meets(spot.wanted, spot.at, Expr::Local(local), ty.copy()?),
+            Ok(local) => {
+                let ty = ty.copy()?;
+                meets(spot.wanted, spot.at, Expr::Local(local), ty)
+            }
             Err(_) => Err(TypeError::Memory),
         },
         Found::Predeclared(_) => Err(TypeError::Unknown(String::from_str(alloc, name)?)),
@@ -83,7 +100,8 @@ fn check_declared(
             if spot.place.is_closed() {
                 return Err(TypeError::NotClosed(String::from_str(alloc, name)?));
             }
-            meets(spot.wanted, spot.at, Expr::Var(*number), ty.copy()?)
+            let ty = ty.copy()?;
+            meets(spot.wanted, spot.at, Expr::Var(*number), ty)
         }
         Meaning::Constant {
             enumeration,
@@ -113,8 +131,9 @@ fn check_declared(
             result,
         } => {
             if parameters.is_empty() {
+                let ty = result.copy()?;
                 let call = Expr::Call(*number, Vec::new(alloc));
-                meets(spot.wanted, spot.at, call, result.copy()?)
+                meets(spot.wanted, spot.at, call, ty)
             } else {
                 Err(TypeError::Unknown(String::from_str(alloc, name)?))
             }

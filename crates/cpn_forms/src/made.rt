@@ -20,35 +20,58 @@ use cpn_core::{Expr, Exprs, Memory};
 use cpn_declared::{Ty, TypeError};
 use std::alloc::Global;
 
-/// An `if`.
-pub fn chosen(alloc: Global, condition: Expr, branches: Branches) -> Result<Typed, TypeError>
-    ensures exact { Answers typed_view result (ok (record { expr = choose (expr_view condition) (expr_view branches.left) (expr_view branches.right); type_of = ty_view branches.ty })) }
+/// An `if` of a condition and its two parts.
+fn choice(alloc: Global, condition: Expr, left: Expr, right: Expr) -> Result<Expr, Memory>
+    ensures exact { IfOk result (λ expr. expr_view expr ≡ choose (expr_view condition) (expr_view left) (expr_view right)) }
 {
-    let Branches { left, right, ty } = branches;
     let condition = Box::new(alloc, condition)?;
     let left = Box::new(alloc, left)?;
     let right = Box::new(alloc, right)?;
+    Ok(Expr::If(condition, left, right))
+}
+
+/// A typed `if`.
+///
+/// # Errors
+///
+/// [`TypeError::Memory`].
+pub fn chosen(alloc: Global, condition: Typed, branches: Branches) -> Result<Typed, TypeError>
+    ensures exact { Answers typed_view result (ok (record { expr = choose (expr_view condition.expr) (expr_view branches.left) (expr_view branches.right); type_of = ty_view branches.ty })) }
+{
+    let expr = choice(alloc, condition.expr, branches.left, branches.right)?;
     Ok(Typed {
-        expr: Expr::If(condition, left, right),
-        ty,
+        expr,
+        ty: branches.ty,
     })
 }
 
-/// A `foldl`.
-pub fn folded(alloc: Global, list: Expr, start: Typed, body: Expr) -> Result<Typed, TypeError>
-    ensures exact { Answers typed_view result (ok (record { expr = accumulate (expr_view list) (expr_view start.expr) (expr_view body); type_of = ty_view start.ty })) }
+/// A `foldl` of a list, a start and a body.
+fn accumulation(alloc: Global, list: Expr, start: Expr, body: Expr) -> Result<Expr, Memory>
+    ensures exact { IfOk result (λ expr. expr_view expr ≡ accumulate (expr_view list) (expr_view start) (expr_view body)) }
 {
-    let Typed { expr, ty } = start;
     let list = Box::new(alloc, list)?;
-    let start = Box::new(alloc, expr)?;
+    let start = Box::new(alloc, start)?;
     let body = Box::new(alloc, body)?;
-    Ok(Typed {
-        expr: Expr::Fold { list, start, body },
-        ty,
-    })
+    Ok(Expr::Fold { list, start, body })
+}
+
+/// A typed `foldl`.
+///
+/// # Errors
+///
+/// [`TypeError::Memory`].
+pub fn folded(alloc: Global, list: Typed, start: Typed, body: Typed) -> Result<Typed, TypeError>
+    ensures exact { Answers typed_view result (ok (record { expr = accumulate (expr_view list.expr) (expr_view start.expr) (expr_view body.expr); type_of = ty_view start.ty })) }
+{
+    let expr = accumulation(alloc, list.expr, start.expr, body.expr)?;
+    Ok(Typed { expr, ty: start.ty })
 }
 
 /// The locals of the body of a `foldl`.
+///
+/// # Errors
+///
+/// Memory is wanted.
 pub fn two_locals<'t>(
     alloc: Global,
     item: &'t str,
@@ -71,6 +94,10 @@ pub fn two_locals<'t>(
 }
 
 /// A `let` with several values around a body.
+///
+/// # Errors
+///
+/// [`TypeError::Memory`].
 pub fn nested(alloc: Global, values: Exprs, body: Typed) -> Result<Typed, TypeError>
     ensures exact { Answers typed_view result (ok (record { expr = bind_all (map expr_view values.items) (expr_view body.expr); type_of = ty_view body.ty })) }
 {
@@ -85,6 +112,10 @@ pub fn nested(alloc: Global, values: Exprs, body: Typed) -> Result<Typed, TypeEr
 }
 
 /// A tuple of its parts.
+///
+/// # Errors
+///
+/// [`TypeError::Mismatch`] at the form, where its place wants another type; [`TypeError::Memory`].
 pub fn tupled(parts: Parts, spot: Spot<'_>) -> Result<Typed, TypeError>
     ensures exact { Answers typed_view result (meets_rule (wanted_view spot.entry.wanted) spot.entry.at (apply tupling (parts_view parts).exprs) (tuples (parts_view parts).types)) }
 {
@@ -93,6 +124,11 @@ pub fn tupled(parts: Parts, spot: Spot<'_>) -> Result<Typed, TypeError>
 }
 
 /// A list whose items have one type.
+///
+/// # Errors
+///
+/// [`TypeError::Mismatch`] at the form, where there is neither an item nor a wanted type (`[]` alone), or where its place wants another
+/// type; [`TypeError::Memory`].
 pub fn listed(alloc: Global, items: Items, spot: Spot<'_>) -> Result<Typed, TypeError>
     ensures exact { Answers typed_view result (list_rule (spot_view spot.entry) (items_view items).item_type (items_view items).items) }
 {
@@ -110,14 +146,18 @@ pub fn listed(alloc: Global, items: Items, spot: Spot<'_>) -> Result<Typed, Type
     }
 }
 
-/// A `case` whose arms have one type.
-pub fn selected(alloc: Global, at: usize, subject: Expr, arms: Arms) -> Result<Typed, TypeError>
-    ensures exact { Answers typed_view result (case_rule at (expr_view subject) (arms_view arms).arm_type (arms_view arms).arms) }
+/// A typed `case`: its arms have one type.
+///
+/// # Errors
+///
+/// [`TypeError::Mismatch`] at the form, where no arm has a type; [`TypeError::Memory`].
+pub fn selected(alloc: Global, at: usize, subject: Typed, arms: Arms) -> Result<Typed, TypeError>
+    ensures exact { Answers typed_view result (case_rule at (expr_view subject.expr) (arms_view arms).arm_type (arms_view arms).arms) }
 {
     let Arms { arms, ty } = arms;
     match ty {
         Some(ty) => {
-            let subject = Box::new(alloc, subject)?;
+            let subject = Box::new(alloc, subject.expr)?;
             Ok(Typed {
                 expr: Expr::Case(subject, arms),
                 ty,

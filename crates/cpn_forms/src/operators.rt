@@ -33,6 +33,38 @@ pub struct Sides {
     pub last: Ty,
 }
 
+impl Sides {
+    /// The operands in the order in which they were checked.
+    pub fn of(first: Typed, last: Typed) -> Sides
+        ensures exact { sides_view result ≡ record { left = expr_view first.expr; right = expr_view last.expr; first = ty_view first.ty; last = ty_view last.ty } }
+    {
+        Sides {
+            left: first.expr,
+            right: last.expr,
+            first: first.ty,
+            last: last.ty,
+        }
+    }
+
+    /// The same operands, exchanged.
+    pub fn turned(self) -> Sides
+        ensures exact { sides_view result ≡ rules.turned (sides_view self) }
+    {
+        let Sides {
+            left,
+            right,
+            first,
+            last,
+        } = self;
+        Sides {
+            left: right,
+            right: left,
+            first,
+            last,
+        }
+    }
+}
+
 /// Whether the left operand takes the type of the right one: it alone is `[]`.
 pub fn waits(left: &Ast, right: &Ast) -> bool
     ensures exact { result ≡ (empty_list (ast_view left.now) && not (empty_list (ast_view right.now))) }
@@ -109,6 +141,10 @@ pub fn is_right_first(operator: Infix, wanted: Option<&Ty>, waiting: bool) -> bo
 }
 
 /// What is wanted of the operand that comes first.
+///
+/// # Errors
+///
+/// Memory is wanted.
 pub fn side_wanted(operator: Infix, wanted: Option<&Ty>) -> Result<Option<Ty>, Memory>
     ensures exact { IfOk result (λ side. option_map ty_view side ≡ rules.side_wanted operator (wanted_view wanted.entry)) }
 {
@@ -136,6 +172,10 @@ pub fn side_wanted(operator: Infix, wanted: Option<&Ty>) -> Result<Option<Ty>, M
 }
 
 /// The type of the operand that comes first is one that the operator has.
+///
+/// # Errors
+///
+/// [`TypeError::Mismatch`] at the operand, where it is not ordered or no list and the operator wants that; [`TypeError::Memory`].
 pub fn check_side(operator: Infix, ty: &Ty, at: usize) -> Result<(), TypeError>
     ensures exact { Answers (λ _. ty_view ty.now) result (rules.side_test operator (ty_view ty.now) at) }
 {
@@ -194,6 +234,10 @@ fn check_list(ty: &Ty, at: usize) -> Result<(), TypeError>
 }
 
 /// What is wanted of the other operand, where the first one has a type.
+///
+/// # Errors
+///
+/// Memory is wanted.
 pub fn other_wanted(alloc: Global, operator: Infix, first: &Ty) -> Result<Option<Ty>, Memory>
     ensures exact { IfOk result (λ other. option_map ty_view other ≡ rules.other_wanted operator (ty_view first.now)) }
 {
@@ -239,6 +283,11 @@ fn applied(
 }
 
 /// What two operands make.
+///
+/// # Errors
+///
+/// [`TypeError::Mismatch`] at the form, where the two types do not fit or its place wants another type, and at a backtick or `@+` as
+/// its place says; [`TypeError::Memory`].
 pub fn sides_make(
     alloc: Global,
     operator: Infix,
@@ -349,6 +398,11 @@ fn part_at(parts: &[Ty], number: usize) -> Option<&Ty>
 }
 
 /// What an operand makes.
+///
+/// # Errors
+///
+/// [`TypeError::Mismatch`] at the operand, where it has not the component, or at the form, where its place wants another type;
+/// [`TypeError::Memory`].
 pub fn operand_makes(
     alloc: Global,
     operator: Prefix,

@@ -1,7 +1,8 @@
 //! The patterns of a `case`: each is checked against the type of what it has to match, from the outside inwards, and binds
 //! locals from left to right.
 
-ghost use Rattle.std.specs.Prelude.{◌≡◌, map};
+ghost use Rattle.std.specs.Prelude.{◌≡◌, map, IfOk};
+ghost use Rattle.cpn_definitions.specs.Inscription.{cons_pattern};
 ghost use Rattle.cpn_trees.specs.PatViews.{pat_view};
 ghost use Rattle.cpn_trees.specs.Trees.{pats_from};
 ghost use Rattle.cpn_core.specs.Inscriptions.{pattern_view};
@@ -16,7 +17,7 @@ ghost use Rattle.cpn_forms.specs.BoundViews.{around_view, around_in, bound_view,
 
 use crate::lookups::{Found, find};
 use crate::scopes::{Local, is_local};
-use cpn_core::{Pat, Pats, Text, Value};
+use cpn_core::{Memory, Pat, Pats, Text, Value};
 use cpn_declared::{Decls, Meaning, Ty, TypeError};
 use cpn_trees::PatForm;
 use std::alloc::Global;
@@ -40,6 +41,11 @@ pub(crate) struct Taken<'d> {
 }
 
 /// The typed pattern of a tree among the locals of its place, against the type of what it has to match.
+///
+/// # Errors
+///
+/// The first reason from left to right: [`TypeError::Unknown`] at a constructor that is not there, [`TypeError::Duplicate`] at a local
+/// that the pattern has already, [`TypeError::Mismatch`] where the pattern is not of the type; [`TypeError::Memory`].
 pub fn check_pattern<'t>(
     alloc: Global,
     decls: &Decls,
@@ -218,6 +224,15 @@ fn first_at(patterns: &[cpn_trees::Pat], at: usize) -> usize
     patterns[0].at
 }
 
+/// A list of a head and a tail.
+fn in_front(alloc: Global, head: Pat, tail: Pat) -> Result<Pat, Memory>
+    ensures exact { IfOk result (λ pattern. pattern_view pattern ≡ cons_pattern (pattern_view head) (pattern_view tail)) }
+{
+    let head = Box::new(alloc, head)?;
+    let tail = Box::new(alloc, tail)?;
+    Ok(Pat::Cons(head, tail))
+}
+
 /// A pattern, behind the locals that were bound before it.
 #[cycle(bind)]
 #[tactic(auto, using(crate::proofs::PatternFronts::view_applied))]
@@ -269,9 +284,8 @@ fn bind<'t>(
             Ty::List(item) => {
                 let head = bind(alloc, decls, head, scope, item, bound)?;
                 let tail = bind(alloc, decls, tail, scope, ty, bound)?;
-                let head = Box::new(alloc, head)?;
-                let tail = Box::new(alloc, tail)?;
-                Ok(Pat::Cons(head, tail))
+                let pattern = in_front(alloc, head, tail)?;
+                Ok(pattern)
             }
             Ty::Unit | Ty::Bool | Ty::Int | Ty::Text | Ty::Enum(_) | Ty::Tuple(_) | Ty::Union(_) =>
                 Err(TypeError::Mismatch {

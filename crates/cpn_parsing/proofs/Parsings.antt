@@ -10,8 +10,8 @@ use Rattle.cpn_lex.specs.Refusals.{Breaks}
 use Rattle.cpn_syntax.specs.declared.refusals.SyntaxError.{SyntaxError}
 use Rattle.cpn_syntax.specs.declared.refusals.SyntaxError.TheVariants.{Memory, Unexpected, EndOfText, TooDeep}
 use Rattle.cpn_syntax.specs.Texts.{Text}
-use Rattle.cpn_syntax.specs.Parses.{SpellsOnly, CanBegin, Refuses}
-use Rattle.cpn_parsing.specs.ParsingViews.{parsing_view, IsUnlexed, IsUnspelled}
+use Rattle.cpn_syntax.specs.Parses.{SpellsOnly, CanBegin, Refuses, Parses}
+use Rattle.cpn_parsing.specs.ParsingViews.{parsing_view, IsUnlexed, IsUnspelled, IsSpelled}
 use Rattle.cpn_parsing.specs.declared.parsing.Unparsed.{Unparsed}
 use Rattle.cpn_parsing.specs.Parsing.{lexical, syntactic, Parsing, parsed, unparsed, most_bytes, most_levels, ComesTo, too_long, broken, not_spelled, spelled, IsParsedAs}
 
@@ -156,3 +156,13 @@ module _ {X Y E : Type 0} (view : X → Y) (Holds : Parsing Y → Type 0) (answe
       by : (r : Result (Result X Unparsed) E) → IfOk r (λ p. IsUnspelled e p) → IfOk r (λ p. Holds (parsing_view view p))
       by (Ok p) h' = subst (λ q. Holds (parsing_view view q)) (sym h'.1) (k h'.0)
       by (Err e') h' = tt
+
+module _ {X Y E : Type 0} (view : X → Y) (Spelled : Y → Text → Type 0) (levels : Y → ℕ) (text : List ℕ) (once : IsLexedOnce text) (tokens : List PlainToken) (lexes : Lexes text tokens) (short : most_bytes < length text → ⊥) where
+  -- what a parser answers for the tokens of a text
+  pub if_spelled : (found : Result X SyntaxError) (answer : Result (Result X Unparsed) E) → Parses view Spelled levels tokens found → IfOk answer (λ p. IsSpelled found p) → IfOk answer (λ p. IsParsedAs Spelled levels text (parsing_view view p))
+  if_spelled (Ok a) answer parses h = by answer h
+    where
+      by : (r : Result (Result X Unparsed) E) → IfOk r (λ p. p ≡ Ok a) → IfOk r (λ p. IsParsedAs Spelled levels text (parsing_view view p))
+      by (Ok p) h' = subst (λ q. IsParsedAs Spelled levels text (parsing_view view q)) (sym h') (tree_answer Spelled levels text once tokens (view a) lexes short parses.tree parses.only parses.shallow)
+      by (Err e) h' = tt
+  if_spelled (Err e) answer parses h = if_unspelled view (IsParsedAs Spelled levels text) answer e h (syntactic_refusal Spelled levels text once tokens e lexes short parses.refused)

@@ -22,3 +22,8 @@ IsUnlexed e answer = (e ≢ lexing.Memory) × (answer ≡ Err (Lex e))
 
 abbrev pub IsUnspelled : {X : Type 0} → SyntaxError → Result X Unparsed → Type 0
 IsUnspelled e answer = (e ≢ parsing.Memory) × (answer ≡ Err (Syntax e))
+
+-- the tree that a parser answers, or why it has none
+abbrev pub IsSpelled : {X : Type 0} → Result X SyntaxError → Result X Unparsed → Type 0
+IsSpelled (Ok tree) answer = answer ≡ Ok tree
+IsSpelled (Err e) answer = IsUnspelled e answer

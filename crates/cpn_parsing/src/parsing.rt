@@ -3,7 +3,7 @@
 ghost use Rattle.std.specs.Prelude.{IfOk};
 ghost use Rattle.cpn_trees.specs.ParsedViews.{inscription_view, guard_view, declaration_view};
 ghost use Rattle.cpn_parsing.specs.Parsing.{IsDeclaration, IsInscription, IsGuard, IsDelay};
-ghost use Rattle.cpn_parsing.specs.ParsingViews.{parsing_view, IsUnlexed, IsUnspelled};
+ghost use Rattle.cpn_parsing.specs.ParsingViews.{parsing_view, IsUnlexed, IsSpelled};
 
 use cpn_lex::{LexError, lex};
 use cpn_memory::Memory;
@@ -36,65 +36,72 @@ fn unlexed<T>(error: LexError) -> Result<Parsing<T>, Memory>
     }
 }
 
-fn unspelled<T>(error: SyntaxError) -> Result<Parsing<T>, Memory>
-    ensures { IfOk result (λ parsing. IsUnspelled error parsing) }
+fn spelled<T>(tree: Result<T, SyntaxError>) -> Result<Parsing<T>, Memory>
+    ensures { IfOk result (λ parsing. IsSpelled tree parsing) }
 {
-    match error {
-        SyntaxError::Memory => Err(Memory),
-        SyntaxError::Unexpected(_) | SyntaxError::EndOfText | SyntaxError::TooDeep => {
-            Ok(Err(Unparsed::Syntax(error)))
-        }
+    match tree {
+        Ok(tree) => Ok(Ok(tree)),
+        Err(error) => match error {
+            SyntaxError::Memory => Err(Memory),
+            SyntaxError::Unexpected(_) | SyntaxError::EndOfText | SyntaxError::TooDeep => {
+                Ok(Err(Unparsed::Syntax(error)))
+            }
+        },
     }
 }
 
 /// What the text of a declaration is parsed as.
+///
+/// # Errors
+///
+/// Memory is wanted. A text that is refused is an answer: the place and the reason ([`Parsing`]).
 pub fn declaration_in(alloc: Global, text: &str) -> Result<Parsing<Declaration>, Memory>
     ensures parsed { IfOk result (λ parsing. IsDeclaration text.now (parsing_view declaration_view parsing)) }
 {
     match lex(alloc, text.as_bytes()) {
-        Ok(tokens) => match parse_decl(alloc, &tokens) {
-            Ok(tree) => Ok(Ok(tree)),
-            Err(error) => unspelled(error),
-        },
+        Ok(tokens) => spelled(parse_decl(alloc, &tokens)),
         Err(error) => unlexed(error),
     }
 }
 
 /// What the text of an arc's inscription, or of an initial marking, is parsed as.
+///
+/// # Errors
+///
+/// Memory is wanted. A text that is refused is an answer: the place and the reason ([`Parsing`]).
 pub fn inscription_in(alloc: Global, text: &str) -> Result<Parsing<Inscription>, Memory>
     ensures parsed { IfOk result (λ parsing. IsInscription text.now (parsing_view inscription_view parsing)) }
 {
     match lex(alloc, text.as_bytes()) {
-        Ok(tokens) => match parse_expr(alloc, &tokens) {
-            Ok(tree) => Ok(Ok(tree)),
-            Err(error) => unspelled(error),
-        },
+        Ok(tokens) => spelled(parse_expr(alloc, &tokens)),
         Err(error) => unlexed(error),
     }
 }
 
 /// What the text of a guard is parsed as.
+///
+/// # Errors
+///
+/// Memory is wanted. A text that is refused is an answer: the place and the reason ([`Parsing`]).
 pub fn guard_in(alloc: Global, text: &str) -> Result<Parsing<Guard>, Memory>
     ensures parsed { IfOk result (λ parsing. IsGuard text.now (parsing_view guard_view parsing)) }
 {
     match lex(alloc, text.as_bytes()) {
-        Ok(tokens) => match parse_guard(alloc, &tokens) {
-            Ok(tree) => Ok(Ok(tree)),
-            Err(error) => unspelled(error),
-        },
+        Ok(tokens) => spelled(parse_guard(alloc, &tokens)),
         Err(error) => unlexed(error),
     }
 }
 
 /// What the text of a delay is parsed as.
+///
+/// # Errors
+///
+/// Memory is wanted. A text that is refused is an answer: the place and the reason ([`Parsing`]).
 pub fn delay_in(alloc: Global, text: &str) -> Result<Parsing<Inscription>, Memory>
     ensures parsed { IfOk result (λ parsing. IsDelay text.now (parsing_view inscription_view parsing)) }
 {
     match lex(alloc, text.as_bytes()) {
-        Ok(tokens) => match parse_delay(alloc, &tokens) {
-            Ok(tree) => Ok(Ok(tree)),
-            Err(error) => unspelled(error),
-        },
+        Ok(tokens) => spelled(parse_delay(alloc, &tokens)),
         Err(error) => unlexed(error),
     }
 }

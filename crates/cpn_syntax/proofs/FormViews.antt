@@ -8,6 +8,7 @@ use Rattle.cpn_trees.specs.declared.trees.LocalValue.{LocalValue}
 use Rattle.cpn_trees.specs.declared.trees.Form.{the_lemmas}
 use Rattle.cpn_trees.specs.declared.trees.Form.TheVariants as form
 use Rattle.cpn_trees.specs.Trees.{number, text, truth, empty, time, name, call, unit, tuple, list, let_in, prefixed, infixed, stamped, sum, if_else, case_of, fold, asts_from}
+use Rattle.cpn_trees.specs.PatViews.{pat_view}
 use Rattle.cpn_trees.specs.AstViews.{form_view, ast_view, arm_view, local_view, arms_from, locals_from}
 
 pub view_number : (z : ℤ) → form_view (form.Number z) ≡ number z
@@ -63,3 +64,9 @@ view_case a arms = search (rules, the_lemmas)
 
 pub view_fold : (item total : String Global) (a s b : Box Ast Global) → form_view (form.Fold item total a s b) ≡ fold (string_bytes item) (string_bytes total) (ast_view a.value) (ast_view s.value) (ast_view b.value)
 view_fold item total a s b = search (rules, the_lemmas)
+
+pub view_arm : (arm : Arm) → arm_view arm ≡ (pat_view arm.pattern, ast_view arm.result)
+view_arm arm = search (rules, the_lemmas)
+
+pub view_local : (local : LocalValue) → local_view local ≡ (string_bytes local.name, ast_view local.value)
+view_local local = search (rules, the_lemmas)

@@ -35,7 +35,7 @@ pub enum Step {
 }
 
 /// What may take the part before it as its left operand.
-#[derive(Clone, Copy, Debug, PartialEq, Eq)]
+#[derive(Clone, Copy)]
 enum Joint {
     /// An infix operator.
     Infix(Infix),
@@ -84,7 +84,7 @@ fn joint_of(symbol: Symbol) -> Option<Joint>
 }
 
 /// A sign that takes the part before it as its left operand.
-#[derive(Clone, Copy, Debug, PartialEq, Eq)]
+#[derive(Clone, Copy)]
 struct Joined {
     /// What it joins the part with.
     joint: Joint,
@@ -252,16 +252,16 @@ fn close(alloc: Global, reader: &mut Reader, form: Open, part: Part) -> Result<N
             operator,
             sign,
             left,
-        } => Ok(end_operand(alloc, at, operator, sign, left, part)?),
-        Open::Front { at, operator } => Ok(end_prefix(alloc, at, operator, part)?),
-        Open::Terms { at, parts } => Ok(end_sum(at, parts, part)?),
+        } => end_operand(alloc, at, operator, sign, left, part),
+        Open::Front { at, operator } => end_prefix(alloc, at, operator, part),
+        Open::Terms { at, parts } => end_sum(at, parts, part),
         Open::Condition { at } => take_then(reader, at, part),
         Open::Consequence { at, condition } => take_else(reader, at, condition, part),
         Open::Alternative {
             at,
             condition,
             consequence,
-        } => Ok(end_if(alloc, at, condition, consequence, part)?),
+        } => end_if(alloc, at, condition, consequence, part),
         Open::Subject { at } => take_of(alloc, reader, at, part),
         Open::Arm {
             at,
@@ -290,8 +290,9 @@ fn end_operand(
     sign: usize,
     left: Ast,
     part: Part,
-) -> Result<Next, AllocError>
-    ensures { IfOk result (λ n. (text : Text) → Closed part (behind at operator sign (ast_view left)) text n text) }
+) -> Result<Next, SyntaxError>
+    ensures closed { (text : Text) → IfOk result (λ n. Closed part (behind at operator sign (ast_view left)) text n text) }
+    ensures stops { (text : Text) → IfErr result (λ e. Unclosed part (behind at operator sign (ast_view left)) text e) }
 {
     let left = Box::new(alloc, left)?;
     let right = Box::new(alloc, part.tree)?;
@@ -308,16 +309,18 @@ fn end_operand(
 }
 
 /// A prefix operator with its operand.
-fn end_prefix(alloc: Global, at: usize, operator: Prefix, part: Part) -> Result<Next, AllocError>
-    ensures { IfOk result (λ n. (text : Text) → Closed part (front at operator) text n text) }
+fn end_prefix(alloc: Global, at: usize, operator: Prefix, part: Part) -> Result<Next, SyntaxError>
+    ensures closed { (text : Text) → IfOk result (λ n. Closed part (front at operator) text n text) }
+    ensures stops { (text : Text) → IfErr result (λ e. Unclosed part (front at operator) text e) }
 {
     let operand = Box::new(alloc, part.tree)?;
     Ok(Next::Part(whole(at, 11, Form::Prefix { operator, operand })))
 }
 
 /// A sum with its last term.
-fn end_sum(at: usize, parts: Asts, part: Part) -> Result<Next, AllocError>
-    ensures { IfOk result (λ n. (text : Text) → Closed part (terms at (map ast_view parts.items)) text n text) }
+fn end_sum(at: usize, parts: Asts, part: Part) -> Result<Next, SyntaxError>
+    ensures closed { (text : Text) → IfOk result (λ n. Closed part (terms at (map ast_view parts.items)) text n text) }
+    ensures stops { (text : Text) → IfErr result (λ e. Unclosed part (terms at (map ast_view parts.items)) text e) }
 {
     let parts = with(parts, part.tree)?;
     Ok(Next::Part(whole(at, 2, Form::Sum(parts))))
@@ -330,8 +333,9 @@ fn end_if(
     condition: Ast,
     consequence: Ast,
     part: Part,
-) -> Result<Next, AllocError>
-    ensures { IfOk result (λ n. (text : Text) → Closed part (alternative at (ast_view condition) (ast_view consequence)) text n text) }
+) -> Result<Next, SyntaxError>
+    ensures closed { (text : Text) → IfOk result (λ n. Closed part (alternative at (ast_view condition) (ast_view consequence)) text n text) }
+    ensures stops { (text : Text) → IfErr result (λ e. Unclosed part (alternative at (ast_view condition) (ast_view consequence)) text e) }
 {
     let precedence = loosest(part.precedence);
     let condition = Box::new(alloc, condition)?;
@@ -357,8 +361,9 @@ fn end_fold(
     list: Ast,
     start: Ast,
     part: Part,
-) -> Result<Next, AllocError>
-    ensures { IfOk result (λ n. (text : Text) → Closed part (fold_body at (string_bytes item) (string_bytes sum) (ast_view list) (ast_view start)) text n text) }
+) -> Result<Next, SyntaxError>
+    ensures closed { (text : Text) → IfOk result (λ n. Closed part (fold_body at (string_bytes item) (string_bytes sum) (ast_view list) (ast_view start)) text n text) }
+    ensures stops { (text : Text) → IfErr result (λ e. Unclosed part (fold_body at (string_bytes item) (string_bytes sum) (ast_view list) (ast_view start)) text e) }
 {
     let precedence = loosest(part.precedence);
     let list = Box::new(alloc, list)?;
@@ -433,7 +438,7 @@ fn close_fold(
             sum,
             list,
             start,
-        } => Ok(end_fold(alloc, at, item, sum, list, start, part)?),
+        } => end_fold(alloc, at, item, sum, list, start, part),
     }
 }
 

@@ -40,17 +40,21 @@ fn bytes_of(alloc: Global, row: &str) -> Result<Vec<u8>, AllocError> {
     Ok(bytes)
 }
 
-/// Checks each row of a table: a text, an arrow, and its answer. A row is a line.
+/// Whether a row holds: a text, an arrow, and its answer.
+fn holds(alloc: Global, row: &str) -> Result<bool, AllocError> {
+    match row.split_once(" -> ") {
+        Some((text, wanted)) => {
+            let bytes = bytes_of(alloc, text)?;
+            Ok(answered(alloc, bytes.as_slice())?.as_str() == wanted)
+        }
+        None => Ok(false),
+    }
+}
+
+/// Checks each row of a table. A row is a line.
 fn check_each(rt: &impl Abort, alloc: Global, table: &str) -> Result<(), AllocError> {
     for row in table.lines() {
-        match row.split_once(" -> ") {
-            Some((text, wanted)) => {
-                let bytes = bytes_of(alloc, text)?;
-                let answer = answered(alloc, bytes.as_slice())?;
-                assert_eq!(rt; answer.as_str(), wanted, "{text:?}");
-            }
-            None => assert!(rt; false, "{row:?} is no row"),
-        }
+        assert!(rt; holds(alloc, row)?, "{row}");
     }
     Ok(())
 }
@@ -358,15 +362,23 @@ fn repeated(alloc: Global, byte: u8, count: usize) -> Result<Vec<u8>, AllocError
     Ok(bytes)
 }
 
-/// How many tokens a text has that is one byte so often, or why it has none. The row has the count and the byte.
-fn counted(alloc: Global, row: &str) -> Result<String, AllocError> {
-    let (count, byte) = row.split_once(" of ").unwrap_or(("0", "0"));
+/// How many tokens a text has that is one byte so often, or why it has none. What is asked has the count and the byte.
+fn counted(alloc: Global, asked: &str) -> Result<String, AllocError> {
+    let (count, byte) = asked.split_once(" of ").unwrap_or(("0", "0"));
     let count = count.parse::<usize>().unwrap_or(0);
     let byte = byte.parse::<u8>().unwrap_or(0);
     let text = repeated(alloc, byte, count)?;
     match lex(alloc, text.as_slice()) {
         Ok(tokens) => format!(in alloc; "{} tokens", tokens.len()),
         Err(error) => format!(in alloc; "{error:?}"),
+    }
+}
+
+/// Whether a row holds: a count and a byte, an arrow, and what is counted.
+fn is_counted(alloc: Global, row: &str) -> Result<bool, AllocError> {
+    match row.split_once(" -> ") {
+        Some((asked, wanted)) => Ok(counted(alloc, asked)?.as_str() == wanted),
+        None => Ok(false),
     }
 }
 
@@ -412,15 +424,8 @@ const LENGTHS: &str = r#"4096 of 32 -> 0 tokens
 
 #[test]
 fn lengths(rt: HostRuntime) -> Result<(), Fail> {
-    let alloc = rt.alloc();
     for row in LENGTHS.lines() {
-        match row.split_once(" -> ") {
-            Some((text, wanted)) => {
-                let answer = counted(alloc, text)?;
-                assert_eq!(rt; answer.as_str(), wanted, "{text:?}");
-            }
-            None => assert!(rt; false, "{row:?} is no row"),
-        }
+        assert!(rt; is_counted(rt.alloc(), row)?, "{row}");
     }
     Ok(())
 }

@@ -1,12 +1,14 @@
 -- What a form of the program is, where its parts are lent.
 use Rattle.std.proofs.Common.{◌≡◌, ℕ, List, map, Vec, Box, String, Global, rules, string_bytes}
 use Rattle.cpn_trees.specs.declared.operators.Infix.{Infix}
+use Rattle.cpn_trees.specs.declared.operators.Prefix.{Prefix}
 use Rattle.cpn_trees.specs.declared.trees.Ast.{Ast}
+use Rattle.cpn_trees.specs.declared.trees.Arm.{Arm}
 use Rattle.cpn_trees.specs.declared.trees.LocalValue.{LocalValue}
 use Rattle.cpn_trees.specs.declared.trees.Form.{Form, the_lemmas}
 use Rattle.cpn_trees.specs.declared.trees.Form.TheVariants as form
-use Rattle.cpn_trees.specs.Trees.{call, let_in, infixed, if_else, fold, asts_from}
-use Rattle.cpn_trees.specs.AstViews.{form_view, ast_view, local_view, locals_from}
+use Rattle.cpn_trees.specs.Trees.{call, let_in, prefixed, infixed, if_else, case_of, fold, asts_from}
+use Rattle.cpn_trees.specs.AstViews.{form_view, ast_view, local_view, locals_from, arm_view, arms_from}
 
 view_call : (n : String Global) (parts : Vec Ast Global) → form_view (form.Call n parts) ≡ call (string_bytes n) (asts_from (map ast_view parts.items))
 view_call n parts = search (rules, the_lemmas)
@@ -19,6 +21,12 @@ view_infix o s a b = search (rules, the_lemmas)
 
 view_if : (c a b : Box Ast Global) → form_view (form.If c a b) ≡ if_else (ast_view c.value) (ast_view a.value) (ast_view b.value)
 view_if c a b = search (rules, the_lemmas)
+
+view_prefix : (o : Prefix) (a : Box Ast Global) → form_view (form.Prefix o a) ≡ prefixed o (ast_view a.value)
+view_prefix o a = search (rules, the_lemmas)
+
+view_case : (subject : Box Ast Global) (arms : Vec Arm Global) → form_view (form.Case subject arms) ≡ case_of (ast_view subject.value) (arms_from (map arm_view arms.items))
+view_case subject arms = search (rules, the_lemmas)
 
 view_fold : (item total : String Global) (a s b : Box Ast Global) → form_view (form.Fold item total a s b) ≡ fold (string_bytes item) (string_bytes total) (ast_view a.value) (ast_view s.value) (ast_view b.value)
 view_fold item total a s b = search (rules, the_lemmas)
@@ -35,6 +43,13 @@ infix_is f o s l r a b e p q = rw (e, p, q) (view_infix o s l r)
 
 pub if_is : (f : Form) (t l r : Box Ast Global) (c a b : Ast) → f ≡ form.If t l r → c ≡ t.value → a ≡ l.value → b ≡ r.value → form_view f ≡ if_else (ast_view c) (ast_view a) (ast_view b)
 if_is f t l r c a b e o p q = rw (e, o, p, q) (view_if t l r)
+
+pub prefix_is : (f : Form) (o : Prefix) (x : Box Ast Global) (a : Ast) → f ≡ form.Prefix o x → a ≡ x.value → form_view f ≡ prefixed o (ast_view a)
+prefix_is f o x a e p = rw (e, p) (view_prefix o x)
+
+pub case_is : (f : Form) (subject : Box Ast Global) (arms : Vec Arm Global) (a : Ast) (xs : List Arm) → f ≡ form.Case subject arms → a ≡ subject.value → xs ≡ arms.items
+    → form_view f ≡ case_of (ast_view a) (arms_from (map arm_view xs))
+case_is f subject arms a xs e p q = rw (e, p, q) (view_case subject arms)
 
 pub fold_is : (f : Form) (item total : String Global) (l s b : Box Ast Global) (i t : List ℕ) (over start body : Ast) → f ≡ form.Fold item total l s b
     → i ≡ string_bytes item → t ≡ string_bytes total → over ≡ l.value → start ≡ s.value → body ≡ b.value

@@ -70,11 +70,11 @@ pub fn check_arc(
     ensures terms { IfOk result (λ arc. map term_view arc.terms.items ≡ terms_on (side_view side) (multiset_view arc.expr)) }
     ensures means { IfOk result (λ arc. ArcHasMeaning (decls_view decls.now) (multiset_view arc.expr)) }
 {
+    let colour_of_place = colour.copy()?;
     let expr = check_tokens(alloc, decls, colour, side, &written.tree)?;
     let terms = terms_for(alloc, side, &expr)?;
-    let colour = colour.copy()?;
     Ok(ArcExpr {
-        colour,
+        colour: colour_of_place,
         expr,
         terms,
     })

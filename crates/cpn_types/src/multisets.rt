@@ -5,7 +5,7 @@
 ghost use Rattle.std.specs.Prelude.{◌≡◌, map, IfOk};
 ghost use Rattle.cpn_definitions.specs.Inscription.{inscriptions_from, arc_arms_from};
 ghost use Rattle.cpn_core.specs.Inscriptions.{multiset_view, arc_arm_view};
-ghost use Rattle.cpn_trees.specs.Trees.{asts_from, infixed, case_of, let_in};
+ghost use Rattle.cpn_trees.specs.Trees.{asts_from, infixed, if_else, case_of, let_in};
 ghost use Rattle.cpn_trees.specs.Trees as trees;
 ghost use Rattle.cpn_trees.specs.AstViews.{ast_view, arm_view, local_view, arms_from, locals_from};
 ghost use Rattle.cpn_trees.specs.declared.operators.Infix.TheVariants as signs;
@@ -16,7 +16,7 @@ ghost use Rattle.cpn_forms.specs.ScopeViews.{scope_view};
 ghost use Rattle.cpn_declared.specs.TypeViews.{ty_view};
 ghost use Rattle.cpn_types.specs.Sites.{site_view, arm_at};
 
-use crate::site_parts::{bound_by, chosen_by, is_later, is_times};
+use crate::site_parts::{bound_by, is_later, is_times};
 use crate::sites::{Site, at_time, delayed};
 use cpn_core::{MArm, MExpr, MExprs};
 use cpn_declared::{Ty, TypeError};
@@ -59,12 +59,7 @@ impl Site<'_> {
                 condition,
                 consequence,
                 alternative,
-            } => {
-                let test = self.value(condition, scope, Some(&Ty::Bool))?;
-                let first = self.tokens(consequence, scope)?;
-                let second = self.tokens(alternative, scope)?;
-                chosen_by(self.alloc, test.expr, first, second)
-            }
+            } => self.branches(condition, consequence, alternative, scope),
             Form::Case { subject, arms } => self.case(arms, subject, scope),
             Form::Let { values, body } => self.with_values(body, values, scope),
             Form::Number(_) => self.one(tree, scope),
@@ -93,6 +88,17 @@ impl Site<'_> {
         }
     }
 
+    /// The same, in a box.
+    #[cycle(multiset)]
+    fn boxed<'t>(&self, tree: &'t Ast, scope: &mut Vec<Local<'t>>) -> Result<Box<MExpr>, TypeError>
+        ensures exact { Answers (λ tokens. multiset_view tokens.value) result (marked (site_view self.now) (ast_view tree.now) (scope_view scope.old.items)) }
+        ensures locals { IfOk result (λ _. scope.new.items ≡ scope.old.items) }
+    {
+        let tokens = self.tokens(tree, scope)?;
+        let tokens = Box::new(self.alloc, tokens)?;
+        Ok(tokens)
+    }
+
     /// Tokens with a delay.
     #[cycle(multiset)]
     fn later<'t>(
@@ -105,9 +111,27 @@ impl Site<'_> {
         ensures exact { Answers multiset_view result (marked_form (site_view self.now) (infixed signs.Later sign (ast_view tokens.now) (ast_view delay.now)) 0 (scope_view scope.old.items)) }
         ensures locals { IfOk result (λ _. scope.new.items ≡ scope.old.items) }
     {
-        let tokens = self.tokens(tokens, scope)?;
+        let tokens = self.boxed(tokens, scope)?;
         let delay = self.value(delay, scope, Some(&Ty::Int))?;
-        delayed(self.alloc, self.side, self.timed, sign, tokens, delay.expr)
+        delayed(self.side, self.timed, sign, tokens, delay)
+    }
+
+    /// `if`: a truth value, and the tokens where it is true and where it is false.
+    #[cycle(multiset)]
+    fn branches<'t>(
+        &self,
+        condition: &'t Ast,
+        consequence: &'t Ast,
+        alternative: &'t Ast,
+        scope: &mut Vec<Local<'t>>,
+    ) -> Result<MExpr, TypeError>
+        ensures exact { Answers multiset_view result (marked_form (site_view self.now) (if_else (ast_view condition.now) (ast_view consequence.now) (ast_view alternative.now)) 0 (scope_view scope.old.items)) }
+        ensures locals { IfOk result (λ _. scope.new.items ≡ scope.old.items) }
+    {
+        let test = self.value(condition, scope, Some(&Ty::Bool))?;
+        let first = self.boxed(consequence, scope)?;
+        let second = self.boxed(alternative, scope)?;
+        Ok(MExpr::If(test.expr, first, second))
     }
 
     /// Tokens with a time stamp.
@@ -122,8 +146,8 @@ impl Site<'_> {
         ensures exact { Answers multiset_view result (marked_form (site_view self.now) (trees.stamped (ast_view tokens.now) sign stamp) 0 (scope_view scope.old.items)) }
         ensures locals { IfOk result (λ _. scope.new.items ≡ scope.old.items) }
     {
-        let tokens = self.tokens(tokens, scope)?;
-        at_time(self.alloc, self.side, self.timed, sign, tokens, stamp)
+        let tokens = self.boxed(tokens, scope)?;
+        at_time(self.side, self.timed, sign, tokens, stamp)
     }
 
     /// The parts of a sum, from left to right.

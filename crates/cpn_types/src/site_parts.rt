@@ -2,9 +2,7 @@
 
 ghost use Rattle.std.specs.Prelude.{◌≡◌, map, take, length, IfOk};
 ghost use Rattle.std.specs.Option.{option_map};
-ghost use Rattle.cpn_definitions.specs.Inscription.{chosen};
 ghost use Rattle.cpn_core.specs.Inscriptions.{expr_view, multiset_view};
-ghost use Rattle.cpn_typing.specs.Names.{ok};
 ghost use Rattle.cpn_trees.specs.AstViews.{ast_view, local_view, locals_from};
 ghost use Rattle.cpn_typing.specs.Multisets.{marked_let};
 ghost use Rattle.cpn_declared.specs.Answers.{Answers};
@@ -16,7 +14,7 @@ ghost use Rattle.cpn_types.specs.Sites.{site_view, value_at, one_token, many_tok
 
 use crate::expressions::check_expr;
 use crate::sites::{Site, inside};
-use cpn_core::{Expr, Exprs, MExpr, Memory};
+use cpn_core::{Exprs, MExpr, Memory};
 use cpn_declared::{Ty, TypeError};
 use cpn_forms::{Local, Typed};
 use cpn_trees::{Ast, Infix, LocalValue};
@@ -50,20 +48,6 @@ pub(crate) fn bound_by(alloc: Global, mut values: Exprs, mut tokens: MExpr) -> R
         tokens = MExpr::Let(value, Box::new(alloc, tokens)?);
     }
     Ok(tokens)
-}
-
-/// Tokens where a condition is true, and where it is false.
-pub(crate) fn chosen_by(
-    alloc: Global,
-    condition: Expr,
-    first: MExpr,
-    second: MExpr,
-) -> Result<MExpr, TypeError>
-    ensures exact { Answers multiset_view result (ok (chosen (expr_view condition) (multiset_view first) (multiset_view second))) }
-{
-    let first = Box::new(alloc, first)?;
-    let second = Box::new(alloc, second)?;
-    Ok(MExpr::If(condition, first, second))
 }
 
 impl Site<'_> {

@@ -8,9 +8,9 @@ ghost use Rattle.cpn_typing.specs.Multisets as multisets;
 ghost use Rattle.cpn_declared.specs.Answers.{Answers};
 ghost use Rattle.cpn_forms.specs.PlaceViews.{side_view, place_view};
 
-use cpn_core::{Expr, MExpr};
+use cpn_core::MExpr;
 use cpn_declared::{Decls, Ty, TypeError};
-use cpn_forms::{Place, Side};
+use cpn_forms::{Place, Side, Typed};
 use std::alloc::Global;
 
 /// What is around an inscription of tokens.
@@ -41,14 +41,13 @@ pub(crate) fn inside(side: Side) -> Place
 
 /// Tokens with a delay, where it may stand.
 pub(crate) fn delayed(
-    alloc: Global,
     side: Side,
     timed: bool,
     sign: usize,
-    tokens: MExpr,
-    delay: Expr,
+    tokens: Box<MExpr>,
+    delay: Typed,
 ) -> Result<MExpr, TypeError>
-    ensures exact { Answers multiset_view result (delay_rule (side_view side) timed sign (later (multiset_view tokens) (expr_view delay))) }
+    ensures exact { Answers multiset_view result (delay_rule (side_view side) timed sign (later (multiset_view tokens.value) (expr_view delay.expr))) }
 {
     match side {
         Side::Input => Err(TypeError::InputDelay(sign)),
@@ -56,7 +55,7 @@ pub(crate) fn delayed(
             if !timed {
                 return Err(TypeError::TimeNotAllowed(sign));
             }
-            Ok(MExpr::Later(Box::new(alloc, tokens)?, delay))
+            Ok(MExpr::Later(tokens, delay.expr))
         }
         Side::Initial => Err(TypeError::TimeNotAllowed(sign)),
     }
@@ -64,14 +63,13 @@ pub(crate) fn delayed(
 
 /// Tokens with a time stamp, where it may stand.
 pub(crate) fn at_time(
-    alloc: Global,
     side: Side,
     timed: bool,
     sign: usize,
-    tokens: MExpr,
+    tokens: Box<MExpr>,
     stamp: i64,
 ) -> Result<MExpr, TypeError>
-    ensures exact { Answers multiset_view result (stamp_rule (side_view side) timed sign (stamped (multiset_view tokens) stamp)) }
+    ensures exact { Answers multiset_view result (stamp_rule (side_view side) timed sign (stamped (multiset_view tokens.value) stamp)) }
 {
     match side {
         Side::Input => Err(TypeError::TimeNotAllowed(sign)),
@@ -79,7 +77,7 @@ pub(crate) fn at_time(
             if !timed {
                 return Err(TypeError::TimeNotAllowed(sign));
             }
-            Ok(MExpr::At(Box::new(alloc, tokens)?, stamp))
+            Ok(MExpr::At(tokens, stamp))
         }
         Side::Output => Err(TypeError::TimeNotAllowed(sign)),
     }

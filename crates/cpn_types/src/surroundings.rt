@@ -4,20 +4,20 @@
 //! The calls go down the tree, which is at most 64 deep. What is not recursive stands elsewhere, so that each of them takes
 //! little of the machine's stack.
 
-ghost use Rattle.std.specs.Prelude.{◌≡◌, ◌≤◌, ◌++◌, map, drop, take, length, string_bytes, option_map};
+ghost use Rattle.std.specs.Prelude.{◌≡◌, ◌≤◌, ◌++◌, Some, map, drop, take, length, string_bytes, option_map};
 ghost use Rattle.cpn_trees.specs.AstViews.{ast_view, form_view, arm_view, local_view, arms_from, locals_from};
-ghost use Rattle.cpn_trees.specs.Trees.{asts_from};
+ghost use Rattle.cpn_trees.specs.Trees.{asts_from, case_of};
 ghost use Rattle.cpn_typing.specs.Names.{found};
 ghost use Rattle.cpn_typing.specs.Expressions.{typed_parts, typed_items, typed_arms, typed_form, typed_let};
-ghost use Rattle.cpn_typing.specs.Rules.{part, if_rule, sides, any_type, fold_rule, call_rule, called_as, argument_rule, first_wanted};
+ghost use Rattle.cpn_typing.specs.Rules.{part, item_of as item_type, prefix_rule, if_rule, sides, any_type, fold_rule, call_rule, called_as, argument_rule, first_wanted};
 ghost use Rattle.cpn_declared.specs.Answers.{Answers};
 ghost use Rattle.cpn_declared.specs.DeclsViews.{decls_view};
 ghost use Rattle.cpn_forms.specs.ScopeViews.{scope_view};
 ghost use Rattle.cpn_forms.specs.PlaceViews.{place_view};
 ghost use Rattle.cpn_declared.specs.TypeViews.{ty_view, tys_view};
 ghost use Rattle.cpn_forms.specs.TypedViews.{typed_view};
-ghost use Rattle.cpn_forms.specs.FormViews.{arms_view, branches_view, items_view, parts_view, spot_view, wanted_view};
-ghost use Rattle.cpn_forms.specs.Operators.{from_sides};
+ghost use Rattle.cpn_forms.specs.FormViews.{arms_view, branches_view, items_view, parts_view, sides_view, spot_view, wanted_view};
+ghost use Rattle.cpn_forms.specs.Operators.{from_sides, in_turn};
 ghost use Rattle.cpn_forms.specs.Calls.{from_arguments};
 ghost use Rattle.cpn_core.specs.Inscriptions.{expr_view};
 ghost use Rattle.cpn_types.specs.Around.{typed_in, arguments_in, body_in, typed_then};
@@ -32,7 +32,7 @@ use cpn_forms::{
     others_wanted_by, parts_wanted, selected, side_wanted, sides_make, text_literal, tuple_made,
     tupled, two_locals, waits,
 };
-use cpn_trees::{Ast, Asts, Form, Infix, LocalValue};
+use cpn_trees::{Ast, Asts, Form, Infix, LocalValue, Prefix};
 use std::alloc::Global;
 
 /// What is around an inscription: what is declared, and its place.
@@ -58,6 +58,14 @@ fn wanted_at(wanted: &[Ty], place: usize) -> Option<&Ty>
     }
 }
 
+/// The type of a list's items, a copy of its own.
+fn copied_item(ty: &Ty, at: usize) -> Result<Ty, TypeError>
+    ensures exact { Answers ty_view result (item_type (ty_view ty.now) at) }
+{
+    let item = item_of(ty, at)?;
+    Ok(item.copy()?)
+}
+
 impl Surroundings<'_> {
     /// The typed inscription of a tree among the locals of its place.
     #[cycle(check)]
@@ -74,7 +82,6 @@ impl Surroundings<'_> {
     }
 
     /// One form.
-    #[tactic(auto, using(crate::proofs::FormRules::infix_apart, crate::proofs::FormRules::prefix_apart))]
     #[cycle(check)]
     fn form<'t>(
         &self,
@@ -116,11 +123,7 @@ impl Surroundings<'_> {
                 listed(self.alloc, items, spot)
             }
             Form::Let { values, body } => self.with_values(values, body, scope, wanted),
-            Form::Prefix { operator, operand } => {
-                let wanted = operand_wanted(*operator);
-                let typed = self.typed(operand, scope, lent(&wanted))?;
-                operand_makes(self.alloc, *operator, spot, operand.at, typed)
-            }
+            Form::Prefix { operator, operand } => self.prefix(*operator, operand, scope, spot),
             Form::Infix {
                 operator,
                 sign,
@@ -148,11 +151,7 @@ impl Surroundings<'_> {
                 consequence,
                 alternative,
             } => self.branches(condition, consequence, alternative, scope, wanted),
-            Form::Case { subject, arms } => {
-                let subject = self.typed(subject, scope, None)?;
-                let arms = self.arms(arms, scope, &subject.ty, wanted)?;
-                selected(self.alloc, at, subject.expr, arms)
-            }
+            Form::Case { subject, arms } => self.case(subject, arms, scope, spot),
             Form::Fold {
                 item,
                 sum,
@@ -206,6 +205,24 @@ impl Surroundings<'_> {
         Ok(Items { exprs, ty })
     }
 
+    /// An operator in front of its operand.
+    #[tactic(auto, using(crate::proofs::FormRules::prefix_apart))]
+    #[cycle(check)]
+    fn prefix<'t>(
+        &self,
+        operator: Prefix,
+        operand: &'t Ast,
+        scope: &mut Vec<Local<'t>>,
+        spot: Spot<'_>,
+    ) -> Result<Typed, TypeError>
+        ensures exact { Answers typed_view result (prefix_rule operator (spot_view spot.entry) (part (ast_view operand.now) (typed_in self.now operand.now scope.old.items))) }
+        ensures locals { scope.new.items ≡ scope.old.items }
+    {
+        let wanted = operand_wanted(operator);
+        let typed = self.typed(operand, scope, lent(&wanted))?;
+        operand_makes(self.alloc, operator, spot, operand.at, typed)
+    }
+
     /// An operator between its operands.
     #[cycle(check)]
     fn infix<'t>(
@@ -222,39 +239,32 @@ impl Surroundings<'_> {
     {
         let wanted = side_wanted(operator, spot.wanted)?;
         if is_right_first(operator, spot.wanted, waits(left, right)) {
-            let second = self.typed(right, scope, lent(&wanted))?;
-            check_side(operator, &second.ty, right.at)?;
-            let other = other_wanted(self.alloc, operator, &second.ty)?;
-            let first = self.typed(left, scope, lent(&other))?;
-            return sides_make(
-                self.alloc,
-                operator,
-                spot,
-                sign,
-                Sides {
-                    left: first.expr,
-                    right: second.expr,
-                    first: second.ty,
-                    last: first.ty,
-                },
-            );
+            let sides = self.operands(operator, right, left, scope, lent(&wanted))?;
+            return sides_make(self.alloc, operator, spot, sign, sides.turned());
         }
-        let first = self.typed(left, scope, lent(&wanted))?;
-        check_side(operator, &first.ty, left.at)?;
+        let sides = self.operands(operator, left, right, scope, lent(&wanted))?;
+        sides_make(self.alloc, operator, spot, sign, sides)
+    }
+
+    /// Two operands in the order in which they are checked: the one that comes first has a type that the operator takes, and the
+    /// other one has the type that is wanted beside it.
+    #[cycle(check)]
+    fn operands<'t>(
+        &self,
+        operator: Infix,
+        former: &'t Ast,
+        latter: &'t Ast,
+        scope: &mut Vec<Local<'t>>,
+        wanted: Option<&Ty>,
+    ) -> Result<Sides, TypeError>
+        ensures exact { Answers sides_view result (in_turn operator (wanted_view wanted.entry) (part (ast_view former.now) (typed_in self.now former.now scope.old.items)) (part (ast_view latter.now) (typed_in self.now latter.now scope.old.items))) }
+        ensures locals { scope.new.items ≡ scope.old.items }
+    {
+        let first = self.typed(former, scope, wanted)?;
+        check_side(operator, &first.ty, former.at)?;
         let other = other_wanted(self.alloc, operator, &first.ty)?;
-        let second = self.typed(right, scope, lent(&other))?;
-        sides_make(
-            self.alloc,
-            operator,
-            spot,
-            sign,
-            Sides {
-                left: first.expr,
-                right: second.expr,
-                first: first.ty,
-                last: second.ty,
-            },
-        )
+        let last = self.typed(latter, scope, lent(&other))?;
+        Ok(Sides::of(first, last))
     }
 
     /// `if`: a truth value, and two parts of one type.
@@ -272,7 +282,7 @@ impl Surroundings<'_> {
     {
         let test = self.typed(condition, scope, Some(&Ty::Bool))?;
         let sides = self.sides(left, right, scope, wanted)?;
-        chosen(self.alloc, test.expr, sides)
+        chosen(self.alloc, test, sides)
     }
 
     /// Two parts of one type: the left one first, and the right one at its type; or the other way round where no type is wanted
@@ -291,19 +301,28 @@ impl Surroundings<'_> {
         if wanted.is_none() && waits(left, right) {
             let second = self.typed(right, scope, None)?;
             let first = self.typed(left, scope, Some(&second.ty))?;
-            return Ok(Branches {
-                left: first.expr,
-                right: second.expr,
-                ty: first.ty,
-            });
+            return Ok(Branches::of(second, first).turned());
         }
         let first = self.typed(left, scope, wanted)?;
         let second = self.typed(right, scope, Some(&first.ty))?;
-        Ok(Branches {
-            left: first.expr,
-            right: second.expr,
-            ty: second.ty,
-        })
+        Ok(Branches::of(first, second))
+    }
+
+    /// `case`: a subject, and arms of one type.
+    #[cycle(check)]
+    fn case<'t>(
+        &self,
+        subject: &'t Ast,
+        arms: &'t [cpn_trees::Arm],
+        scope: &mut Vec<Local<'t>>,
+        spot: Spot<'_>,
+    ) -> Result<Typed, TypeError>
+        ensures exact { Answers typed_view result (typed_form (decls_view self.now.decls.now) (place_view self.now.place) (case_of (ast_view subject.now) (arms_from (map arm_view arms.now))) spot.entry.at (scope_view scope.old.items) (wanted_view spot.entry.wanted)) }
+        ensures locals { scope.new.items ≡ scope.old.items }
+    {
+        let subject = self.typed(subject, scope, None)?;
+        let arms = self.arms(arms, scope, &subject.ty, spot.wanted)?;
+        selected(self.alloc, spot.at, subject, arms)
     }
 
     /// The arms of a `case` over a subject of a type: the type of the first result is wanted of those behind it.
@@ -415,11 +434,28 @@ impl Surroundings<'_> {
         ensures locals { scope.new.items ≡ scope.old.items }
     {
         let list_typed = self.typed(list, scope, None)?;
-        let item_type = item_of(&list_typed.ty, list.at)?.copy()?;
+        let item_type = copied_item(&list_typed.ty, list.at)?;
         let start = self.typed(start, scope, wanted)?;
-        let locals = two_locals(self.alloc, item, item_type, total, &start.ty)?;
-        let body = self.inside(body, locals, scope, Some(&start.ty))?;
-        folded(self.alloc, list_typed.expr, start, body.expr)
+        let body = self.fold_body(body, item, item_type, total, &start.ty, scope)?;
+        folded(self.alloc, list_typed, start, body)
+    }
+
+    /// The body of a `foldl`, among an item and what has been made so far.
+    #[cycle(check)]
+    fn fold_body<'t>(
+        &self,
+        body: &'t Ast,
+        item: &'t str,
+        item_type: Ty,
+        total: &'t str,
+        total_type: &Ty,
+        scope: &mut Vec<Local<'t>>,
+    ) -> Result<Typed, TypeError>
+        ensures exact { Answers typed_view result (body_in self.now item.now total.now body.now scope.old.items (ty_view item_type) (ty_view total_type.now) (Some (ty_view total_type.now))) }
+        ensures locals { scope.new.items ≡ scope.old.items }
+    {
+        let locals = two_locals(self.alloc, item, item_type, total, total_type)?;
+        self.inside(body, locals, scope, Some(total_type))
     }
 
     /// A call. What the name means comes before the arguments.

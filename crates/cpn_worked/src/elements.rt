@@ -1,20 +1,22 @@
 //! Guards, needs and outputs of an element: that the calls succeed where memory is left, and that the definitions mean what the table
 //! here says, which was filled in by hand.
-ghost use Rattle.std.specs.Prelude.{◌≡◌, IfOk};
+ghost use Rattle.std.specs.Prelude.{◌≡◌, map, IfOk};
+ghost use Rattle.cpn_definitions.specs.Inscription.{variable};
 ghost use Rattle.cpn_definitions.specs.Net.{transition_at};
 ghost use Rattle.cpn_core.specs.Colours.{colour_view};
 ghost use Rattle.cpn_core.specs.Inscriptions.{expr_view};
 ghost use Rattle.cpn_core.specs.Nets.{arc_view, net_view, transition_view};
-ghost use Rattle.cpn_worked.specs.FiveVariables.{IsFive, IsWorked, digits, plain_arc, later_arc};
+ghost use Rattle.cpn_worked.specs.FiveVariables.{IsFive, IsWorked, digits, plain_arc, later_arc, worked_inputs, worked_outputs};
 
+use crate::nets::empty_net;
+use crate::rows::{number_of, push_count, push_number};
 use cpn_core::{
-    ArcExpr, Binding, Colour, Element, Expr, Funs, Guard, MExpr, Memory, Needs, Net, Outputs,
-    Place, PlaceArc, Shape, Transition, Value,
+    ArcExpr, Binding, Colour, Element, Expr, Guard, MExpr, Memory, Needs, Net, Outputs, Place,
+    PlaceArc, Shape, Transition, Value,
 };
 use cpn_elements::{guard_holds, needs_of, outputs_of};
 use cpn_eval::Refused;
 use std::alloc::Global;
-use std::sync::Arc;
 use std::test::Fail;
 
 // The integers from 0 to 9.
@@ -39,38 +41,48 @@ fn arc(alloc: Global, place: u32, timed: bool, expr: Expr) -> PlaceArc
     PlaceArc { place, inscription }
 }
 
-// An arc of one token that is later by the time, and by another delay.
-fn later_arc(alloc: Global, place: u32, expr: Expr, delay: Expr) -> Result<PlaceArc, Memory>
-    ensures arc { IfOk result (λ arc. arc_view arc ≡ later_arc place (expr_view expr) (expr_view delay)) }
+// An arc of one token, a variable, that is later by the time, and by another variable.
+fn later_arc(alloc: Global, place: u32, number: u32, delay: u32) -> Result<PlaceArc, Memory>
+    ensures arc { IfOk result (λ arc. arc_view arc ≡ later_arc place (variable number) (variable delay)) }
 {
-    let token = Box::new(alloc, MExpr::One(expr))?;
+    let token = Box::new(alloc, MExpr::One(Expr::Var(number)))?;
     let later = Box::new(alloc, MExpr::Later(token, Expr::Time))?;
     let inscription = ArcExpr {
         colour: digits(true),
-        expr: MExpr::Later(later, delay),
+        expr: MExpr::Later(later, Expr::Var(delay)),
         terms: Vec::new(alloc),
     };
     Ok(PlaceArc { place, inscription })
 }
 
-fn transition(alloc: Global) -> Result<Transition, Memory>
-    ensures worked { IfOk result (λ transition. IsWorked (transition_view transition)) }
+fn inputs(alloc: Global) -> Result<Vec<PlaceArc>, Memory>
+    ensures arcs { IfOk result (λ arcs. map arc_view arcs.items ≡ worked_inputs) }
 {
-    let inputs = [
+    let arcs = [
         arc(alloc, 1, true, Expr::Var(0)),
         arc(alloc, 0, false, Expr::Var(1)),
         arc(alloc, 0, false, Expr::Var(0)),
     ];
-    let three = Expr::Lit(Value::Int(3));
-    let outputs = [
-        arc(alloc, 1, true, Expr::Var(2)),
-        arc(alloc, 0, false, three),
-        later_arc(alloc, 1, Expr::Var(0), Expr::Var(3))?,
-    ];
-    let conjuncts = Vec::from_array(alloc, [Expr::Var(4)])?;
-    let inputs = Vec::from_array(alloc, inputs)?;
-    let outputs = Vec::from_array(alloc, outputs)?;
+    Ok(Vec::from_array(alloc, arcs)?)
+}
+
+fn outputs(alloc: Global) -> Result<Vec<PlaceArc>, Memory>
+    ensures arcs { IfOk result (λ arcs. map arc_view arcs.items ≡ worked_outputs) }
+{
+    let mut arcs = Vec::new(alloc);
+    arcs.push(arc(alloc, 1, true, Expr::Var(2)))?;
+    arcs.push(arc(alloc, 0, false, Expr::Lit(Value::Int(3))))?;
+    arcs.push(later_arc(alloc, 1, 0, 3)?)?;
+    Ok(arcs)
+}
+
+fn transition(alloc: Global) -> Result<Transition, Memory>
+    ensures worked { IfOk result (λ transition. IsWorked (transition_view transition)) }
+{
     let vars = Vec::from_array(alloc, [0, 1, 2, 3, 4])?;
+    let conjuncts = Vec::from_array(alloc, [Expr::Var(4)])?;
+    let inputs = inputs(alloc)?;
+    let outputs = outputs(alloc)?;
     Ok(Transition {
         name: String::new(alloc),
         guard: Guard { conjuncts },
@@ -92,18 +104,11 @@ fn place(alloc: Global, timed: bool) -> Place {
 fn net(alloc: Global) -> Result<Net, Memory>
     ensures worked { IfOk result (λ net. IsWorked (transition_at (net_view net) 0)) }
 {
-    let transitions = Vec::from_array(alloc, [transition(alloc)?])?;
-    let places = Vec::from_array(alloc, [place(alloc, false), place(alloc, true)])?;
-    let functions = Vec::new(alloc);
-    let funs = Arc::new(alloc, Funs { functions })?;
-    Ok(Net {
-        places,
-        transitions,
-        variables: Vec::new(alloc),
-        constants: Vec::new(alloc),
-        constructors: Vec::new(alloc),
-        funs,
-    })
+    let mut net = empty_net(alloc)?;
+    net.transitions.push(transition(alloc)?)?;
+    net.places.push(place(alloc, false))?;
+    net.places.push(place(alloc, true))?;
+    Ok(net)
 }
 
 // The binding of the five variables to four integers and a truth value.
@@ -120,79 +125,98 @@ fn binding(alloc: Global, values: [i64; 4], truth: bool) -> Result<Binding, Memo
     Ok(binding)
 }
 
-// The number that a value is, or -1.
-fn number(value: &Value) -> i64 {
-    match value {
-        Value::Int(number) => *number,
-        _ => -1,
-    }
+// Writes a token: its place, its number, and a count behind a sign.
+fn push_token(
+    text: &mut String,
+    place: u32,
+    value: &Value,
+    sign: &str,
+    count: u64,
+) -> Result<(), Memory> {
+    push_count(text, " ", place as u64)?;
+    text.push_str(":")?;
+    push_number(text, number_of(value))?;
+    push_count(text, sign, count)
 }
 
-fn push_need(text: &mut String, place: u32, number: i64, offset: u64) -> Result<(), Fail> {
-    write!(text, " {place}:{number}+{offset}")?;
-    Ok(())
-}
-
-fn push_made(text: &mut String, place: u32, number: i64, stamp: u64) -> Result<(), Fail> {
-    write!(text, " {place}:{number}@{stamp}")?;
-    Ok(())
-}
-
-fn push_refusal(text: &mut String, refusal: Refused) -> Result<(), Fail> {
+fn push_refusal(text: &mut String, refusal: Refused) -> Result<(), Memory> {
     write!(text, " {refusal}")?;
     Ok(())
 }
 
 // Needs as place:value+offset, or the fault.
-fn push_needs(text: &mut String, answer: Result<Needs, Refused>) -> Result<(), Fail> {
+fn push_needs(text: &mut String, answer: Result<Needs, Refused>) -> Result<(), Memory> {
     match answer {
         Ok(needs) => {
             for need in needs.tokens() {
-                push_need(text, need.place, number(&need.value), need.offset)?;
+                push_token(text, need.place, &need.value, "+", need.offset)?;
             }
+            Ok(())
         }
-        Err(refusal) => push_refusal(text, refusal)?,
+        Err(refusal) => push_refusal(text, refusal),
     }
-    Ok(())
 }
 
 // Outputs as place:value@stamp, or the fault.
-fn push_outputs(text: &mut String, answer: Result<Outputs, Refused>) -> Result<(), Fail> {
+fn push_outputs(text: &mut String, answer: Result<Outputs, Refused>) -> Result<(), Memory> {
     match answer {
         Ok(outputs) => {
             for made in outputs.tokens() {
-                push_made(text, made.place, number(&made.value), made.stamp)?;
+                push_token(text, made.place, &made.value, "@", made.stamp)?;
             }
+            Ok(())
         }
-        Err(refusal) => push_refusal(text, refusal)?,
+        Err(refusal) => push_refusal(text, refusal),
+    }
+}
+
+// Whether the guard is true.
+#[tactic(auto, using(crate::proofs::FiveMeanings::guard_means))]
+fn push_guard(text: &mut String, alloc: Global, net: &Net, binding: &Binding) -> Result<(), Memory>
+    requires worked { IsWorked (transition_at (net_view net.now) 0) }
+    requires five { IsFive binding.now }
+{
+    if let Some(transition) = net.transitions.first() {
+        let holds = guard_holds(alloc, net, transition, binding)?;
+        text.push_str(if holds { "true" } else { "false" })?;
     }
     Ok(())
 }
 
 // Whether the guard is true, what is needed, and what is made at the time 10.
-#[tactic(auto, using(crate::proofs::FiveMeanings::guard_means, crate::proofs::FiveMeanings::needs_mean, crate::proofs::FiveMeanings::outputs_mean))]
-fn told(alloc: Global, net: &Net, values: [i64; 4], truth: bool) -> Result<String, Fail>
+#[tactic(auto, using(crate::proofs::FiveMeanings::needs_mean, crate::proofs::FiveMeanings::outputs_mean))]
+fn told(alloc: Global, net: &Net, element: &Element) -> Result<String, Memory>
+    requires worked { IsWorked (transition_at (net_view net.now) 0) }
+    requires first { element.now.transition ≡ 0 }
+    requires five { IsFive element.now.binding }
+{
+    let mut text = String::new(alloc);
+    push_guard(&mut text, alloc, net, &element.binding)?;
+    push_needs(&mut text, needs_of(alloc, net, 0, &element.binding))?;
+    push_outputs(&mut text, outputs_of(alloc, net, element, 10))?;
+    Ok(text)
+}
+
+// Whether this is told of the binding of these values.
+fn is_told(
+    alloc: Global,
+    net: &Net,
+    values: [i64; 4],
+    truth: bool,
+    wanted: &str,
+) -> Result<bool, Memory>
     requires worked { IsWorked (transition_at (net_view net.now) 0) }
 {
-    let binding = binding(alloc, values, truth)?;
-    let mut text = String::new(alloc);
-    if let Some(transition) = net.transitions.first() {
-        let holds = guard_holds(alloc, net, transition, &binding)?;
-        write!(text, "{holds}")?;
-    }
-    push_needs(&mut text, needs_of(alloc, net, 0, &binding))?;
     let element = Element {
         transition: 0,
-        binding,
+        binding: binding(alloc, values, truth)?,
     };
-    push_outputs(&mut text, outputs_of(alloc, net, &element, 10))?;
-    Ok(text)
+    Ok(told(alloc, net, &element)?.as_str() == wanted)
 }
 
 #[test]
 fn needs_and_outputs_are_those_of_the_table(rt: HostRuntime) -> Result<(), Fail> {
-    let alloc = rt.alloc();
-    let net = net(alloc)?;
+    let net = net(rt.alloc())?;
     let table = [
         (
             [1, 2, 4, 5],
@@ -236,8 +260,7 @@ fn needs_and_outputs_are_those_of_the_table(rt: HostRuntime) -> Result<(), Fail>
         ),
     ];
     for (values, truth, text) in table {
-        let told = told(alloc, &net, values, truth)?;
-        assert_eq!(rt; told.as_str(), text);
+        assert!(rt; is_told(rt.alloc(), &net, values, truth, text)?, "{text}");
     }
     Ok(())
 }

@@ -7,7 +7,11 @@ mod data;
 #[cfg(test)]
 mod elements;
 #[cfg(test)]
+mod nets;
+#[cfg(test)]
 mod reports;
+#[cfg(test)]
+mod rows;
 #[cfg(test)]
 mod runs;
 #[cfg(test)]

@@ -1,10 +1,11 @@
 //! Runs of one seat: that the calls succeed where memory is left, and that the definitions mean what the table here says, which was
 //! filled in by hand.
-ghost use Rattle.std.specs.Prelude.{◌≡◌, ◌≤◌, map, IfOk};
+ghost use Rattle.std.specs.Prelude.{◌≡◌, ◌+◌, ◌<◌, ◌≤◌, [], ◌∷◌, map, IfOk};
 ghost use Rattle.cpn_core.specs.Colours.{colour_view};
 ghost use Rattle.cpn_core.specs.Nets.{arc_view, net_view, place_view, transition_view};
 ghost use Rattle.cpn_worked.specs.ThreePlaces.{small, arc_of, transition_of, place_of, worked, start_of};
 
+use crate::rows::{number_of, push_count, push_number};
 use cpn_book::Book;
 use cpn_core::{
     ArcExpr, BindingTerm, Colour, EvalFault, Expr, Funs, Guard, MExpr, Memory, Net, Pat, Place,
@@ -12,21 +13,8 @@ use cpn_core::{
 };
 use cpn_runs::{End, Event, Finished, Limits, Setup};
 use std::alloc::Global;
-use std::fmt::Write;
 use std::sync::Arc;
 use std::test::Fail;
-
-/// A run of the net: whether it starts with a 2 on B, and else with a 1 on A, and how many claims it may make; its events,
-/// how many occurrences it has, whether it ends by the fault, and the number on B at its end, or 0.
-#[derive(Clone, Copy)]
-struct Worked<'a> {
-    second: bool,
-    steps: u64,
-    events: &'a str,
-    occurrences: usize,
-    has_fault: bool,
-    number: i64,
-}
 
 /// The colour set of the numbers from 1 to 3.
 fn small() -> Colour
@@ -41,31 +29,48 @@ fn small() -> Colour
 fn arc(alloc: Global, place: u32, number: u32) -> Result<PlaceArc, Memory>
     ensures { IfOk result (λ arc. arc_view arc ≡ arc_of place number) }
 {
-    let pattern = Pat::Lit(Value::Int(number as i64));
+    let term = BindingTerm {
+        count: 1,
+        pattern: Pat::Lit(Value::Int(number as i64)),
+    };
+    let terms = Vec::from_array(alloc, [term])?;
     let inscription = ArcExpr {
         colour: small(),
         expr: MExpr::One(Expr::Lit(Value::Int(number as i64))),
-        terms: Vec::from_array(alloc, [BindingTerm { count: 1, pattern }])?,
+        terms,
     };
     Ok(PlaceArc { place, inscription })
 }
 
+fn arcs(alloc: Global, place: u32, number: u32) -> Result<Vec<PlaceArc>, Memory>
+    ensures { IfOk result (λ arcs. map arc_view arcs.items ≡ arc_of place number ∷ []) }
+{
+    let arc = arc(alloc, place, number)?;
+    Ok(Vec::from_array(alloc, [arc])?)
+}
+
+/// The transition that takes a number from a place and puts one on the next.
 fn transition(
     alloc: Global,
     name: &str,
-    input: PlaceArc,
-    output: PlaceArc,
+    place: u32,
+    taken: u32,
+    put: u32,
 ) -> Result<Transition, Memory>
-    ensures { IfOk result (λ t. transition_view t ≡ transition_of name.now (arc_view input) (arc_view output)) }
+    requires { place < 2 }
+    ensures { IfOk result (λ t. transition_view t ≡ transition_of name.now (arc_of place taken) (arc_of (place + 1) put)) }
 {
+    let name = String::from_str(alloc, name)?;
+    let inputs = arcs(alloc, place, taken)?;
+    let outputs = arcs(alloc, place + 1, put)?;
     Ok(Transition {
-        name: String::from_str(alloc, name)?,
+        name,
         guard: Guard {
             conjuncts: Vec::new(alloc),
         },
         delay: None,
-        inputs: Vec::from_array(alloc, [input])?,
-        outputs: Vec::from_array(alloc, [output])?,
+        inputs,
+        outputs,
         vars: Vec::new(alloc),
     })
 }
@@ -92,8 +97,8 @@ fn places(alloc: Global) -> Result<Vec<Place>, Memory>
 fn transitions(alloc: Global) -> Result<Vec<Transition>, Memory>
     ensures { IfOk result (λ transitions. map transition_view transitions.items ≡ worked.transitions) }
 {
-    let first = transition(alloc, "Top/move", arc(alloc, 0, 1)?, arc(alloc, 1, 2)?)?;
-    let second = transition(alloc, "Top/burst", arc(alloc, 1, 2)?, arc(alloc, 2, 4)?)?;
+    let first = transition(alloc, "Top/move", 0, 1, 2)?;
+    let second = transition(alloc, "Top/burst", 1, 2, 4)?;
     Ok(Vec::from_array(alloc, [first, second])?)
 }
 
@@ -124,12 +129,18 @@ fn marking(alloc: Global, second: bool) -> Result<PlainMarking, Memory>
     Ok(marking)
 }
 
+fn shared_net(alloc: Global) -> Result<Arc<Net>, Memory>
+    ensures { IfOk result (λ net. net_view net.value ≡ worked) }
+{
+    let net = net(alloc)?;
+    Ok(Arc::new(alloc, net)?)
+}
+
 fn run(alloc: Global, second: bool, steps: u64) -> Result<Finished, Memory>
     requires few { steps ≤ 10 }
 {
-    let net = net(alloc)?;
-    let net = Arc::new(alloc, net)?;
     let start = marking(alloc, second)?;
+    let net = shared_net(alloc)?;
     let setup = Setup {
         net,
         start,
@@ -145,17 +156,17 @@ fn run(alloc: Global, second: bool, steps: u64) -> Result<Finished, Memory>
     book.run_alone()
 }
 
-/// The events, without their seats.
-fn told(alloc: Global, journal: &[Event]) -> Result<String, Memory> {
-    let mut out = String::new(alloc);
+/// Writes the events, without their seats.
+fn push_events(text: &mut String, journal: &[Event]) -> Result<(), Memory> {
     for event in journal {
         match event {
-            Event::Claim { seat: _, number } => write!(out, "c{number} ")?,
-            Event::Done { seat: _, number } => write!(out, "d{number} ")?,
-            Event::Cut { number } => write!(out, "x{number} ")?,
+            Event::Claim { seat: _, number } => push_count(text, "c", *number)?,
+            Event::Done { seat: _, number } => push_count(text, "d", *number)?,
+            Event::Cut { number } => push_count(text, "x", *number)?,
         }
+        text.push_str(" ")?;
     }
-    Ok(out)
+    Ok(())
 }
 
 /// Whether the end is the fault of the transition `burst`, that its output is not in the colour set.
@@ -169,71 +180,59 @@ fn is_burst(cause: &End) -> bool {
 
 /// The number of the one token on a place, or 0.
 fn number_on(marking: &PlainMarking, place: usize) -> i64 {
-    let Some([token]) = marking.get(place) else {
-        return 0;
-    };
-    match token.value {
-        Value::Int(number) => number,
+    match marking.get(place) {
+        Some([token]) => number_of(&token.value),
         _ => 0,
     }
 }
 
+/// Writes the numbers on the three places, and what is ready at the end and when.
+fn push_rest(text: &mut String, run: &Finished) -> Result<(), Memory> {
+    for place in 0..3 {
+        text.push_str(" ")?;
+        push_number(text, number_on(&run.marking, place))?;
+    }
+    push_count(text, " ready ", run.closing.ready)?;
+    if let Some(next) = run.closing.next {
+        push_count(text, " next ", next)?;
+    }
+    Ok(())
+}
+
+/// The events of the run, how many occurrences it has, and whether it ends by the fault; the numbers on the places at
+/// its end, or 0, how many elements are ready there, and when the next is.
+fn told(alloc: Global, run: &Finished) -> Result<String, Memory> {
+    let mut text = String::new(alloc);
+    push_events(&mut text, run.journal.as_slice())?;
+    push_count(&mut text, "occurrences ", run.occurrences.len() as u64)?;
+    text.push_str(if is_burst(&run.cause) { " burst" } else { "" })?;
+    push_rest(&mut text, run)?;
+    Ok(text)
+}
+
+/// Whether this is told of the run that starts with a 2 on B, or else with a 1 on A, and may make so many claims.
+fn is_told(alloc: Global, second: bool, steps: u64, wanted: &str) -> Result<bool, Memory>
+    requires few { steps ≤ 10 }
+{
+    let run = run(alloc, second, steps)?;
+    Ok(told(alloc, &run)?.as_str() == wanted)
+}
+
+// The first claim is that of `burst`.
+const AT_ONCE: &str = "c0 d0 x0 occurrences 0 burst 0 2 0 ready 1 next 0";
+
+// The first claim is that of `move`, and the second that of `burst`.
+const LATER: &str = "c0 d0 c1 d1 x1 occurrences 1 burst 0 2 0 ready 1 next 0";
+
+// The limit is reached before.
+const BEFORE: &str = "c0 d0 occurrences 1 0 2 0 ready 1 next 0";
+
 #[test]
 fn a_fault_ends_the_run_and_its_tokens_are_back(rt: HostRuntime) -> Result<(), Fail> {
-    let table = [
-        // The first claim is that of `burst`.
-        Worked {
-            second: true,
-            steps: 10,
-            events: "c0 d0 x0 ",
-            occurrences: 0,
-            has_fault: true,
-            number: 2,
-        },
-        // The first claim is that of `move`, and the second that of `burst`.
-        Worked {
-            second: false,
-            steps: 10,
-            events: "c0 d0 c1 d1 x1 ",
-            occurrences: 1,
-            has_fault: true,
-            number: 2,
-        },
-        // A fault at the last claim that may be made is the cause, and the limit is not.
-        Worked {
-            second: false,
-            steps: 2,
-            events: "c0 d0 c1 d1 x1 ",
-            occurrences: 1,
-            has_fault: true,
-            number: 2,
-        },
-        // The limit is reached before.
-        Worked {
-            second: false,
-            steps: 1,
-            events: "c0 d0 ",
-            occurrences: 1,
-            has_fault: false,
-            number: 2,
-        },
-    ];
-    for row in table {
-        if row.steps > 10 {
-            continue;
-        }
-        let run = run(rt.alloc(), row.second, row.steps)?;
-        assert_eq!(rt;
-            told(rt.alloc(), run.journal.as_slice())?.as_str(),
-            row.events
-        );
-        assert_eq!(rt; run.occurrences.len(), row.occurrences);
-        assert_eq!(rt; is_burst(&run.cause), row.has_fault);
-        assert_eq!(rt; number_on(&run.marking, 0), 0);
-        assert_eq!(rt; number_on(&run.marking, 1), row.number);
-        assert_eq!(rt; number_on(&run.marking, 2), 0);
-        assert_eq!(rt; run.closing.ready, 1);
-        assert_eq!(rt; run.closing.next, Some(0));
-    }
+    assert!(rt; is_told(rt.alloc(), true, 10, AT_ONCE)?);
+    assert!(rt; is_told(rt.alloc(), false, 10, LATER)?);
+    // A fault at the last claim that may be made is the cause, and the limit is not.
+    assert!(rt; is_told(rt.alloc(), false, 2, LATER)?);
+    assert!(rt; is_told(rt.alloc(), false, 1, BEFORE)?);
     Ok(())
 }

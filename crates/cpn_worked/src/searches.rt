@@ -1,63 +1,99 @@
 //! Searches for what is enabled: that the calls succeed where memory is left, and that the definitions mean what the table here says,
 //! which was filled in by hand.
-ghost use Rattle.std.specs.Prelude.{◌≡◌, ◌<◌, ◌≤◌, [], IfOk};
+ghost use Rattle.std.specs.Prelude.{◌≡◌, ◌<◌, ◌≤◌, true, length, IfOk};
 ghost use Rattle.cpn_definitions.specs.Lone.{IsFoundOnTokens};
-ghost use Rattle.cpn_definitions.specs.Sound.{IsSound};
+ghost use Rattle.cpn_definitions.specs.Sound.{IsSound, IsMarking};
 ghost use Rattle.cpn_core.specs.Nets.{net_view};
+ghost use Rattle.cpn_worked.specs.TwoPlaces.{two_places};
 
+use crate::nets::empty_net;
+use crate::rows::{number_of, pairs_in, parted, push_count, push_number};
 use crate::two_places::{are_placed, are_used, marking_of, sound_net};
-use cpn_core::{Entry, Found, Funs, Memory, Net, PlainMarking, Value};
+use cpn_core::{Binding, Memory, Net, PlainMarking};
 use cpn_search::{enabled, enabled_of};
 use std::alloc::Global;
-use std::sync::Arc;
 use std::test::Fail;
 
-/// A net of the places A and B and one transition, and a marking: whether the places are timed, the guard, the number of
-/// variables, the input arcs, each by its place and the number of its inscription, and the tokens on A and on B, each
-/// by its number and its stamp.
-#[derive(Clone, Copy)]
-struct Worked<'a> {
+/// The value of a variable of a binding, by its place in declaration order; 0 where there is none.
+fn number_at(binding: &Binding, variable: usize) -> i64 {
+    match binding.pairs().get(variable) {
+        Some(pair) => number_of(&pair.value),
+        None => 0,
+    }
+}
+
+/// Writes the bindings of the transition that are enabled, each by the values of x and y, or 0, and its least time.
+fn push_found(
+    text: &mut String,
+    alloc: Global,
+    net: &Net,
+    marking: &PlainMarking,
+) -> Result<(), Memory>
+    requires sound { IsSound (net_view net.now) }
+    requires alone { IsFoundOnTokens (net_view net.now) }
+    requires marking { IsMarking (net_view net.now).places marking.now }
+    requires some { length net.now.transitions.items ≡ 1 }
+{
+    let found = enabled_of(alloc, net, marking, 0)?;
+    for one in &found {
+        text.push_str(" ")?;
+        push_number(text, number_at(&one.binding, 0))?;
+        text.push_str(",")?;
+        push_number(text, number_at(&one.binding, 1))?;
+        push_count(text, "@", one.earliest)?;
+    }
+    Ok(())
+}
+
+/// Writes the times of the elements that are enabled at the clock 3.
+fn push_times(
+    text: &mut String,
+    alloc: Global,
+    net: &Net,
+    marking: &PlainMarking,
+) -> Result<(), Memory>
+    requires sound { IsSound (net_view net.now) }
+    requires alone { IsFoundOnTokens (net_view net.now) }
+    requires marking { IsMarking (net_view net.now).places marking.now }
+{
+    let entries = enabled(alloc, net, marking, 3)?;
+    for entry in &entries {
+        push_count(text, " ", entry.earliest)?;
+    }
+    Ok(())
+}
+
+/// What is found in the marking: the bindings, and behind a bar the times of the elements.
+fn told(alloc: Global, net: &Net, marking: &PlainMarking) -> Result<String, Memory>
+    requires sound { IsSound (net_view net.now) }
+    requires alone { IsFoundOnTokens (net_view net.now) }
+    requires marking { IsMarking (net_view net.now).places marking.now }
+    requires some { length net.now.transitions.items ≡ 1 }
+{
+    let mut text = String::new(alloc);
+    push_found(&mut text, alloc, net, marking)?;
+    text.push_str(" |")?;
+    push_times(&mut text, alloc, net, marking)?;
+    Ok(text)
+}
+
+/// What is found of a transition with the guard, so many variables and the arcs; nothing where the arcs are not those of a
+/// sound net.
+fn found_with(
+    alloc: Global,
     timed: bool,
     guard: bool,
     vars: u32,
-    arcs: &'a [(u32, u32)],
-    first: &'a [(i64, u64)],
-    second: &'a [(i64, u64)],
-}
-
-/// What the searches of the net find in the marking: the enabled bindings of its transition, and the enabled elements at
-/// the clock; nothing where the arcs are not those of a sound net.
-fn search(alloc: Global, net: &Worked, clock: u64) -> Result<(Found, Vec<Entry>), Memory> {
-    if net.arcs.len() > 64 || !are_placed(net.arcs) || !are_used(net.arcs, net.vars) {
-        return Ok((Vec::new(alloc), Vec::new(alloc)));
+    arcs: &[(u32, u32)],
+    marking: &PlainMarking,
+) -> Result<String, Memory>
+    requires { IsMarking (two_places timed) marking.now }
+{
+    if arcs.len() > 64 || !are_placed(arcs) || !are_used(arcs, vars) {
+        return Ok(String::new(alloc));
     }
-    let marking = marking_of(alloc, net.timed, net.first, net.second)?;
-    let net = sound_net(alloc, net.timed, net.guard, net.vars, net.arcs)?;
-    let found = enabled_of(alloc, &net, &marking, 0)?;
-    let entries = enabled(alloc, &net, &marking, clock)?;
-    Ok((found, entries))
-}
-
-/// The value of a variable of a found binding, by its place in declaration order; 0 where there is none.
-fn number_at(found: &Found, index: usize, variable: usize) -> i64 {
-    let Some(one) = found.get(index) else {
-        return 0;
-    };
-    let Some(pair) = one.binding.pairs().get(variable) else {
-        return 0;
-    };
-    match pair.value {
-        Value::Int(number) => number,
-        _ => 0,
-    }
-}
-
-/// The parts of a row in front of its first bar and behind it.
-fn parted(row: &str) -> (&str, &str) {
-    match row.split_once(" |") {
-        Some(parts) => parts,
-        None => (row, ""),
-    }
+    let net = sound_net(alloc, timed, guard, vars, arcs)?;
+    told(alloc, &net, marking)
 }
 
 /// The arcs of a row.
@@ -73,69 +109,37 @@ fn arcs_in(alloc: Global, text: &str) -> Result<Vec<(u32, u32)>, Memory> {
     Ok(arcs)
 }
 
-/// The tokens of a row.
-fn tokens_in(alloc: Global, text: &str) -> Result<Vec<(i64, u64)>, Memory> {
-    let mut tokens = Vec::new(alloc);
-    for token in text.split(' ') {
-        if let Some((number, stamp)) = token.split_once('@') {
-            if let (Ok(number), Ok(stamp)) = (number.parse::<i64>(), stamp.parse::<u64>()) {
-                tokens.push((number, stamp))?;
-            }
-        }
+/// The number of variables of a row.
+fn vars_in(kind: &str) -> u32 {
+    match kind.split_once(' ') {
+        Some((_, count)) => count.parse::<u32>().unwrap_or(0),
+        None => 0,
     }
-    Ok(tokens)
 }
 
-/// The net and the marking of a row: `timed`, `untimed`, or `barred` with a guard that is not true, and the number of
-/// variables; the arcs; the tokens on A, and on B. Behind them, what is found.
-fn found_in(alloc: Global, row: &str) -> Result<(String, &str), Memory> {
+/// The marking of a row, by the tokens on A, and on B.
+fn marking_in(alloc: Global, timed: bool, first: &str, second: &str) -> Result<PlainMarking, Memory>
+    ensures { IfOk result (λ marking. IsMarking (two_places timed) marking) }
+{
+    let first = pairs_in(alloc, first, '@')?;
+    let second = pairs_in(alloc, second, '@')?;
+    marking_of(alloc, timed, &first, &second)
+}
+
+/// Whether what a row has at its end is found in its marking: it has `timed`, `untimed`, or `barred` with a guard that is not
+/// true, and the number of variables; the arcs, each by its place and the number of its inscription; the tokens on A, and on B,
+/// each by its number and its stamp. Behind them, what is found.
+fn holds(alloc: Global, row: &str) -> Result<bool, Memory> {
     let (kind, row) = parted(row);
     let (arcs, row) = parted(row);
     let (first, row) = parted(row);
     let (second, wanted) = parted(row);
-    let mut vars = 0;
-    if let Some((_, count)) = kind.split_once(' ') {
-        vars = count.parse::<u32>().unwrap_or(0);
-    }
+    let timed = !kind.starts_with("untimed");
+    let guard = !kind.starts_with("barred");
     let arcs = arcs_in(alloc, arcs)?;
-    let first = tokens_in(alloc, first)?;
-    let second = tokens_in(alloc, second)?;
-    let net = Worked {
-        timed: !kind.starts_with("untimed"),
-        guard: !kind.starts_with("barred"),
-        vars,
-        arcs: &arcs,
-        first: &first,
-        second: &second,
-    };
-    Ok((told(alloc, &net)?, wanted))
-}
-
-fn tell_binding(text: &mut String, x: i64, y: i64, time: u64) -> Result<(), Memory> {
-    write!(text, " {x},{y}@{time}")?;
-    Ok(())
-}
-
-fn tell_time(text: &mut String, time: u64) -> Result<(), Memory> {
-    write!(text, " {time}")?;
-    Ok(())
-}
-
-/// What is found: the bindings, each by the values of x and y, or 0, and its least time; then the times of the elements
-/// at the clock 3.
-fn told(alloc: Global, net: &Worked) -> Result<String, Memory> {
-    let (found, entries) = search(alloc, net, 3)?;
-    let mut text = String::new(alloc);
-    for (index, one) in found.iter().enumerate() {
-        let x = number_at(&found, index, 0);
-        let y = number_at(&found, index, 1);
-        tell_binding(&mut text, x, y, one.earliest)?;
-    }
-    text.push_str(" |")?;
-    for entry in &entries {
-        tell_time(&mut text, entry.earliest)?;
-    }
-    Ok(text)
+    let marking = marking_in(alloc, timed, first, second)?;
+    let found = found_with(alloc, timed, guard, vars_in(kind), &arcs, &marking)?;
+    Ok(found.as_str() == wanted)
 }
 
 /// Of two tokens of one value the sooner is enough for one arc, two arcs from one place need both, and later ones are
@@ -161,34 +165,21 @@ timed 5 | 0:0 0:1 1:2 1:3 1:4 | 1@0 1@2 | 2@0 2@18446744073709551615 2@3 | 1,1@1
 #[test]
 fn the_enabled_bindings_are_those_of_the_table(rt: HostRuntime) -> Result<(), Fail> {
     for row in TABLE.lines() {
-        let (told, wanted) = found_in(rt.alloc(), row)?;
-        assert_eq!(rt; told.as_str(), wanted, "{row}");
+        assert!(rt; holds(rt.alloc(), row)?, "{row}");
     }
     Ok(())
 }
 
-/// The net without places, transitions and variables.
-fn empty_net(alloc: Global) -> Result<Net, Memory>
-    ensures sound { IfOk result (λ net. IsSound (net_view net)) }
-    ensures alone { IfOk result (λ net. IsFoundOnTokens (net_view net)) }
-    ensures places { IfOk result (λ net. net.places.items ≡ []) }
-{
-    let functions = Vec::new(alloc);
-    Ok(Net {
-        places: Vec::new(alloc),
-        transitions: Vec::new(alloc),
-        variables: Vec::new(alloc),
-        constants: Vec::new(alloc),
-        constructors: Vec::new(alloc),
-        funs: Arc::new(alloc, Funs { functions })?,
-    })
+/// Whether nothing is enabled in the net of nothing.
+fn is_nothing_enabled(alloc: Global) -> Result<bool, Memory> {
+    let net = empty_net(alloc)?;
+    let marking = PlainMarking::new(alloc, 0)?;
+    Ok(enabled(alloc, &net, &marking, 0)?.is_empty())
 }
 
 #[test]
 fn nothing_is_enabled_where_nothing_is(rt: HostRuntime) -> Result<(), Fail> {
-    let net = empty_net(rt.alloc())?;
-    let marking = PlainMarking::new(rt.alloc(), 0)?;
-    assert_eq!(rt; enabled(rt.alloc(), &net, &marking, 0)?.len(), 0);
+    assert!(rt; is_nothing_enabled(rt.alloc())?);
     Ok(())
 }
 
@@ -204,40 +195,61 @@ fn tokens(alloc: Global, count: u64, values: u64) -> Result<Vec<(i64, u64)>, Mem
     Ok(tokens)
 }
 
-/// How many bindings are found with these arcs and tokens on timed places.
+/// So many tokens of so many values on A, and so many on B.
+fn large_marking(
+    alloc: Global,
+    count: u64,
+    values: u64,
+    others: u64,
+) -> Result<PlainMarking, Memory>
+    requires some { 0 < values }
+    requires few { values ≤ 1000000 }
+    ensures { IfOk result (λ marking. IsMarking (two_places true) marking) }
+{
+    let first = tokens(alloc, count, values)?;
+    let second = tokens(alloc, others, values)?;
+    marking_of(alloc, true, &first, &second)
+}
+
+/// How many bindings are found with these arcs in such a marking.
 fn count_found(
     alloc: Global,
     vars: u32,
     arcs: &[(u32, u32)],
-    first: &[(i64, u64)],
-    second: &[(i64, u64)],
-) -> Result<usize, Memory> {
-    let net = Worked {
-        timed: true,
-        guard: true,
-        vars,
-        arcs,
-        first,
-        second,
-    };
-    let (found, _entries) = search(alloc, &net, 0)?;
-    Ok(found.len())
+    marking: &PlainMarking,
+) -> Result<usize, Memory>
+    requires { IsMarking (two_places true) marking.now }
+{
+    if arcs.len() > 64 || !are_placed(arcs) || !are_used(arcs, vars) {
+        return Ok(0);
+    }
+    let net = sound_net(alloc, true, true, vars, arcs)?;
+    Ok(enabled_of(alloc, &net, marking, 0)?.len())
+}
+
+/// How many bindings are found with these arcs, where so many tokens of so many values stand on A, and so many on B.
+fn count_among(
+    alloc: Global,
+    vars: u32,
+    arcs: &[(u32, u32)],
+    tokens: (u64, u64, u64),
+) -> Result<usize, Memory>
+    requires some { 0 < tokens.1 }
+    requires few { tokens.1 ≤ 1000000 }
+{
+    let marking = large_marking(alloc, tokens.0, tokens.1, tokens.2)?;
+    count_found(alloc, vars, arcs, &marking)
 }
 
 #[test]
 fn large_places_are_searched(rt: HostRuntime) -> Result<(), Fail> {
-    let alloc = rt.alloc();
-    let one_value = tokens(alloc, 1_001, 1)?;
-    let two_of_each = tokens(alloc, 2_002, 1_001)?;
-    let one_of_each = tokens(alloc, 257, 257)?;
     let twice = [(0, 0), (0, 0)];
-    let both = [(0, 0), (1, 1)];
-    let none = [];
-    assert_eq!(rt; count_found(alloc, 1, &twice, &one_value, &none)?, 1);
-    assert_eq!(rt; count_found(alloc, 1, &twice, &two_of_each, &none)?, 1_001);
+    assert_eq!(rt; count_among(rt.alloc(), 1, &twice, (1_001, 1, 0))?, 1);
     assert_eq!(rt;
-        count_found(alloc, 2, &both, &one_of_each, &one_of_each)?,
-        66_049
+        count_among(rt.alloc(), 1, &twice, (2_002, 1_001, 0))?,
+        1_001
     );
+    let both = [(0, 0), (1, 1)];
+    assert_eq!(rt; count_among(rt.alloc(), 2, &both, (257, 257, 257))?, 66_049);
     Ok(())
 }

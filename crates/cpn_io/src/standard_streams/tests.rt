@@ -41,17 +41,25 @@ impl Write for Flaky {
     }
 }
 
+// Whether a read gives this, and how many have then failed.
+fn is_read(input: &mut Stdin<Flaky>, got: Got, faults: u64) -> bool {
+    input.read(&mut [0; 8]) == got && input.faults == faults
+}
+
 #[test]
 fn an_error_of_a_read_counts_and_nothing_is_the_end(rt: HostRuntime) {
     let mut input = Stdin {
         reader: Flaky { call: 0 },
         faults: 0,
     };
-    let mut buffer = [0; 8];
     for (got, faults) in [(Got::Bytes(2), 0), (Got::Failed, 1), (Got::End, 1)] {
-        assert_eq!(rt; input.read(&mut buffer), got);
-        assert_eq!(rt; input.faults, faults);
+        assert!(rt; is_read(&mut input, got, faults), "{got:?}");
     }
+}
+
+// Whether a write takes this, and how many have then failed.
+fn is_taken(output: &mut Stdout<Flaky>, put: Put, faults: u64) -> bool {
+    output.write(b"abcdefgh") == put && output.faults == faults
 }
 
 #[test]
@@ -61,15 +69,14 @@ fn an_error_of_a_write_counts_and_so_does_nothing(rt: HostRuntime) {
         faults: 0,
     };
     for (put, faults) in [(Put::Took(2), 0), (Put::Failed, 1), (Put::Failed, 2)] {
-        assert_eq!(rt; output.write(b"abcdefgh"), put);
-        assert_eq!(rt; output.faults, faults);
+        assert!(rt; is_taken(&mut output, put, faults), "{put:?}");
     }
 }
 
 #[test]
 fn the_streams_of_a_runtime_start_without_a_fault(rt: HostRuntime) {
-    assert_eq!(rt; Stdin::new(&rt).faults, 0);
     let mut output = Stdout::new(&rt);
-    assert_eq!(rt; write_all(&mut output, b"written by a test\n"), Ok(()));
-    assert_eq!(rt; output.faults, 0);
+    let answer = write_all(&mut output, b"written by a test\n");
+    assert!(rt; answer == Ok(()) && output.faults == 0);
+    assert!(rt; Stdin::new(&rt).faults == 0);
 }

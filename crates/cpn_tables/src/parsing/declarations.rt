@@ -1,8 +1,8 @@
 //! Texts of declarations and what they declare, line by line of the grammar.
 
 use super::answers::{Kind, check_each};
-use super::telling::tell;
-use cpn_syntax::{Alternative, Body, Decl, DeclForm, Parameter};
+use super::telling::{tell, tell_begin};
+use cpn_syntax::{Alternative, Ast, Body, Decl, DeclForm, Parameter};
 use std::alloc::AllocError;
 use std::test::Fail;
 
@@ -33,25 +33,28 @@ fn tell_alternatives(out: &mut String, alternatives: &[Alternative]) -> Result<(
 
 fn tell_body(out: &mut String, body: &Body) -> Result<(), AllocError> {
     match body {
-        Body::Unit => write!(out, "unit"),
-        Body::Bool => write!(out, "bool"),
-        Body::Int => write!(out, "int"),
+        Body::Unit => out.push_str("unit"),
+        Body::Bool => out.push_str("bool"),
+        Body::Int => out.push_str("int"),
         Body::IntRange { low, high } => write!(out, "int with {low}..{high}"),
-        Body::String => write!(out, "string"),
+        Body::String => out.push_str("string"),
         Body::Enumeration(names) => {
-            write!(out, "with ")?;
+            out.push_str("with ")?;
             tell_names(out, "|", names)
         }
         Body::Product(names) => {
-            write!(out, "product ")?;
+            out.push_str("product ")?;
             tell_names(out, "*", names)
         }
-        Body::List(name) => write!(out, "list {}", name.as_str()),
+        Body::List(name) => {
+            out.push_str("list ")?;
+            out.push_str(name.as_str())
+        }
         Body::Union(alternatives) => {
-            write!(out, "union ")?;
+            out.push_str("union ")?;
             tell_alternatives(out, alternatives)
         }
-        Body::Named(name) => write!(out, "{}", name.as_str()),
+        Body::Named(name) => out.push_str(name.as_str()),
     }
 }
 
@@ -65,39 +68,69 @@ fn tell_parameters(out: &mut String, parameters: &[Parameter]) -> Result<(), All
     Ok(())
 }
 
-/// Writes a declaration, and where it begins.
-pub fn tell_declaration(out: &mut String, declaration: &Decl) -> Result<(), AllocError> {
-    match &declaration.form {
+fn tell_colour_set(
+    out: &mut String,
+    name: &str,
+    body: &Body,
+    timed: bool,
+) -> Result<(), AllocError> {
+    out.push_str("colset ")?;
+    out.push_str(name)?;
+    out.push_str(" ")?;
+    tell_body(out, body)?;
+    out.push_str(if timed { " timed" } else { "" })
+}
+
+fn tell_variables(out: &mut String, names: &[String], colour: &str) -> Result<(), AllocError> {
+    out.push_str("var ")?;
+    tell_names(out, ",", names)?;
+    out.push_str(" ")?;
+    out.push_str(colour)
+}
+
+fn tell_value(out: &mut String, name: &str, value: &Ast) -> Result<(), AllocError> {
+    out.push_str("val ")?;
+    out.push_str(name)?;
+    out.push_str(" ")?;
+    tell(out, value)
+}
+
+fn tell_function(
+    out: &mut String,
+    name: &str,
+    parameters: &[Parameter],
+    colour: &str,
+    body: &Ast,
+) -> Result<(), AllocError> {
+    out.push_str("fun ")?;
+    out.push_str(name)?;
+    tell_parameters(out, parameters)?;
+    out.push_str(" ")?;
+    out.push_str(colour)?;
+    out.push_str(" ")?;
+    tell(out, body)
+}
+
+fn tell_form(out: &mut String, form: &DeclForm) -> Result<(), AllocError> {
+    match form {
         DeclForm::ColourSet { name, body, timed } => {
-            write!(out, "colset {} ", name.as_str())?;
-            tell_body(out, body)?;
-            if *timed {
-                write!(out, " timed")?;
-            }
+            tell_colour_set(out, name.as_str(), body, *timed)
         }
-        DeclForm::Variables { names, colour } => {
-            write!(out, "var ")?;
-            tell_names(out, ",", names)?;
-            write!(out, " {}", colour.as_str())?;
-        }
-        DeclForm::Value { name, value } => {
-            write!(out, "val {} ", name.as_str())?;
-            tell(out, value)?;
-        }
+        DeclForm::Variables { names, colour } => tell_variables(out, names, colour.as_str()),
+        DeclForm::Value { name, value } => tell_value(out, name.as_str(), value),
         DeclForm::Function {
             name,
             parameters,
             result,
             body,
-        } => {
-            write!(out, "fun {}", name.as_str())?;
-            tell_parameters(out, parameters)?;
-            write!(out, " {} ", result.as_str())?;
-            tell(out, body)?;
-        }
+        } => tell_function(out, name.as_str(), parameters, result.as_str(), body),
     }
-    write!(out, " @{}", declaration.at)?;
-    Ok(())
+}
+
+/// Writes a declaration, and where it begins.
+pub fn tell_declaration(out: &mut String, declaration: &Decl) -> Result<(), AllocError> {
+    tell_form(out, &declaration.form)?;
+    tell_begin(out, declaration.at)
 }
 
 /// For each line of the grammar a text that is in it, ones that stop short and ones that go wrong.

@@ -1,7 +1,7 @@
 //! Texts of delays and their inscriptions.
 
 use super::answers::{Kind, check_each};
-use super::telling::tell;
+use super::telling::{tell, tell_begin};
 use cpn_syntax::Ast;
 use std::alloc::AllocError;
 use std::test::Fail;
@@ -9,8 +9,7 @@ use std::test::Fail;
 /// Writes the inscription of a delay, and where it begins.
 pub fn tell_delay(out: &mut String, tree: &Ast) -> Result<(), AllocError> {
     tell(out, tree)?;
-    write!(out, " @{}", tree.at)?;
-    Ok(())
+    tell_begin(out, tree.at)
 }
 
 /// Delays, with and without the sign in front, and the offset of the inscription's first token.

@@ -1,7 +1,7 @@
 //! Texts of guards and their conjuncts.
 
 use super::answers::{Kind, check_each};
-use super::telling::tell;
+use super::telling::{tell, tell_begin};
 use cpn_syntax::Ast;
 use std::alloc::AllocError;
 use std::test::Fail;
@@ -10,7 +10,8 @@ use std::test::Fail;
 pub fn tell_guard(out: &mut String, conjuncts: &[Ast]) -> Result<(), AllocError> {
     for conjunct in conjuncts {
         tell(out, conjunct)?;
-        write!(out, " @{};", conjunct.at)?;
+        tell_begin(out, conjunct.at)?;
+        out.push_str(";")?;
     }
     Ok(())
 }

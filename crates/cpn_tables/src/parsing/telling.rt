@@ -32,6 +32,11 @@ pub fn tell_number(out: &mut String, number: i64) -> Result<(), AllocError> {
     write!(out, "{number}")
 }
 
+/// Writes where a tree begins, behind it.
+pub fn tell_begin(out: &mut String, at: usize) -> Result<(), AllocError> {
+    write!(out, " @{at}")
+}
+
 /// Writes a string in quotes.
 fn tell_text(out: &mut String, text: &str) -> Result<(), AllocError> {
     write!(out, "{text:?}")

@@ -1,68 +1,108 @@
 //! Which values colour sets admit.
 
-use super::text;
+use super::{applied, range, text};
+use crate::rows::{answered, parted};
 use cpn_core::{Colour, Memory, Shape, Value, Values};
 use std::alloc::Global;
 use std::test::Fail;
 
-fn admitted(shape: Shape, value: &Value) -> Result<bool, Memory> {
-    let colour = Colour { shape, timed: true };
+fn shape_of(alloc: Global, name: &str) -> Result<Shape, Memory> {
+    match name {
+        "unit" => Ok(Shape::Unit),
+        "bool" => Ok(Shape::Bool),
+        "three" => Ok(Shape::Enum(0, 3)),
+        "string" => Ok(Shape::Text),
+        "single" => Ok(Shape::Tuple(vec![in alloc; Shape::Unit]?)),
+        "pair" => Ok(Shape::Tuple(vec![in alloc; Shape::Unit, Shape::Bool]?)),
+        "many" => Ok(Shape::Tuple(many_shapes(alloc)?)),
+        "list" => Ok(Shape::List(Box::new(alloc, Shape::Bool)?)),
+        "union" => Ok(Shape::Union(4, vec![in alloc; None, Some(Shape::Bool)]?)),
+        _ => Ok(range(name)),
+    }
+}
+
+// A thousand shapes and one.
+fn many_shapes(alloc: Global) -> Result<Vec<Shape>, Memory> {
+    let mut shapes = Vec::new(alloc);
+    for _ in 0..1_001 {
+        shapes.push(Shape::Unit)?;
+    }
+    Ok(shapes)
+}
+
+fn value_of(alloc: Global, name: &str) -> Result<Value, Memory> {
+    match name {
+        "unit" => Ok(Value::Unit),
+        "#2" => Ok(Value::Enum(2)),
+        "#3" => Ok(Value::Enum(3)),
+        "printed" => text(alloc, b"a ~"),
+        "line" => text(alloc, b"a\n"),
+        "(unit,true)" => Ok(Value::Tuple(vec![in alloc; Value::Unit, Value::Bool(true)]?)),
+        "many" => Ok(Value::Tuple(many_values(alloc)?)),
+        "[false,unit]" => Ok(Value::List(vec![in alloc; Value::Bool(false), Value::Unit]?)),
+        "K0" => Ok(Value::Con(0, None)),
+        "K1" => Ok(Value::Con(1, None)),
+        "K1(true)" => applied(alloc, 1, Value::Bool(true)),
+        "K2" => Ok(Value::Con(2, None)),
+        _ => Ok(Value::Int(name.parse::<i64>().unwrap_or(0))),
+    }
+}
+
+// A thousand values and one.
+fn many_values(alloc: Global) -> Result<Values, Memory> {
+    let mut values = Vec::new(alloc);
+    for _ in 0..1_001 {
+        values.push(Value::Unit)?;
+    }
+    Ok(values)
+}
+
+fn colour_of(alloc: Global, shape: &str) -> Result<Colour, Memory> {
+    Ok(Colour {
+        shape: shape_of(alloc, shape)?,
+        timed: true,
+    })
+}
+
+// Whether the copy of the colour set admits the value.
+fn is_admitted(colour: &Colour, value: &Value) -> Result<bool, Memory> {
     Ok(colour.copy()?.admits(value))
 }
 
-// A thousand shapes and one, and as many values of them.
-fn many_units(alloc: Global) -> Result<(Vec<Shape>, Values), Memory> {
-    let mut shapes = Vec::new(alloc);
-    let mut values = Vec::new(alloc);
-    for _ in 0..1_001 {
-        shapes.push(Shape::Unit)?;
-        values.push(Value::Unit)?;
-    }
-    Ok((shapes, values))
+// Whether the colour set of a row admits its value just where the row says so.
+fn holds(alloc: Global, row: &str) -> Result<bool, Memory> {
+    let (asked, wanted) = answered(row);
+    let (shape, value) = parted(asked);
+    let value = value_of(alloc, value)?;
+    let colour = colour_of(alloc, shape)?;
+    Ok(is_admitted(&colour, &value)? == (wanted == "yes"))
 }
+
+// A colour set, a value, and whether it is admitted: none and the union of a constructor without argument and one of a
+// truth value are the last of them.
+const TABLE: &str = "0..9 |-1 -> no
+0..9 |0 -> yes
+0..9 |9 -> yes
+0..9 |10 -> no
+unit |unit -> yes
+bool |unit -> no
+three |#2 -> yes
+three |#3 -> no
+string |printed -> yes
+string |line -> no
+pair |(unit,true) -> yes
+single |(unit,true) -> no
+list |[false,unit] -> no
+many |many -> yes
+union |K0 -> yes
+union |K1 -> no
+union |K1(true) -> yes
+union |K2 -> no";
 
 #[test]
 fn a_colour_set_admits_its_values(rt: HostRuntime) -> Result<(), Fail> {
-    let alloc = rt.alloc();
-    for (number, want) in [(-1, false), (0, true), (9, true), (10, false)] {
-        assert_eq!(rt;
-            admitted(Shape::Int { low: 0, high: 9 }, &Value::Int(number))?,
-            want
-        );
-    }
-    assert!(rt; admitted(Shape::Unit, &Value::Unit)?);
-    assert!(rt; !admitted(Shape::Bool, &Value::Unit)?);
-    assert!(rt; admitted(Shape::Enum(0, 3), &Value::Enum(2))?);
-    assert!(rt; !admitted(Shape::Enum(0, 3), &Value::Enum(3))?);
-    assert!(rt; admitted(Shape::Text, &text(alloc, b"a ~")?)?);
-    assert!(rt; !admitted(Shape::Text, &text(alloc, b"a\n")?)?);
-    Ok(())
-}
-
-#[test]
-fn a_colour_set_admits_values_of_its_parts(rt: HostRuntime) -> Result<(), Fail> {
-    let alloc = rt.alloc();
-    let pair = Value::Tuple(vec![in alloc; Value::Unit, Value::Bool(true)]?);
-    assert!(rt;
-        admitted(
-            Shape::Tuple(vec![in alloc; Shape::Unit, Shape::Bool]?),
-            &pair
-        )?
-    );
-    assert!(rt; !admitted(Shape::Tuple(vec![in alloc; Shape::Unit]?), &pair)?);
-    let list = Value::List(vec![in alloc; Value::Bool(false), Value::Unit]?);
-    assert!(rt; !admitted(Shape::List(Box::new(alloc, Shape::Bool)?), &list)?);
-    let applied = Value::Con(1, Some(Box::new(alloc, Value::Bool(true))?));
-    let (many, all) = many_units(alloc)?;
-    assert!(rt; admitted(Shape::Tuple(many), &Value::Tuple(all))?);
-    for (value, want) in [
-        (Value::Con(0, None), true),
-        (Value::Con(1, None), false),
-        (applied, true),
-        (Value::Con(2, None), false),
-    ] {
-        let union = Shape::Union(4, vec![in alloc; None, Some(Shape::Bool)]?);
-        assert_eq!(rt; admitted(union, &value)?, want);
+    for row in TABLE.lines() {
+        assert!(rt; holds(rt.alloc(), row)?, "{row}");
     }
     Ok(())
 }

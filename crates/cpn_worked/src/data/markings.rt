@@ -1,25 +1,47 @@
 //! Which token is taken out of a marking.
+ghost use Rattle.std.specs.Prelude.{◌≡◌, length, IfOk};
 
-use cpn_core::{PlainMarking, Value};
+use super::push_tokens;
+use cpn_core::{Memory, PlainMarking, Value};
+use std::alloc::Global;
 use std::test::Fail;
 
-#[test]
-fn the_latest_stamp_is_taken(rt: HostRuntime) -> Result<(), Fail> {
-    let mut marking = PlainMarking::new(rt.alloc(), 2)?;
+// A marking of two places, with four tokens on the second.
+fn marking(alloc: Global) -> Result<PlainMarking, Memory>
+    ensures { IfOk result (λ marking. length marking ≡ 2) }
+{
+    let mut marking = PlainMarking::new(alloc, 2)?;
     marking.add(1, Value::Int(7), 4)?;
     marking.add(1, Value::Int(8), 2)?;
     marking.add(1, Value::Int(7), 1)?;
     marking.add(1, Value::Int(6), 9)?;
+    Ok(marking)
+}
+
+// Whether just these tokens stand on a place.
+fn has(alloc: Global, marking: &PlainMarking, place: usize, tokens: &str) -> Result<bool, Memory> {
+    let mut text = String::new(alloc);
+    push_tokens(&mut text, marking, place)?;
+    Ok(text.as_str() == tokens)
+}
+
+// Takes a token of a value by two stamps, and says whether the latest one is gone, but not from a copy.
+fn is_taken(alloc: Global, marking: &mut PlainMarking) -> Result<bool, Memory>
+    requires { length marking.old ≡ 2 }
+{
     let copy = marking.copy()?;
-    assert_eq!(rt; marking.len(), 2);
     marking.take(1, &Value::Int(7), 0);
     marking.take(1, &Value::Int(7), 4);
-    let mut left = Vec::new(rt.alloc());
-    for token in marking.tokens(1) {
-        left.push(token.stamp)?;
-    }
-    assert_eq!(rt; left.as_slice(), [9, 1, 2].as_slice());
-    assert_eq!(rt; marking.tokens(0).len(), 0);
-    assert_eq!(rt; copy.tokens(1).len(), 4);
+    Ok(
+        has(alloc, marking, 1, " 6@9 7@1 8@2")?
+            && has(alloc, marking, 0, "")?
+            && has(alloc, &copy, 1, " 6@9 7@1 7@4 8@2")?,
+    )
+}
+
+#[test]
+fn the_latest_stamp_is_taken(rt: HostRuntime) -> Result<(), Fail> {
+    let mut marking = marking(rt.alloc())?;
+    assert!(rt; is_taken(rt.alloc(), &mut marking)?);
     Ok(())
 }

@@ -1,5 +1,7 @@
 //! From when on a marking covers needs, and what stands there when they are taken.
 
+use super::{count_on, push_tokens};
+use crate::rows::{answered, pairs_in, parted, push_count};
 use cpn_core::{Made, Memory, Needed, Needs, Outputs, PlainMarking, Value};
 use std::alloc::Global;
 use std::test::Fail;
@@ -8,110 +10,126 @@ use std::test::Fail;
 fn made(alloc: Global, tokens: &[(i64, u64)]) -> Result<Outputs, Memory> {
     let mut outputs = Outputs::new(alloc);
     for (number, stamp) in tokens {
-        let value = Value::Int(*number);
         outputs.add(Made {
             place: 1,
-            value,
+            value: Value::Int(*number),
             stamp: *stamp,
         })?;
     }
     Ok(outputs)
 }
 
-fn number(value: &Value) -> i64 {
-    match value {
-        Value::Int(number) => *number,
-        _ => -1,
-    }
-}
-
-// A token by its number and stamp.
-fn tell_token(text: &mut String, number: i64, stamp: u64) -> Result<(), Fail> {
-    write!(text, " {number}@{stamp}")?;
-    Ok(())
-}
-
-// From when on the tokens cover the needs, each given by its number and offset; and what stands there when the
-// needs are taken at the time 10 and 7@20 is put in.
-fn told(alloc: Global, tokens: &[(i64, u64)], needed: &[(i64, u32)]) -> Result<String, Fail> {
-    let mut marking = PlainMarking::new(alloc, 2)?;
-    marking.add_made(made(alloc, tokens)?)?;
+// Needs of the second place, each by its number and offset.
+fn needs_of(alloc: Global, needed: &[(i64, u64)]) -> Result<Needs, Memory> {
     let mut needs = Needs::new(alloc);
     for (number, offset) in needed {
-        let value = Value::Int(*number);
         needs.add(Needed {
             place: 1,
-            value,
-            offset: *offset as u64,
+            value: Value::Int(*number),
+            offset: (*offset).min(100),
         })?;
     }
-    let mut text = String::new(alloc);
+    Ok(needs)
+}
+
+fn marking_of(alloc: Global, tokens: &[(i64, u64)]) -> Result<PlainMarking, Memory> {
+    let mut marking = PlainMarking::new(alloc, 2)?;
+    marking.add_made(made(alloc, tokens)?)?;
+    Ok(marking)
+}
+
+// Whether a 7 stands there, and from when on the tokens cover the needs.
+fn tell_time(text: &mut String, marking: &PlainMarking, needs: &Needs) -> Result<(), Memory> {
     if marking.holds(1, &Value::Int(7)) {
         text.push_str("held ")?;
     }
-    match marking.earliest(&needs) {
-        Some(time) => write!(text, "from {time}")?,
-        None => text.push_str("never")?,
+    match marking.earliest(needs) {
+        Some(time) => push_count(text, "from ", time),
+        None => Ok(text.push_str("never")?),
     }
-    marking.subtract(&needs, 10);
+}
+
+// What is told of the tokens and the needs; and what stands there when the needs are taken at the time 10 and 7@20 is put in.
+fn told(alloc: Global, marking: &mut PlainMarking, needs: &Needs) -> Result<String, Memory> {
+    let mut text = String::new(alloc);
+    tell_time(&mut text, marking, needs)?;
+    marking.subtract(needs, 10);
     marking.add_made(made(alloc, &[(7, 20)])?)?;
-    if let Some(left) = marking.get(1) {
-        for token in left {
-            tell_token(&mut text, number(&token.value), token.stamp)?;
-        }
-    }
+    push_tokens(&mut text, marking, 1)?;
     Ok(text)
 }
 
+fn holds(alloc: Global, row: &str) -> Result<bool, Memory> {
+    let (asked, wanted) = answered(row);
+    let (tokens, needed) = parted(asked);
+    let needs = needs_of(alloc, &pairs_in(alloc, needed, '+')?)?;
+    let mut marking = marking_of(alloc, &pairs_in(alloc, tokens, '@')?)?;
+    Ok(told(alloc, &mut marking, &needs)?.as_str() == wanted)
+}
+
+// Tokens, each a number and a stamp; needs, each a number and an offset; and what is told of them.
+const TABLE: &str = "7@3 | 7+0 -> held from 3 7@20
+7@3 7@9 | 7+0 7+4 -> held from 5 7@20
+7@9 7@3 | 7+4 7+0 -> held from 5 7@20
+7@3 | 7+0 7+0 -> held never 7@20
+6@1 8@1 | 7+0 -> never 6@1 7@20 8@1
+7@2 | 7+5 -> held from 0 7@20
+5@10 7@4 7@6 | 7+0 5+0 -> held from 10 7@4 7@20
+7@12 | 7+0 -> held from 12 7@12 7@20
+ | -> from 0 7@20";
+
 #[test]
 fn needs_are_covered_as_the_table_says(rt: HostRuntime) -> Result<(), Fail> {
-    let table: [(&[(i64, u64)], &[(i64, u32)], &str); 9] = [
-        (&[(7, 3)], &[(7, 0)], "held from 3 7@20"),
-        (&[(7, 3), (7, 9)], &[(7, 0), (7, 4)], "held from 5 7@20"),
-        (&[(7, 9), (7, 3)], &[(7, 4), (7, 0)], "held from 5 7@20"),
-        (&[(7, 3)], &[(7, 0), (7, 0)], "held never 7@20"),
-        (&[(6, 1), (8, 1)], &[(7, 0)], "never 6@1 7@20 8@1"),
-        (&[(7, 2)], &[(7, 5)], "held from 0 7@20"),
-        (
-            &[(5, 10), (7, 4), (7, 6)],
-            &[(7, 0), (5, 0)],
-            "held from 10 7@4 7@20",
-        ),
-        (&[(7, 12)], &[(7, 0)], "held from 12 7@12 7@20"),
-        (&[], &[], "from 0 7@20"),
-    ];
-    for (tokens, needed, text) in table {
-        let told = told(rt.alloc(), tokens, needed)?;
-        assert_eq!(rt; told.as_str(), text);
+    for row in TABLE.lines() {
+        assert!(rt; holds(rt.alloc(), row)?, "{row}");
     }
     Ok(())
 }
 
-// A token of each of a thousand values and one, and the needs for all of them.
-#[test]
-fn many_needs_are_covered(rt: HostRuntime) -> Result<(), Fail> {
-    let alloc = rt.alloc();
+// The needs for a token of each of a thousand values and one.
+fn many_needs(alloc: Global) -> Result<Needs, Memory> {
     let mut needs = Needs::new(alloc);
-    let mut outputs = Outputs::new(alloc);
     for number in 0..1_001 {
-        let value = Value::Int(number);
         needs.add(Needed {
             place: 0,
-            value: value.copy()?,
+            value: Value::Int(number),
             offset: 0,
         })?;
+    }
+    Ok(needs)
+}
+
+// These tokens.
+fn many_made(alloc: Global) -> Result<Outputs, Memory> {
+    let mut outputs = Outputs::new(alloc);
+    for number in 0..1_001 {
         outputs.add(Made {
             place: 0,
-            value,
+            value: Value::Int(number),
             stamp: 3,
         })?;
     }
+    Ok(outputs)
+}
+
+fn many_tokens(alloc: Global) -> Result<PlainMarking, Memory> {
     let mut marking = PlainMarking::new(alloc, 1)?;
-    marking.add_made(outputs)?;
+    marking.add_made(many_made(alloc)?)?;
+    Ok(marking)
+}
+
+// Whether the tokens of a marking cover the needs from 3 on, and none is left when they are taken, but in a copy all.
+fn are_covered(marking: &mut PlainMarking, needs: &Needs) -> Result<bool, Memory> {
     let copy = marking.copy()?;
-    assert_eq!(rt; marking.earliest(&needs), Some(3));
-    marking.subtract(&needs, 10);
-    assert_eq!(rt; marking.get(0).map_or(7, |tokens| tokens.len()), 0);
-    assert_eq!(rt; copy.get(0).map_or(7, |tokens| tokens.len()), 1_001);
+    let is_covered = marking.earliest(needs) == Some(3);
+    marking.subtract(needs, 10);
+    Ok(is_covered && count_on(marking, 0) == 0 && count_on(&copy, 0) == 1_001)
+}
+
+#[test]
+fn many_needs_are_covered(rt: HostRuntime) -> Result<(), Fail> {
+    let mut marking = many_tokens(rt.alloc())?;
+    let needs = many_needs(rt.alloc())?;
+    assert!(rt; are_covered(&mut marking, &needs)?);
     Ok(())
 }

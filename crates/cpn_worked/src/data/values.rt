@@ -1,39 +1,76 @@
 //! How many nodes values have, and their copies.
 
-use cpn_core::{Memory, Text, Value, Values, copy_values};
+use super::{applied, text};
+use cpn_core::{Memory, Value, Values, copy_values};
 use std::alloc::Global;
 use std::test::Fail;
 
-// A list of a thousand items and one, and a string of five thousand bytes.
-fn long_values(alloc: Global) -> Result<Values, Memory> {
+// A list of a thousand items and one.
+fn long_list(alloc: Global) -> Result<Value, Memory> {
     let mut items = Vec::new(alloc);
     for number in 0..1_001 {
         items.push(Value::Int(number))?;
     }
-    let mut text = Text::new(alloc);
-    text.push(&vec![in alloc; b'a'; 5_000]?)?;
-    Ok(vec![in alloc; Value::List(items), Value::Text(text)]?)
+    Ok(Value::List(items))
+}
+
+// A string of five thousand bytes.
+fn long_text(alloc: Global) -> Result<Value, Memory> {
+    let bytes = vec![in alloc; b'a'; 5_000]?;
+    text(alloc, &bytes)
+}
+
+fn long_values(alloc: Global) -> Result<Values, Memory> {
+    let text = long_text(alloc)?;
+    let list = long_list(alloc)?;
+    Ok(vec![in alloc; list, text]?)
+}
+
+// A copy of these.
+fn long_tuple(alloc: Global) -> Result<Value, Memory> {
+    let long = long_values(alloc)?;
+    Ok(Value::Tuple(copy_values(&long)?))
+}
+
+// A constructor with the integer 7 and a string of three bytes.
+fn constructed(alloc: Global) -> Result<Value, Memory> {
+    let name = text(alloc, b"abc")?;
+    let items = vec![in alloc; Value::Int(7), name]?;
+    applied(alloc, 1, Value::Tuple(items))
+}
+
+fn list(alloc: Global) -> Result<Value, Memory> {
+    let first = constructed(alloc)?;
+    Ok(Value::List(vec![in alloc; first, Value::Con(0, None)]?))
+}
+
+fn value_of(alloc: Global, name: &str) -> Result<Value, Memory> {
+    match name {
+        "unit" => Ok(Value::Unit),
+        "truth" => Ok(Value::Bool(true)),
+        "constant" => Ok(Value::Enum(4)),
+        "list" => list(alloc),
+        _ => long_tuple(alloc),
+    }
+}
+
+// Whether a value has so many nodes, and is as its copy is.
+fn is_counted(alloc: Global, name: &str, nodes: u64) -> Result<bool, Memory> {
+    let value = value_of(alloc, name)?;
+    Ok(value.nodes() == nodes && value.copy()? == value)
 }
 
 #[test]
 fn nodes_are_counted_and_copied(rt: HostRuntime) -> Result<(), Fail> {
-    let alloc = rt.alloc();
-    let mut name = Text::new(alloc);
-    name.push(b"abc")?;
-    let items = vec![in alloc; Value::Int(7), Value::Text(name)]?;
-    let argument = Box::new(alloc, Value::Tuple(items))?;
-    let list = vec![in alloc; Value::Con(1, Some(argument)), Value::Con(0, None)]?;
-    let long = long_values(alloc)?;
-    let cases = [
-        (Value::Unit, 1),
-        (Value::Bool(true), 1),
-        (Value::Enum(4), 1),
-        (Value::List(list), 9),
-        (Value::Tuple(copy_values(&long)?), 6_004),
+    let table = [
+        ("unit", 1),
+        ("truth", 1),
+        ("constant", 1),
+        ("list", 9),
+        ("long tuple", 6_004),
     ];
-    for (case, nodes) in cases {
-        assert_eq!(rt; case.nodes(), nodes);
-        assert!(rt; case.copy()? == case);
+    for (name, nodes) in table {
+        assert!(rt; is_counted(rt.alloc(), name, nodes)?, "{name}");
     }
     Ok(())
 }

@@ -1,5 +1,5 @@
 -- The next place gets the tokens of its initial marking, or is refused.
-use Rattle.std.proofs.Common.{◌≡◌, ◌∙◌, [], get_or, ap, arith}
+use Rattle.std.proofs.Common.{arith}
 use Rattle.std.proofs.lemmas.Result.{err_from_is_err_and}
 use Rattle.cpn_core.specs.Nets.{net_view}
 use Rattle.cpn_file.specs.Answers.{load_refusal_of}

@@ -1,5 +1,5 @@
 -- What the check refuses is refused where it stands.
-use Rattle.cpn_trees.specs.ParsedViews.{inscription_view, guard_view}
+use Rattle.cpn_trees.specs.ParsedViews.{inscription_view}
 use Rattle.cpn_core.specs.Colours.{colour_view}
 use Rattle.cpn_declared.specs.Answers.{refusal_of}
 use Rattle.cpn_declared.specs.DeclsViews.{decls_view}
@@ -7,7 +7,7 @@ use Rattle.cpn_typing.specs.Multisets.{checked_init}
 use Rattle.cpn_file.specs.Answers.{load_refusal_of}
 use Rattle.cpn_file.specs.Accepted.{initial_at}
 use Rattle.cpn_document.specs.declared.refusals.Pointer.TheVariants.{Initial}
-use Rattle.cpn_file.proofs.CheckedTexts.{refused_there, refused_then}
+use Rattle.cpn_file.proofs.CheckedTexts.{refused_then}
 use Rattle.cpn_file.proofs.places.written_initial.Goals as goal
 
 pub returns-in-Err-check_init : goal.returns-in-Err-check_init

@@ -1,6 +1,6 @@
 -- Those that were seen pass, so those that are left decide.
-use Rattle.std.proofs.Common.{◌≡◌, drop, map, not}
-use Rattle.std.specs.List.{list_all, list_any}
+use Rattle.std.proofs.Common.{◌≡◌, drop}
+use Rattle.std.specs.List.{list_all}
 use Rattle.cpn_core.specs.Nets.{transition_view}
 use Rattle.cpn_definitions.specs.Lone.{stands_alone}
 use Rattle.cpn_file.proofs.served.are_alone.Given as goal

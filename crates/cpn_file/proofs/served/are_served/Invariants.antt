@@ -1,6 +1,6 @@
 -- Those that were seen pass, so those that are left decide.
-use Rattle.std.proofs.Common.{◌≡◌, drop, map, not}
-use Rattle.std.specs.List.{list_all, list_any}
+use Rattle.std.proofs.Common.{◌≡◌, drop, map}
+use Rattle.std.specs.List.{list_all}
 use Rattle.cpn_core.specs.Nets.{transition_view}
 use Rattle.cpn_file.specs.Served.{is_served_transition}
 use Rattle.cpn_file.proofs.served.are_served.Given as goal

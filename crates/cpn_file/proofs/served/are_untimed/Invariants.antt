@@ -1,6 +1,6 @@
 -- Those that were seen pass, so those that are left decide.
 use Rattle.std.proofs.Common.{◌≡◌, drop, map, not}
-use Rattle.std.specs.List.{list_all, list_any}
+use Rattle.std.specs.List.{list_all}
 use Rattle.cpn_core.specs.Nets.{place_view}
 use Rattle.cpn_file.proofs.served.are_untimed.Given as goal
 

@@ -1,6 +1,6 @@
 -- None of those that were seen is the variable, so those that are left decide.
-use Rattle.std.proofs.Common.{◌≡◌, drop, map, not}
-use Rattle.std.specs.List.{list_all, list_any}
+use Rattle.std.proofs.Common.{◌≡◌, drop}
+use Rattle.std.specs.List.{list_any}
 use Rattle.cpn_core.specs.Nets.{arcs_view}
 use Rattle.cpn_definitions.specs.Lone.{is_variable}
 use Rattle.cpn_file.proofs.served.stands_alone.Given as goal

@@ -1,13 +1,12 @@
 -- What the check refuses is refused where it stands.
-use Rattle.cpn_trees.specs.ParsedViews.{inscription_view, guard_view}
-use Rattle.cpn_core.specs.Colours.{colour_view}
+use Rattle.cpn_trees.specs.ParsedViews.{inscription_view}
 use Rattle.cpn_declared.specs.Answers.{refusal_of}
 use Rattle.cpn_declared.specs.DeclsViews.{decls_view}
 use Rattle.cpn_typing.specs.GuardsAndDelays.{checked_delay}
 use Rattle.cpn_file.specs.Answers.{load_refusal_of}
 use Rattle.cpn_file.specs.Accepted.{delay_at}
 use Rattle.cpn_document.specs.declared.refusals.Pointer.TheVariants.{Delay}
-use Rattle.cpn_file.proofs.CheckedTexts.{refused_there, refused_then}
+use Rattle.cpn_file.proofs.CheckedTexts.{refused_then}
 use Rattle.cpn_file.proofs.transitions.written_delay.Goals as goal
 
 pub returns-in-Err-check_delay : goal.returns-in-Err-check_delay

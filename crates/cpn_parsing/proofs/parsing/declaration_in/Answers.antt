@@ -6,25 +6,18 @@ use Rattle.cpn_syntax.specs.Declarations.{SpellsDecl}
 use Rattle.cpn_trees.specs.Depth.{decl_depth}
 use Rattle.cpn_trees.specs.ParsedViews.{declaration_view}
 use Rattle.cpn_parsing.specs.Parsing.{IsParsedAs}
-use Rattle.cpn_parsing.proofs.Parsings.{IsLexedOnce, tree_answer, lexical_refusal, syntactic_refusal, if_unlexed, if_unspelled}
+use Rattle.cpn_parsing.proofs.Parsings.{IsLexedOnce, lexical_refusal, if_unlexed, if_spelled}
 use Rattle.cpn_parsing.proofs.parsing.declaration_in.Goals as goal
-
-pub returns-in-Ok-parse_decl : goal.returns-in-Ok-parse_decl
-returns-in-Ok-parse_decl c =
-    let once : IsLexedOnce c.as_bytes.result.now = record { one_list = c.lex.ensures.one_list; one_rule = c.lex.ensures.one_rule; not_both = c.lex.ensures.not_both } in
-    record {
-      parsed = rw (← c.as_bytes.ensures.value) (tree_answer SpellsDecl decl_depth c.as_bytes.result.now once (tokens_view c.in-Ok.tokens.items) (declaration_view c.in-Ok-parse_decl.tree) c.in-Ok.ensures.ok (λ more. let e = c.in-Ok.ensures.too_long.1 more in cc) c.in-Ok-parse_decl.ensures.tree c.in-Ok-parse_decl.ensures.only c.in-Ok-parse_decl.ensures.shallow);
-    }
 
 pub returns-in-Ok : goal.returns-in-Ok
 returns-in-Ok c =
     let once : IsLexedOnce c.as_bytes.result.now = record { one_list = c.lex.ensures.one_list; one_rule = c.lex.ensures.one_rule; not_both = c.lex.ensures.not_both } in
     record {
-      parsed = rw (← c.as_bytes.ensures.value) (if_unspelled declaration_view (IsParsedAs SpellsDecl decl_depth c.as_bytes.result.now) c.unspelled.result c.in-Err-parse_decl.error c.unspelled.ensures (syntactic_refusal SpellsDecl decl_depth c.as_bytes.result.now once (tokens_view c.in-Ok.tokens.items) c.in-Err-parse_decl.error c.in-Ok.ensures.ok (λ more. let e = c.in-Ok.ensures.too_long.1 more in cc) c.in-Err-parse_decl.ensures.refused));
+      parsed = rw (← c.as_bytes.ensures.value) (if_spelled declaration_view SpellsDecl decl_depth c.as_bytes.result.now once (tokens_view c.in-Ok.tokens.items) c.in-Ok.ensures.ok (λ more. let e = c.in-Ok.ensures.too_long.1 more in cc) c.parse_decl.result c.spelled.result c.parse_decl.ensures c.spelled.ensures);
     }
 
-pub returns : goal.returns
-returns c =
+pub returns-in-Err : goal.returns-in-Err
+returns-in-Err c =
     let once : IsLexedOnce c.as_bytes.result.now = record { one_list = c.lex.ensures.one_list; one_rule = c.lex.ensures.one_rule; not_both = c.lex.ensures.not_both } in
     record {
       parsed = rw (← c.as_bytes.ensures.value) (if_unlexed declaration_view (IsParsedAs SpellsDecl decl_depth c.as_bytes.result.now) c.unlexed.result c.in-Err.error c.unlexed.ensures (lexical_refusal SpellsDecl decl_depth c.as_bytes.result.now once c.in-Err.error (λ at is. c.in-Err.ensures.bad_byte at (ap Err is)) (λ at is. c.in-Err.ensures.open_string at (ap Err is)) (λ at is. c.in-Err.ensures.number_too_large at (ap Err is)) (λ is. c.in-Err.ensures.too_long.0 (ap Err is), λ more. let e = c.in-Err.ensures.too_long.1 more in cc)));

@@ -1,6 +1,6 @@
 -- The arc has both delays.
-use Rattle.std.proofs.Common.{◌≡◌, ◌∙◌, ap, ap₂, refl, Box, Global, rules}
-use Rattle.cpn_definitions.specs.Inscription.{one, later, the_time}
+use Rattle.std.proofs.Common.{◌≡◌, ℕ, ◌∙◌, ap, ap₂, refl, Box, Global, rules}
+use Rattle.cpn_definitions.specs.Inscription.{variable, one, later, the_time}
 use Rattle.cpn_core.specs.declared.inscriptions.Expr.{Expr, the_lemmas as forms}
 use Rattle.cpn_core.specs.declared.inscriptions.Expr.TheVariants as exprs
 use Rattle.cpn_core.specs.declared.inscriptions.MExpr.{MExpr, the_lemmas}
@@ -18,9 +18,12 @@ later_is m d = search (rules, the_lemmas)
 time_is : expr_view exprs.Time ≡ the_time
 time_is = search (rules, forms)
 
+variable_is : (x : ℕ) → expr_view (exprs.Var x) ≡ variable x
+variable_is x = search (rules, forms)
+
 pub returns : goal.returns
 returns c =
-    let first = ap multiset_view c.in_ok-token.ensures.ok ∙ token_is c.args.expr in
+    let first = ap multiset_view c.in_ok-token.ensures.ok ∙ token_is (exprs.Var c.args.number) ∙ ap one (variable_is c.args.number) in
     let second = ap multiset_view c.in_ok-later.ensures.ok ∙ later_is c.in_ok-token.token exprs.Time ∙ ap₂ later first time_is in
-    let both = later_is c.in_ok-later.later c.args.delay ∙ ap (λ m. later m (expr_view c.args.delay)) second in
+    let both = later_is c.in_ok-later.later (exprs.Var c.args.delay) ∙ ap₂ later second (variable_is c.args.delay) in
     record { arc = rw (c.digits.ensures.colour, both, c.new-3.ensures.items) refl }

@@ -5,7 +5,7 @@ use Rattle.cpn_core.specs.declared.inscriptions.Expr.TheViews as exprs
 use Rattle.cpn_core.specs.Inscriptions.{op_view, expr_view, exprs_view}
 use Rattle.cpn_eval.specs.Frames.{after_outcome, meant_at, locals_of}
 use Rattle.cpn_levels.proofs.InscriptionLevels.{view_op, view_tuple, view_list, view_call, view_applied, view_and, view_or, view_if, view_case, view_let, view_fold}
-use Rattle.cpn_eval.proofs.Turns.{goes_same, parts_goes, argument_goes, also_goes, otherwise_goes, if_goes, let_goes, case_goes, begin_fold_goes}
+use Rattle.cpn_eval.proofs.Turns.{goes_same, all_parts_goes, argument_goes, also_goes, otherwise_goes, if_goes, let_goes, case_goes, begin_fold_goes}
 use Rattle.cpn_eval.proofs.frames.Machine.open.Goals as goal
 
 pub returns-in-Op : goal.returns-in-Op
@@ -17,15 +17,15 @@ returns-in-Op c =
 
 pub returns-in-Tuple : goal.returns-in-Tuple
 returns-in-Tuple c =
-    goes_same c.args.world.now c.parts.new.self c.parts.result _ _ (parts_goes c.args.world.now c.args.self.now tupling c.new.result.items c.deref-in-Tuple.result.now c.in-Tuple.parts.items (expr_view c.args.expr.now) c.new.ensures.items c.deref-in-Tuple.ensures.value (ap expr_view c.in-Tuple.is ∙ view_tuple c.in-Tuple.parts)) c.parts.ensures
+    goes_same c.args.world.now c.all_parts.new.self c.all_parts.result _ _ (all_parts_goes c.args.world.now c.args.self.now tupling c.deref-in-Tuple.result.now c.in-Tuple.parts.items (expr_view c.args.expr.now) c.deref-in-Tuple.ensures.value (ap expr_view c.in-Tuple.is ∙ view_tuple c.in-Tuple.parts)) c.all_parts.ensures
 
 pub returns-in-List : goal.returns-in-List
 returns-in-List c =
-    goes_same c.args.world.now c.parts-in-List.new.self c.parts-in-List.result _ _ (parts_goes c.args.world.now c.args.self.now listing c.new-in-List.result.items c.deref-in-List.result.now c.in-List.parts.items (expr_view c.args.expr.now) c.new-in-List.ensures.items c.deref-in-List.ensures.value (ap expr_view c.in-List.is ∙ view_list c.in-List.parts)) c.parts-in-List.ensures
+    goes_same c.args.world.now c.all_parts-in-List.new.self c.all_parts-in-List.result _ _ (all_parts_goes c.args.world.now c.args.self.now listing c.deref-in-List.result.now c.in-List.parts.items (expr_view c.args.expr.now) c.deref-in-List.ensures.value (ap expr_view c.in-List.is ∙ view_list c.in-List.parts)) c.all_parts-in-List.ensures
 
 pub returns-in-Call : goal.returns-in-Call
 returns-in-Call c =
-    goes_same c.args.world.now c.parts-in-Call.new.self c.parts-in-Call.result _ _ (parts_goes c.args.world.now c.args.self.now (calling c.in-Call.function) c.new-in-Call.result.items c.deref-in-Call.result.now c.in-Call.parts.items (expr_view c.args.expr.now) c.new-in-Call.ensures.items c.deref-in-Call.ensures.value (ap expr_view c.in-Call.is ∙ view_call c.in-Call.function c.in-Call.parts)) c.parts-in-Call.ensures
+    goes_same c.args.world.now c.all_parts-in-Call.new.self c.all_parts-in-Call.result _ _ (all_parts_goes c.args.world.now c.args.self.now (calling c.in-Call.function) c.deref-in-Call.result.now c.in-Call.parts.items (expr_view c.args.expr.now) c.deref-in-Call.ensures.value (ap expr_view c.in-Call.is ∙ view_call c.in-Call.function c.in-Call.parts)) c.all_parts-in-Call.ensures
 
 pub returns-in-If : goal.returns-in-If
 returns-in-If c =

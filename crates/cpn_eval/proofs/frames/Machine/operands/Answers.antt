@@ -1,16 +1,11 @@
 -- An operation means what it gives for its parts.
-use Rattle.std.proofs.Common.{refl}
 use Rattle.cpn_definitions.specs.Inscription.{operation, apply}
 use Rattle.cpn_core.specs.Inscriptions.{op_view, expr_view, exprs_view}
 use Rattle.cpn_core.specs.Views.{value_view}
 use Rattle.cpn_eval.specs.Frames.{meant_at, locals_of}
 use Rattle.cpn_eval.proofs.LeafOperands.{beside_goes, local_goes}
-use Rattle.cpn_eval.proofs.Turns.{goes_same, parts_goes}
+use Rattle.cpn_eval.proofs.Turns.{goes_same}
 use Rattle.cpn_eval.proofs.frames.Machine.operands.Goals as goal
-
-pub returns-in-None-beside_local : goal.returns-in-None-beside_local
-returns-in-None-beside_local c =
-    goes_same c.args.world.now c.parts.new.self c.parts.result _ _ (parts_goes c.args.world.now c.args.self.now (operation (op_view c.args.op)) c.new.result.items c.args.parts.now c.args.parts.now (apply (operation (op_view c.args.op)) (exprs_view c.args.parts.now)) c.new.ensures.items refl refl) c.parts.ensures
 
 pub returns-in-Some : goal.returns-in-Some
 returns-in-Some c =

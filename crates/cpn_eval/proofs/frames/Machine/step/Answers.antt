@@ -1,8 +1,11 @@
 -- The next item of a fold is taken with what was made before it.
-use Rattle.std.proofs.Common.{refl, ap, ◌∙◌, rules, ◌++◌, ◌∷◌, []}
+use Rattle.std.proofs.Common.{map, refl, ap, ◌∙◌, rules, ◌++◌, ◌∷◌, []}
+use Rattle.cpn_core.specs.Views.{value_view}
 use Rattle.cpn_core.specs.Inscriptions.{expr_view}
 use Rattle.cpn_eval.specs.declared.frames.Frame.TheVariants as frames
-use Rattle.cpn_eval.proofs.Turns.{fold_goes}
+use Rattle.cpn_eval.specs.Held.{held_view}
+use Rattle.cpn_eval.specs.Frames.{steps, folded, locals_of}
+use Rattle.cpn_eval.proofs.Turns.{back_goes, fold_goes}
 use Rattle.cpn_eval.proofs.frames.Machine.step.Goals as goal
 
 pub returns : goal.returns
@@ -13,3 +16,4 @@ returns c =
     refl
     (search rules)
     c.in-Some.ensures.items
+    ∙ back_goes c.args.world.now c.args.self.now (steps (map value_view c.args.items.items) (expr_view c.args.body.now)) (held_view c.args.value) (folded c.args.world.now c.args.self.now.visible (locals_of c.args.self.now) (expr_view c.args.body.now) (map value_view c.args.items.items) (held_view c.args.value)) refl

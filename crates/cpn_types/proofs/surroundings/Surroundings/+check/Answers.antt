@@ -1,6 +1,6 @@
 -- Each form is checked by its rule, over its parts.
 use Rattle.std.proofs.lemmas.Result.{err_from_is_err_and}
-use Rattle.std.proofs.Common.{◌∙◌, ◌++◌, map, arith, length, sym, ap, subst, rules, refl, option_map, drop, ◌+◌, ◌-◌}
+use Rattle.std.proofs.Common.{◌∙◌, [], ◌∷◌, ◌++◌, map, arith, length, sym, ap, subst, rules, refl, option_map, drop, ◌+◌, ◌-◌}
 use Rattle.cpn_trees.specs.AstViews.{local_view, locals_from, arms_from, ast_view}
 use Rattle.cpn_typing.specs.Expressions.{typed_let, typed_arms, typed_parts, typed_form, spot_at, typed_items}
 use Rattle.cpn_declared.specs.DeclsViews.{decls_view}
@@ -10,7 +10,7 @@ use Rattle.cpn_forms.specs.FormViews.{wanted_view, spot_view}
 use Rattle.cpn_types.specs.Around.{typed_then, arguments_in, typed_in}
 use Rattle.cpn_types.proofs.ValueFronts.{values_step, take_front, further_front}
 use Rattle.cpn_core.specs.Inscriptions.{expr_view}
-use Rattle.cpn_typing.specs.Names.{ok, ◌>>=◌, found}
+use Rattle.cpn_typing.specs.Names.{ok, ◌>>=◌, found, local_of}
 use Rattle.cpn_declared.specs.Answers.{Answers, refusal_of}
 use Rattle.cpn_forms.specs.Calls.{tuple_made, function_makes}
 use Rattle.cpn_declared.specs.TypeViews.{ty_view, tys_view}
@@ -22,7 +22,7 @@ use Rattle.cpn_trees.specs.Trees.{asts_from}
 use Rattle.cpn_typing.specs.Rules.{call_rule, called_as, part}
 use Rattle.cpn_forms.specs.TypedViews.{typed_view}
 use Rattle.cpn_types.proofs.FormRules.{infix_apart}
-use Rattle.cpn_types.proofs.FormViews.{call_is, let_is, infix_is, if_is, fold_is}
+use Rattle.cpn_types.proofs.FormViews.{call_is, let_is, prefix_is, infix_is, if_is, case_is, fold_is}
 use Rattle.cpn_types.proofs.Fronts.{items_step, items_done, parts_step, parts_done}
 use Rattle.cpn_trees.specs.AstViews as trees
 use Rattle.cpn_core.specs.Inscriptions as inscriptions
@@ -111,6 +111,18 @@ form-returns-in-If-clause-exact t c =
     (sym (if_is c.args.form.now c.in-If.condition c.in-If.consequence c.in-If.alternative c.deref-in-If.result.now c.deref-in-If-2.result.now c.deref-in-If-3.result.now c.in-If.is c.deref-in-If.ensures c.deref-in-If-2.ensures c.deref-in-If-3.ensures))
     c.branches.ensures.exact
 
+pub form-returns-in-Prefix-clause-exact : goal.form-returns-in-Prefix-clause-exact
+form-returns-in-Prefix-clause-exact t c =
+    subst (λ f. Answers typed_view c.prefix.result (typed_form (decls_view c.args.self.now.decls.now) (place_view c.args.self.now.place) f c.args.at (scope_view c.args.scope.now.items) (wanted_view c.args.wanted)))
+    (sym (prefix_is c.args.form.now c.in-Prefix.operator c.in-Prefix.operand c.deref-in-Prefix.result.now c.in-Prefix.is c.deref-in-Prefix.ensures))
+    c.prefix.ensures.exact
+
+pub form-returns-in-Case-clause-exact : goal.form-returns-in-Case-clause-exact
+form-returns-in-Case-clause-exact t c =
+    subst (λ f. Answers typed_view c.case.result (typed_form (decls_view c.args.self.now.decls.now) (place_view c.args.self.now.place) f c.args.at (scope_view c.args.scope.now.items) (wanted_view c.args.wanted)))
+    (sym (case_is c.args.form.now c.in-Case.subject c.in-Case.arms c.deref-in-Case.result.now c.deref-in-Case-2.result.now c.in-Case.is c.deref-in-Case.ensures c.deref-in-Case-2.ensures.value))
+    c.case.ensures.exact
+
 pub form-returns-in-Fold-clause-exact : goal.form-returns-in-Fold-clause-exact
 form-returns-in-Fold-clause-exact t c =
     subst (λ f. Answers typed_view c.fold.result (typed_form (decls_view c.args.self.now.decls.now) (place_view c.args.self.now.place) f c.args.at (scope_view c.args.scope.now.items) (wanted_view c.args.wanted)))
@@ -147,9 +159,9 @@ parts-returns-clause-exact t c =
 pub fold-returns-in_err-body-clause-exact : goal.fold-returns-in_err-body-clause-exact
 fold-returns-in_err-body-clause-exact t c =
     let p = err_from_is_err_and c.from_residual-in_err-body.result c.from_residual-in_err-body.ensures.1 in
-    rw (p.1, p.2) (fold_refused (refusal_of c.in_err-body.field-0.0) c.args.self.now c.args.item.now c.args.total.now c.args.list.now c.args.start.now c.args.body.now c.args.scope.now.items (wanted_view c.args.wanted) (typed_view c.in_ok-list_typed.list_typed) (typed_view c.in_ok-start.start) (ty_view c.in_ok-item_type.item_type) (scope_view c.typed-2.new.scope.items ++ scope_view c.in_ok-locals.locals.items)
+    rw (p.1, p.2) (fold_refused (refusal_of c.in_err-body.field-0.0) c.args.self.now c.args.item.now c.args.total.now c.args.list.now c.args.start.now c.args.body.now c.args.scope.now.items (wanted_view c.args.wanted) (typed_view c.in_ok-list_typed.list_typed) (typed_view c.in_ok-start.start) (ty_view c.in_ok-item_type.item_type) (scope_view c.typed-2.new.scope.items ++ local_of c.args.item.now (ty_view c.in_ok-item_type.item_type) ∷ local_of c.args.total.now (ty_view c.in_ok-start.start.ty) ∷ [])
     c.in_ok-list_typed.ensures.exact
-    (c.in_ok-item_of.ensures.exact ∙ ap ok (sym c.in_ok-item_type.ensures.same))
+    c.in_ok-item_type.ensures.exact
     (ap (λ s. typed_in c.args.self.now c.args.start.now s (wanted_view c.args.wanted)) (sym c.typed.ensures.locals) ∙ c.in_ok-start.ensures.exact)
-    (ap (λ s. scope_view s ++ scope_view c.in_ok-locals.locals.items) (c.typed-2.ensures.locals ∙ c.typed.ensures.locals) ∙ ap (λ l. scope_view c.args.scope.now.items ++ l) c.in_ok-locals.ensures.locals)
+    (ap (λ s. scope_view s ++ local_of c.args.item.now (ty_view c.in_ok-item_type.item_type) ∷ local_of c.args.total.now (ty_view c.in_ok-start.start.ty) ∷ []) (c.typed-2.ensures.locals ∙ c.typed.ensures.locals))
     c.in_err-body.ensures.exact)

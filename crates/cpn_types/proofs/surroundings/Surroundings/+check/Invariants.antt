@@ -65,14 +65,23 @@ decreases-parts l = 4 * most size-Ast l.parts.now + 1
 abbrev pub decreases-items : goal.decreases-items
 decreases-items l = 4 * most size-Ast l.items.now + 1
 
+abbrev pub decreases-prefix : goal.decreases-prefix
+decreases-prefix l = 4 * size-Ast l.operand.now + 1
+
 abbrev pub decreases-infix : goal.decreases-infix
-decreases-infix l = 4 * max (size-Ast l.left.now) (size-Ast l.right.now) + 1
+decreases-infix l = 4 * max (size-Ast l.left.now) (size-Ast l.right.now) + 2
+
+abbrev pub decreases-operands : goal.decreases-operands
+decreases-operands l = 4 * max (size-Ast l.former.now) (size-Ast l.latter.now) + 1
 
 abbrev pub decreases-branches : goal.decreases-branches
 decreases-branches l = 4 * max (size-Ast l.condition.now) (max (size-Ast l.left.now) (size-Ast l.right.now)) + 2
 
 abbrev pub decreases-sides : goal.decreases-sides
 decreases-sides l = 4 * max (size-Ast l.left.now) (size-Ast l.right.now) + 1
+
+abbrev pub decreases-case : goal.decreases-case
+decreases-case l = 4 * max (size-Ast l.subject.now) (most size-Arm l.arms.now) + 2
 
 abbrev pub decreases-arms : goal.decreases-arms
 decreases-arms l = 4 * most size-Arm l.arms.now + 1
@@ -87,7 +96,10 @@ abbrev pub decreases-among_values : goal.decreases-among_values
 decreases-among_values l = 4 * max (most size-LocalValue l.values.now) (size-Ast l.body.now) + 1
 
 abbrev pub decreases-fold : goal.decreases-fold
-decreases-fold l = 4 * max (size-Ast l.list.now) (max (size-Ast l.start.now) (size-Ast l.body.now)) + 2
+decreases-fold l = 4 * max (size-Ast l.list.now) (max (size-Ast l.start.now) (size-Ast l.body.now)) + 3
+
+abbrev pub decreases-fold_body : goal.decreases-fold_body
+decreases-fold_body l = 4 * size-Ast l.body.now + 2
 
 abbrev pub decreases-call : goal.decreases-call
 decreases-call l = 4 * most size-Ast l.arguments.now.items + 3

@@ -1,0 +1,16 @@
+-- What is left of a quotient is the definition's.
+use Rattle.std.proofs.Common.{pos, ◌<ℤ◌, rules, arith}
+use Rattle.cpn_eval.proofs.Division.{rest_by_positive, rest_by_negative}
+use Rattle.cpn_eval.proofs.arithmetic.remainder.Goals as goal
+
+pub returns-then-right-gt0 : goal.returns-then-right-gt0
+returns-then-right-gt0 c =
+    let positive : pos 0 <ℤ c.args.right = search rules in
+    let rest = rest_by_positive c.args.left c.args.right c.rem_euclid.result positive (search rules) in
+    record { remainder = rw rest (search rules) }
+
+pub returns-else-right-gt0 : goal.returns-else-right-gt0
+returns-else-right-gt0 c =
+    let negative : c.args.right <ℤ pos 0 = search (rules, arith) in
+    let rest = rest_by_negative c.args.left c.args.right c.rest_by_negative.result negative (search rules) in
+    record { remainder = rw rest (search rules) }
