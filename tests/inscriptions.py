@@ -11,17 +11,20 @@ PLACE   decl            a further declaration, behind the others
         both COLOUR     an arc both ways instead
         guard           the guard of t
         delay           the delay of t
-ANSWER  TOKENS          the document is served, and these tokens are on Here at the end
-        ok              it is served, and there is 1`7 on Here, as without the text
-        idle            it is served, and t is not enabled, as there is no token on Here
+ANSWER  TOKENS          the document is served, t occurs once, and these tokens are on Here at the end
+        ok              the same with 1`7 on Here, as without the text
+        .. of N         the same, and t is enabled with N bindings at first. They are ordered by their values, numbered from 0,
+                        and word 0 of seed 0, which is 2354861276966075475, modulo N is the number of the one that occurs
+        idle            it is served, and t is not enabled
         fault NAME      the inscription of the arc, or the initial marking, has that fault
-        not yet         the text is accepted, but the document is not served: error document 7 not_yet
+        not yet         the text is accepted, but the net is not served: error document 7 not_yet
         PART K NAME ..  the text is refused: error inscription POINTER PART K NAME .., with the pointer of the text, or with
                         that of t where its variables are refused
 
 A line `declared: DECLARATION; DECLARATION; ..` puts declarations behind those of the net, for the rows that follow it, up to
-a blank line; each ends with its `;`, and no other `;` stands in it. A line that begins with # is a comment. In declarations
-and texts \\xNN stands for a byte, and <1..3: a#> stands for a1a2a3.
+a blank line; each ends with its `;`, and no other `;` stands in it. A line `tokens: TOKENS` makes these the initial marking of
+Here, written as a report prints it, for the rows that follow it, up to a blank line or the next such line. A line that begins
+with # is a comment. In declarations, texts and answers \\xNN stands for a byte, and <1..3: a#> stands for a1a2a3.
 """
 import json
 import re
@@ -41,6 +44,7 @@ TOKENS = {
     "d": "2",
     "u": "()",
 }
+WAYS = re.compile(r"(.*) of (\d+)")
 ELEMENT = "Top/t {" + ", ".join(f"{name}={value}" for name, value in TOKENS.items()) + "}"
 ARC = "/modules/0/arcs/0/expr"
 POINTERS = {
@@ -56,27 +60,29 @@ OF_VARIABLES = re.compile(r"type (5 not_bindable|8 too_many variables)\b")
 
 
 class Row:
-    """A row, with the declarations above it."""
+    """A row, with the declarations and the tokens above it."""
 
-    def __init__(self, place, declared, line):
+    def __init__(self, place, declared, tokens, line):
         found = ROW.fullmatch(line)
         if not found:
             raise ValueError(f"{place}: no row: {line}")
-        self.place, self.line, self.declared = place, line, declared
+        self.place, self.line, self.declared, self.tokens = place, line, declared, tokens
         self.kind, _, self.colour = found[1].partition(" ")
         self.text, self.answer = found[2], found[3]
 
 
 def rows_of(name, lines):
     """Yields the rows of some lines, which are numbered."""
-    declared = []
+    declared, tokens = [], None
     for number, line in lines:
         if not line:
-            declared = []
+            declared, tokens = [], None
         elif line.startswith("declared: "):
             declared = [*declared, line.removeprefix("declared: ")]
+        elif line.startswith("tokens: "):
+            tokens = line.removeprefix("tokens: ")
         elif not line.startswith("#"):
-            yield Row(f"{name}:{number}", declared, line)
+            yield Row(f"{name}:{number}", declared, tokens, line)
 
 
 def document_of(row, net, written):
@@ -92,6 +98,8 @@ def document_of(row, net, written):
         document["declarations"] += re.findall(r"[^\s;][^;]*;", text(" ".join(row.declared)))
     if row.colour:
         here["colour"] = row.colour
+    if row.tokens:
+        here["initial"] = row.tokens
     if row.kind == "decl":
         document["declarations"].append(text(row.text))
     elif row.kind == "colour":
@@ -108,9 +116,11 @@ def document_of(row, net, written):
     return document
 
 
-def answer_of(row, document):
-    """Returns what the row's document prints without a trace, and the exit status."""
-    answer = row.answer
+def answer_of(row, document, written):
+    """Returns what the row's document prints without a trace, and the exit status; `written` is as above."""
+    answer, ways = written(row.answer).decode(), 1
+    if found := WAYS.fullmatch(answer):
+        answer, ways = found[1], int(found[2])
     if answer == "not yet":
         return "error document 7 not_yet\n", 3
     if re.match("(lex|syntax|type) ", answer):
@@ -119,10 +129,10 @@ def answer_of(row, document):
         name = answer.removeprefix("fault ")
         if row.kind == "init":
             return f"error net flat 4 init Top/Here {name}\n", 5
-        return report_of(f"fault {FAULTS.index(name) + 1} {name} {ELEMENT}", "empty", False, True), 6
+        return report_of(f"fault {FAULTS.index(name) + 1} {name} {ELEMENT}", row.tokens or "empty", False, 1), 6
     if answer == "idle":
-        return report_of("dead", "empty", False, False), 0
-    return report_of("dead", "1`7" if answer == "ok" else answer, True, False), 0
+        return report_of("dead", row.tokens or "empty", False, 0), 0
+    return report_of("dead", "1`7" if answer == "ok" else answer, True, ways), 0
 
 
 def pointer_of(row, document):
@@ -134,11 +144,11 @@ def pointer_of(row, document):
     return POINTERS[row.kind]
 
 
-def report_of(end, here, occurs, ready):
-    """Returns the report of a run of which the transition occurs once or not at all, and is enabled at the end or not."""
-    start = int(occurs or ready)
-    lines = ["report 1", f"run 0 initial 0 ready {start} next {0 if start else 'none'}", f"end {end}"]
+def report_of(end, here, occurs, ways):
+    """Returns the report of a run that begins with so many enabled bindings, and of which one occurs or none."""
+    left = 0 if occurs else ways
+    lines = ["report 1", f"run 0 initial 0 ready {ways} next {0 if ways else 'none'}", f"end {end}"]
     lines += [f"occurrences {int(occurs)}", "clock 0", f"place Top/Here {here}"]
     lines += [f"place Top/{name.upper()} " + ("empty" if occurs else f"1`{value}") for name, value in TOKENS.items()]
-    lines += [f"ready {int(ready)}", f"next {0 if ready else 'none'}", f"total {int(occurs)}"]
+    lines += [f"ready {left}", f"next {0 if left else 'none'}", f"total {int(occurs)}"]
     return "\n".join(lines) + "\n"

@@ -101,13 +101,13 @@ removed es i = rw (take-map equation_view i es, drop-map equation_view (suc i) e
 
 -- a turn: the equation that is ready is done with, and its variable is known
 pub found_on : (ks known now : List ℕ) (xs es rest : List Pair) (i : ℕ) (e : Pair) → ks ≡ known → xs ≡ es → IsReadyPlace (is_listed ks) (equations_view xs) (Some i) → e ≡ get_or es i e → rest ≡ remove es i
-    → ((x : ℕ) → is_listed now x ≡ is_listed (e.target ∷ known) x) → (x : ℕ) → is_listed (found_in (length rest) unlisted now (equations_view rest)) x ≡ is_listed (found_in (length es) unlisted known (equations_view es)) x
+    → ((x : ℕ) → is_listed now x ≡ is_listed (e.variable ∷ known) x) → (x : ℕ) → is_listed (found_in (length rest) unlisted now (equations_view rest)) x ≡ is_listed (found_in (length es) unlisted known (equations_view es)) x
 found_on ks known now xs es rest i e ks_are xs_are ready at left learnt x =
     let here : IsReadyPlace (is_listed known) (equations_view es) (Some i) = subst (λ zs. IsReadyPlace (is_listed zs) (equations_view es) (Some i)) ks_are (subst (λ zs. IsReadyPlace (is_listed ks) (equations_view zs) (Some i)) xs_are ready) in
     let lt : i < length es = rw (length-map es equation_view) at here.0 in
     let is : ready_among (is_listed known) (equations_view es) ≡ Some (equation_view e, equations_view rest) = here.1 (equation_view e) (seen_at es i e lt at) ∙ ap (λ zs. Some (equation_view e, zs)) (removed es i ∙ ap equations_view (sym left)) in
     let few : suc (length rest) ≡ length es = rw left (omega (arith, length-remove es i lt)) in
-    found_same (length rest) now (e.target ∷ known) (equations_view rest) learnt x
+    found_same (length rest) now (e.variable ∷ known) (equations_view rest) learnt x
     ∙ ap (λ zs. is_listed zs x) (sym (found_goes (length rest) known (equations_view es) (equations_view rest) (equation_view e) is))
     ∙ ap (λ k. is_listed (found_in k unlisted known (equations_view es)) x) few
 

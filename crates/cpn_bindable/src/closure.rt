@@ -70,11 +70,11 @@ pub(crate) fn all_found(
     mut equations: Vec<Equation>,
     mut known: Vec<u32>,
 ) -> Result<Vec<u32>, Memory>
-    ensures found { IfOk result (λ all. (x : ℕ) → is_listed all.items x ≡ is_listed (found_in (length equations.items) unlisted known.items (equations_view equations.items)) x) }
+    ensures found { IfOk result (λ all. (x : ℕ) → is_listed all.items x ≡ is_listed (found_in (length equations.entry.items) unlisted known.items (equations_view equations.entry.items)) x) }
 {
     while let Some(place) = ready_place(&equations, &known) {
         let equation = equations.remove(place);
-        learn(&mut known, equation.target)?;
+        learn(&mut known, equation.variable)?;
     }
     Ok(known)
 }

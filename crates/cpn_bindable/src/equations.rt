@@ -1,25 +1,28 @@
 //! The equations of a guard between a variable and an inscription.
 
 ghost use Rattle.std.specs.Prelude.{◌≡◌, ◌++◌, map, IfOk};
-ghost use Rattle.std.specs.List.{flat_map};
-ghost use Rattle.cpn_definitions.specs.Bindable.{conjuncts_of};
+ghost use Rattle.std.specs.List.{flat_map, AllByRecursion};
+ghost use Rattle.cpn_definitions.specs.Bindable.{variables_of, conjuncts_of};
 ghost use Rattle.cpn_core.specs.Inscriptions.{op_view, expr_view, exprs_view};
 ghost use Rattle.cpn_typing.specs.Closure.{equation_with, equations_of_part};
 ghost use Rattle.cpn_typing.specs.Closure as closure;
 ghost use Rattle.cpn_definitions.specs.Inscription.{equality, apply, operation};
-ghost use Rattle.cpn_bindable.specs.Equations.{is_equality, equation_view, equations_view};
+ghost use Rattle.cpn_stages.specs.Stages.{equation_between, equations_at};
+ghost use Rattle.cpn_bindable.specs.Equations.{is_equality, equation_view, equations_view, equation_pair, HasItsSources};
 
 use crate::variables::push_variables;
 use cpn_core::{Expr, Exprs, Guard, Memory, Op};
 use std::alloc::Global;
 
-/// An equation of a guard: a variable, and the variables of the inscription that it is equal to.
+/// An equation of a guard: a variable, and the inscription that it is equal to.
 #[derive(Drop)]
-pub(crate) struct Equation {
+pub struct Equation<'n> {
     /// The variable.
-    pub(crate) target: u32,
+    pub variable: u32,
+    /// The inscription.
+    pub inscription: &'n Expr,
     /// The variables of the inscription, as they stand in it.
-    pub(crate) sources: Vec<u32>,
+    pub sources: Vec<u32>,
 }
 
 /// Whether the operation is `=`.
@@ -33,20 +36,23 @@ fn is_equality(operation: Op) -> bool
 }
 
 /// Adds the equation, where the first part is a variable.
-fn push_equation(
+fn push_equation<'n>(
     alloc: Global,
-    first: &Expr,
-    second: &Expr,
-    equations: &mut Vec<Equation>,
+    first: &'n Expr,
+    second: &'n Expr,
+    equations: &mut Vec<Equation<'n>>,
 ) -> Result<(), Memory>
     ensures added { IfOk result (λ _. equations_view equations.new.items ≡ equations_view equations.old.items ++ equation_with (expr_view first.now) (expr_view second.now)) }
+    ensures equations { IfOk result (λ _. map equation_pair equations.new.items ≡ map equation_pair equations.old.items ++ equation_between (expr_view first.now) (expr_view second.now)) }
+    ensures sources { IfOk result (λ _. AllByRecursion HasItsSources equations.old.items → AllByRecursion HasItsSources equations.new.items) }
 {
     match first {
         Expr::Var(number) => {
             let mut sources = Vec::new(alloc);
             push_variables(second, &mut sources)?;
             equations.push(Equation {
-                target: *number,
+                variable: *number,
+                inscription: second,
                 sources,
             })?;
             Ok(())
@@ -56,8 +62,14 @@ fn push_equation(
 }
 
 /// Adds the equation of two parts, both ways round; other than two make none.
-fn push_both(alloc: Global, parts: &Exprs, equations: &mut Vec<Equation>) -> Result<(), Memory>
+fn push_both<'n>(
+    alloc: Global,
+    parts: &'n Exprs,
+    equations: &mut Vec<Equation<'n>>,
+) -> Result<(), Memory>
     ensures added { IfOk result (λ _. equations_view equations.new.items ≡ equations_view equations.old.items ++ equations_of_part (apply (operation equality) (exprs_view parts.now.items))) }
+    ensures equations { IfOk result (λ _. map equation_pair equations.new.items ≡ map equation_pair equations.old.items ++ equations_at (apply (operation equality) (exprs_view parts.now.items))) }
+    ensures sources { IfOk result (λ _. AllByRecursion HasItsSources equations.old.items → AllByRecursion HasItsSources equations.new.items) }
 {
     if parts.len() != 2 {
         return Ok(());
@@ -67,12 +79,14 @@ fn push_both(alloc: Global, parts: &Exprs, equations: &mut Vec<Equation>) -> Res
 }
 
 /// Adds the equations of a conjunct of a guard, which is split where `andalso` stands at its root.
-fn push_equations(
+fn push_equations<'n>(
     alloc: Global,
-    conjunct: &Expr,
-    equations: &mut Vec<Equation>,
+    conjunct: &'n Expr,
+    equations: &mut Vec<Equation<'n>>,
 ) -> Result<(), Memory>
     ensures added { IfOk result (λ _. equations_view equations.new.items ≡ equations_view equations.old.items ++ flat_map equations_of_part (conjuncts_of (expr_view conjunct.now))) }
+    ensures equations { IfOk result (λ _. map equation_pair equations.new.items ≡ map equation_pair equations.old.items ++ flat_map equations_at (conjuncts_of (expr_view conjunct.now))) }
+    ensures sources { IfOk result (λ _. AllByRecursion HasItsSources equations.old.items → AllByRecursion HasItsSources equations.new.items) }
 {
     match conjunct {
         Expr::And(first, second) => {
@@ -106,9 +120,16 @@ fn push_equations(
     }
 }
 
-/// The equations of a guard, in their order.
-pub(crate) fn equations_of(alloc: Global, guard: &Guard) -> Result<Vec<Equation>, Memory>
+/// The equations of a guard, in the order of its conjuncts, which are split where `andalso` stands at their root: an equality
+/// makes one for each side of it that is a lone variable, first for the left one.
+///
+/// # Errors
+///
+/// [`Memory`]: memory ran out.
+pub fn equations_of<'n>(alloc: Global, guard: &'n Guard) -> Result<Vec<Equation<'n>>, Memory>
     ensures exact { IfOk result (λ equations. equations_view equations.items ≡ closure.equations_of (map expr_view guard.now.conjuncts.items)) }
+    ensures equations { IfOk result (λ equations. map equation_pair equations.items ≡ flat_map equations_at (flat_map conjuncts_of (map expr_view guard.now.conjuncts.items))) }
+    ensures sources { IfOk result (λ equations. AllByRecursion (λ q. q.sources.items ≡ variables_of (expr_view q.inscription.now)) equations.items) }
 {
     let mut equations = Vec::new(alloc);
     for conjunct in &guard.conjuncts {

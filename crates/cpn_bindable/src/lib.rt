@@ -1,5 +1,5 @@
-//! The variables of a transition: which stand in its inscriptions, which the patterns of its input arcs bind, and which of
-//! them is the first that no binding can determine.
+//! The variables of a transition: which stand in its inscriptions, which the patterns of its input arcs bind, what its guard
+//! makes them equal to, and which of them is the first that no binding can determine.
 //!
 //! The crate knows typed inscriptions alone: no text, no declaration and no type.
 #![tactic(auto)]
@@ -12,5 +12,6 @@ mod small_sets;
 mod variables;
 
 pub use bindable::first_unbindable;
+pub use equations::{Equation, equations_of};
 pub use input_terms::binding_terms;
-pub use variables::variables_of;
+pub use variables::{push_carried, variables_of};

@@ -213,8 +213,12 @@ fn push_of_terms(terms: &[BindingTerm], found: &mut Vec<u32>) -> Result<(), Memo
     Ok(())
 }
 
-/// Adds those of the binding terms that arcs carry.
-pub(crate) fn push_carried(arcs: &[PlaceArc], found: &mut Vec<u32>) -> Result<(), Memory>
+/// Adds the variables of the binding terms that arcs carry behind those that were found, term by term, as they stand in them.
+///
+/// # Errors
+///
+/// [`Memory`]: memory ran out.
+pub fn push_carried(arcs: &[PlaceArc], found: &mut Vec<u32>) -> Result<(), Memory>
     ensures all { IfOk result (λ _. found.new.items ≡ found.old.items ++ carried_variables (arcs_view arcs.now)) }
 {
     for arc in arcs {

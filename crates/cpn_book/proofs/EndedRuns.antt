@@ -4,7 +4,7 @@ use Rattle.std.proofs.lemmas.List.{length-map}
 use Rattle.cpn_definitions.specs.Enabled.{PlainEntry, Enabled}
 use Rattle.cpn_definitions.proofs.LeastTimes.{none_is_dead}
 use Rattle.cpn_definitions.proofs.UntimedPlaces.{marking_stamped}
-use Rattle.cpn_runs.specs.Draw.{generator}
+use Rattle.cpn_draw.specs.Draw.{generator}
 use Rattle.cpn_runs.specs.State.{PlainSetup, PlainEnd, dead, steps_made}
 use Rattle.cpn_runs.specs.Run.{HasOutlook, IsRun}
 use Rattle.cpn_runs.specs.Views.{occurrence_view, event_view}
@@ -16,11 +16,11 @@ use Rattle.cpn_book.specs.Shown.{outlook_at, shown}
 use Rattle.cpn_book.specs.declared.run_progress.Progress.{Progress}
 
 -- at its start a run is under way
-pub starts : (setup : PlainSetup) (p : Progress) → IsPlayable setup → p.marking ≡ setup.start → p.occurrences.items ≡ [] → p.journal.items ≡ [] → p.draws.generator ≡ generator setup.seed 0 → IsRunning setup p
-starts setup p playable marking occurrences journal draws = record {
+pub starts : (setup : PlainSetup) (p : Progress) → IsPlayable setup → p.marking ≡ setup.start → p.occurrences.items ≡ [] → p.journal.items ≡ [] → p.draw ≡ generator setup.seed 0 → IsRunning setup p
+starts setup p playable marking occurrences journal draw = record {
   way = rw (occurrences, journal, marking) (begins setup (marking_stamped setup.net setup.start playable.marking));
   marking = rw marking playable.marking;
-  draws = rw occurrences draws;
+  draw = rw occurrences draw;
 }
 
 -- the outlook of what is enabled

@@ -19,13 +19,13 @@ use Rattle.cpn_core.specs.declared.entries.Entry.{Entry}
 use Rattle.cpn_core.specs.Elements.{element_view, entry_view}
 use Rattle.cpn_core.specs.declared.faults.EvalFault.{EvalFault}
 use Rattle.cpn_core.specs.Faults.{fault_view}
+use Rattle.cpn_draw.specs.Draw.{word}
 use Rattle.cpn_runs.specs.declared.occurrences.Occurrence.{Occurrence}
 use Rattle.cpn_runs.specs.declared.events.Event.{Event}
 use Rattle.cpn_runs.specs.declared.events.Event.TheVariants as events
 use Rattle.cpn_runs.specs.declared.events.End.{End}
 use Rattle.cpn_runs.specs.declared.events.End.TheVariants as ends
 use Rattle.cpn_runs.specs.Views.{occurrence_view, event_view, end_view}
-use Rattle.cpn_runs.specs.Draw.{word}
 use Rattle.cpn_runs.specs.State.{PlainSetup, PlainEvent, claim_made, claim_completed, cut_made, fault_end, PlainOccurrence, given_needs}
 use Rattle.cpn_runs.specs.Run.{HasOutlook}
 use Rattle.cpn_runs.specs.Rounds.{IsUnderWay, IsClaimed, IsRound, IsFaultyRound, faulted_journal, next_occurrence, marking_after}

@@ -1,8 +1,8 @@
 -- Setups that a run of one seat may start from. Source: own choice.
 use Rattle.std.specs.Prelude.{◌≡◌, ◌≤◌}
-use Rattle.cpn_definitions.specs.Lone.{IsFoundOnTokens}
 use Rattle.cpn_definitions.specs.Sound.{IsSound, IsUntimed, IsMarking}
 use Rattle.cpn_definitions.specs.Times.{last_time}
+use Rattle.cpn_stages.specs.Solvable.{AreSolvable}
 use Rattle.cpn_runs.specs.Bounds.{most_steps}
 use Rattle.cpn_runs.specs.State.{PlainSetup}
 
@@ -11,7 +11,7 @@ use Rattle.cpn_runs.specs.State.{PlainSetup}
 pub record IsPlayable (setup : PlainSetup) : Type 0 where
   pub sound : IsSound setup.net
   pub untimed : IsUntimed setup.net
-  pub alone : IsFoundOnTokens setup.net
+  pub solvable : AreSolvable setup.net
   pub marking : IsMarking setup.net.places setup.start
   pub clock : setup.clock ≤ setup.limits.until
   pub until : setup.limits.until ≤ last_time

@@ -1,7 +1,7 @@
 -- What a run of one seat keeps true, round after round.
 use Rattle.std.specs.Prelude.{◌≡◌, length, map}
 use Rattle.cpn_definitions.specs.Sound.{IsMarking}
-use Rattle.cpn_runs.specs.Draw.{generator}
+use Rattle.cpn_draw.specs.Draw.{generator}
 use Rattle.cpn_runs.specs.State.{PlainSetup, PlainEnd}
 use Rattle.cpn_runs.specs.Run.{Outlook, HasOutlook, PlainFinished, IsRun}
 use Rattle.cpn_runs.specs.Rounds.{IsUnderWay}
@@ -13,7 +13,7 @@ use Rattle.cpn_book.specs.declared.run_progress.Progress.{Progress}
 pub record IsRunning (setup : PlainSetup) (p : Progress) : Type 0 where
   pub way : IsUnderWay setup (map event_view p.journal.items) (map occurrence_view p.occurrences.items) p.marking
   pub marking : IsMarking setup.net.places p.marking
-  pub draws : p.draws.generator ≡ generator setup.seed (length p.occurrences.items)
+  pub draw : p.draw ≡ generator setup.seed (length p.occurrences.items)
 
 -- what a run shows that ends with the progress by the cause, with these outlooks of its first and its last marking
 abbrev pub ended_with : PlainSetup → Progress → PlainEnd → Outlook → Outlook → PlainFinished

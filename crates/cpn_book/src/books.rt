@@ -9,11 +9,11 @@ ghost use Rattle.cpn_book.specs.Playable.{IsPlayable};
 ghost use Rattle.cpn_book.specs.Books.{setup_in};
 ghost use Rattle.cpn_book.specs.Shown.{shown};
 
-use crate::draws::Draws;
 use crate::outlooks::outlook;
 use crate::rounds::play_round;
 use crate::run_progress::Progress;
 use cpn_core::{Entry, Memory};
+use cpn_draw::Draw;
 use cpn_runs::{End, Finished, Outlook, Setup};
 use cpn_search::enabled;
 use std::alloc::Global;
@@ -50,7 +50,7 @@ impl Book {
             marking: setup.start.copy()?,
             occurrences: Vec::new(alloc),
             journal: Vec::new(alloc),
-            draws: Draws::new(setup.seed),
+            draw: Draw::new(setup.seed),
         };
         let mut entries = enabled(alloc, &setup.net, &progress.marking, setup.clock)?;
         let opening = outlook(&entries, setup.clock);

@@ -5,7 +5,6 @@
 #![tactic(auto)]
 
 mod books;
-mod draws;
 mod outlooks;
 mod rounds;
 mod run_progress;

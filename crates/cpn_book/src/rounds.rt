@@ -39,7 +39,7 @@ pub fn play_round(
     ensures marking { IfOk result (λ ended. IfSome ended (λ _. progress.new.marking ≡ progress.old.marking)) }
 {
     let number = progress.occurrences.len() as u64;
-    let position = progress.draws.pick(ready_count(entries, setup.clock));
+    let position = progress.draw.pick(ready_count(entries, setup.clock));
     let drawn = ready_entry(entries, setup.clock, position);
     let element = drawn.element.copy()?;
     let needs = needs_taken(alloc, &setup.net, &element)?;

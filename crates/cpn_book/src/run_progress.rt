@@ -1,7 +1,7 @@
 //! How far a run of one seat has come.
 
-use crate::draws::Draws;
 use cpn_core::PlainMarking;
+use cpn_draw::Draw;
 use cpn_runs::{Event, Occurrence};
 
 /// How far a run of one seat has come.
@@ -13,6 +13,6 @@ pub struct Progress {
     pub occurrences: Vec<Occurrence>,
     /// Its events.
     pub journal: Vec<Event>,
-    /// The draws of the claims that are to come.
-    pub draws: Draws,
+    /// The words of the claims that are to come.
+    pub draw: Draw,
 }

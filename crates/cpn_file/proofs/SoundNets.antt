@@ -5,7 +5,7 @@ use Rattle.cpn_definitions.specs.Bindable.{binding_terms, IsBindable}
 use Rattle.cpn_definitions.specs.Net.{PlainArc, PlainTransition, Coloured, PlainNet}
 use Rattle.cpn_definitions.specs.Sound.{IsSoundArc, IsSoundInput, IsSoundTransition}
 use Rattle.cpn_definitions.proofs.RisingLists.{in_from_contains, of_one_in}
-use Rattle.cpn_typing.specs.AcceptedTransitions.{HasItsVariables, ArcMeans}
+use Rattle.cpn_typing.specs.AcceptedTransitions.{HasItsVariables, IsAcceptedTransition, ArcMeans}
 use Rattle.cpn_typing.specs.BindableRule.{IsBindableAnswer, too_many_are_there, one_is_not, all_are}
 use Rattle.cpn_typing.specs.Consistency.{IsConsistent}
 use Rattle.cpn_typing.specs.Multisets.{Side, input, output}
@@ -37,6 +37,19 @@ bindable_then n i (t ∷ ts) r b (loading.one_is_not i' t' ts' r' h) is = cc
 pub bindable_each : (n : PlainNet) (ts : List PlainTransition) (b : Bool) → AreBindable n 0 ts (read b) → AllByRecursion (HasBindable n) ts
 bindable_each n ts b h = bindable_then n 0 ts (read b) b h refl
 
+-- ---- transitions with their variables
+
+good_completed : (ds : Declared) (places : List Coloured) (bare : PlainTransition) (vars : List ℕ) → IsGoodTransition ds places bare → IsGoodTransition ds places (with_variables bare vars)
+good_completed ds places bare vars g = record { guard = g.guard; delay = g.delay; inputs = g.inputs; outputs = g.outputs }
+
+-- with their variables listed they are accepted transitions
+pub transitions_accepted : (ds : Declared) (places : List Coloured) (bares all : List PlainTransition) → EachIs IsCompleted bares all → AllByRecursion (IsGoodTransition ds places) bares → AllByRecursion (IsAcceptedTransition ds) all
+transitions_accepted ds places [] [] is accepted = tt
+transitions_accepted ds places [] (t ∷ all) is accepted = absurd is
+transitions_accepted ds places (bare ∷ bares) [] is accepted = absurd is
+transitions_accepted ds places (bare ∷ bares) (t ∷ all) is accepted =
+    (good_accepted ds places t (subst (IsGoodTransition ds places) (sym is.0.same) (good_completed ds places bare t.vars accepted.0)) is.0.variables, transitions_accepted ds places bares all is.1 accepted.1)
+
 -- ---- a transition
 
 module _ (ds : Declared) (good : IsConsistent ds) (places : List Coloured) (ts : List PlainTransition) where
@@ -65,15 +78,12 @@ module _ (ds : Declared) (good : IsConsistent ds) (places : List Coloured) (ts :
         outputs_sound = arcs_sound t output t.outputs accepted.outputs means.outputs_mean;
       }
 
-  good_completed : (bare : PlainTransition) (vars : List ℕ) → IsGoodTransition ds places bare → IsGoodTransition ds places (with_variables bare vars)
-  good_completed bare vars g = record { guard = g.guard; delay = g.delay; inputs = g.inputs; outputs = g.outputs }
-
   pub transitions_sound : (bares all : List PlainTransition) → EachIs IsCompleted bares all → AllByRecursion (IsGoodTransition ds places) bares → AllByRecursion HasItsTerms bares → AllByRecursion HasFewArcs bares
       → AllByRecursion (HasBindable its_net) all → AllByRecursion (IsSoundTransition its_net) all
   transitions_sound [] [] is accepted terms few bindable = tt
   transitions_sound [] (t ∷ all) is accepted terms few bindable = absurd is
   transitions_sound (bare ∷ bares) [] is accepted terms few bindable = absurd is
   transitions_sound (bare ∷ bares) (t ∷ all) is accepted terms few bindable = (
-    transition_sound t (subst (IsGoodTransition ds places) (sym is.0.same) (good_completed bare t.vars accepted.0)) (subst HasItsTerms (sym is.0.same) terms.0) (subst HasFewArcs (sym is.0.same) few.0) is.0.variables bindable.0,
+    transition_sound t (subst (IsGoodTransition ds places) (sym is.0.same) (good_completed ds places bare t.vars accepted.0)) (subst HasItsTerms (sym is.0.same) terms.0) (subst HasFewArcs (sym is.0.same) few.0) is.0.variables bindable.0,
     transitions_sound bares all is.1 accepted.1 terms.1 few.1 bindable.1,
   )

@@ -1,4 +1,5 @@
--- Whatever a document of the form is read as is well loaded: a sound net that names what a report prints, with an initial marking of its places.
+-- Whatever a document of the form is read as is well loaded: a sound net that can be solved and names what a report prints,
+-- with an initial marking of its places.
 use Rattle.std.proofs.Common.{◌≡◌, ◌∙◌, ℕ, suc, ◌+◌, ◌<◌, ◌≤◌, ◌^◌, List, [], ◌∷◌, length, refl, sym, ap, subst, arith}
 use Rattle.std.specs.List.{AllByRecursion}
 use Rattle.std.specs.Prelude.{Result, Ok, Err, IfOk}
@@ -29,7 +30,8 @@ use Rattle.cpn_file.proofs.InitialMarkings.{HaveColours, initials_have, marking_
 use Rattle.cpn_file.proofs.NamedNets.{named}
 use Rattle.cpn_readings.proofs.Readings.{same_read, steps, checked}
 use Rattle.cpn_file.proofs.ServedNets.{served_is}
-use Rattle.cpn_file.proofs.SoundNets.{HasBindable, bindable_each, transitions_sound}
+use Rattle.cpn_file.proofs.SoundNets.{HasBindable, bindable_each, transitions_sound, transitions_accepted}
+use Rattle.cpn_solvable.proofs.SolvableTransitions.{accepted_are_solvable}
 
 -- ---- lengths
 
@@ -128,11 +130,11 @@ net_well a good ts loaded completed bindable h =
         few_transitions = subst (λ k. k < 2 ^ 32) (sym (each_is_long IsCompleted a.transitions ts completed)) good.few_transitions;
         few_variables = simple.few_variables;
       };
+      solvable = accepted_are_solvable a.declared good.consistent n (record { functions_are = refl; variables_are = refl }) (transitions_accepted a.declared a.places a.transitions ts completed good.transitions);
       marking = start.marking;
       places = each_from_long (start_of n) 0 a.initials marking.0 marking.1 ∙ good.as_many;
       few = start.few;
       untimed = simple.untimed;
-      alone = simple.alone;
       named = good.names ts;
     })
 

@@ -6,9 +6,9 @@ use Rattle.cpn_definitions.specs.Value.{PlainValue, int}
 use Rattle.cpn_definitions.specs.Marking.{Marking, token_at}
 use Rattle.cpn_definitions.specs.Outcome.{gives, faults, no_meaning, not_in_colour, overflow}
 use Rattle.cpn_definitions.specs.Occurrence.{PlainElement, Needed, Made}
+use Rattle.cpn_draw.specs.Draw.{generator, word}
 use Rattle.cpn_runs.specs.HoleRun.{PlainClaim, Status, open_claim, done_with, faulted_with, PlainPick, hole_run, marking_left, unclaimed, settled, latest_stamp}
 use Rattle.cpn_definitions.specs.Enabled.{PlainEntry}
-use Rattle.cpn_runs.specs.Draw.{generator, word}
 use Rattle.cpn_runs.specs.State.{PlainSetup, PlainState, IsDrawn, fault_end, committed, owed_cut, is_held_by, status_after, committed_occurrences}
 
 -- the value 7, and a need, an output and a pick of it on a place
@@ -148,19 +148,7 @@ done_is_not_held = refl
 faulted_is_not_held : is_held_by 1 (claim 1 5 [] (faulted_with overflow)) ≡ false
 faulted_is_not_held = refl
 
--- ---- what is drawn: the first words of the seeds 0 and 5, worked out from the published generator
-
-first_word : word 0 0 ≡ 2354861276966075475
-unfolding word generator pcg32_seed word_bytes u32_at
-first_word = refl
-
-second_word : word 0 1 ≡ 6411218084291373563
-unfolding word generator pcg32_seed word_bytes u32_at
-second_word = refl
-
-third_word_of_five : word 5 2 ≡ 4920590661832460237
-unfolding word generator pcg32_seed word_bytes u32_at
-third_word_of_five = refl
+-- ---- what is drawn
 
 abbrev ready_entry : ℕ → PlainEntry
 ready_entry t = record { earliest = 0; element = record { transition = t; binding = [] } }

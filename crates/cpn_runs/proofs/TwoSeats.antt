@@ -6,8 +6,8 @@ use Rattle.cpn_definitions.specs.Outcome.{not_in_colour}
 use Rattle.cpn_definitions.specs.Occurrence.{Made, covered, needs_of, outputs_of, after}
 use Rattle.cpn_definitions.specs.Enabled.{PlainEntry, Enabled}
 use Rattle.cpn_definitions.specs.Legal.{LeastTime, Legal}
+use Rattle.cpn_draw.specs.Draw.{word}
 use Rattle.cpn_runs.specs.HoleRun.{PlainClaim, done_with}
-use Rattle.cpn_runs.specs.Draw.{word}
 use Rattle.cpn_runs.specs.State.{PlainSetup, PlainEvent, claim_made, claim_completed, PlainEnd, dead, steps_made, fault_end, PlainState, first_state, new_claim, IsDrawn, MayClaim, MayComplete, IsState, EndsBy}
 use Rattle.cpn_runs.specs.Run.{HasOutlook, PlainFinished, IsRun}
 use Rattle.cpn_runs.proofs.WorkedNet.{seven, worked, move, seven_at_three, entry, clash, covered_at_three, one_is_enabled, emptied, emptied_is_dead, none_is_enabled, no_other}

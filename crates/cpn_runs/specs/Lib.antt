@@ -1,5 +1,4 @@
 pub mod HoleRun
-pub mod Draw
 pub mod State
 pub mod Run
 pub mod Rounds

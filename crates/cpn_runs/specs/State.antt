@@ -9,8 +9,8 @@ use Rattle.cpn_definitions.specs.Outcome.{Fault, Outcome, gives, faults, no_mean
 use Rattle.cpn_definitions.specs.Occurrence.{PlainElement, Needed, Made, needs_of, outputs_of}
 use Rattle.cpn_definitions.specs.Enabled.{PlainEntry, Enabled, ready, IsDead}
 use Rattle.cpn_definitions.specs.Legal.{TimedElement}
+use Rattle.cpn_draw.specs.Draw.{word}
 use Rattle.cpn_runs.specs.HoleRun.{PlainClaim, Status, open_claim, done_with, faulted_with, unclaimed, settled, is_open, done_prefix}
-use Rattle.cpn_runs.specs.Draw.{word}
 
 -- The limits of a run: how many claims it may make, the last time that it may reach, and its seats.
 pub record PlainLimits : Type 0 where

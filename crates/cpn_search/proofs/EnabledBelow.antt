@@ -11,7 +11,7 @@ use Rattle.cpn_definitions.specs.Net.{PlainNet}
 use Rattle.cpn_definitions.specs.Enabled.{PlainEntry, PlainFound, binding_cmp, entry_cmp, IsEarliest, Enabled, entries_of, EnabledOf}
 use Rattle.cpn_definitions.proofs.RisingLists.{IsIn, in_from_contains, contains_from_in, in_append_left, in_append_right, in_append_cases, in_map, in_map_from, each_in, rises_mapped, rises_appended}
 use Rattle.cpn_search.specs.Found.{not_before, entries_at, EnabledBelow}
-use Rattle.cpn_search.proofs.Completeness.{covered_parts}
+use Rattle.cpn_stages.proofs.CoveredBindings.{covered_parts}
 use Rattle.cpn_search.proofs.LeastTimes.{from_clock, from_start}
 
 lower_first : (i j : ℕ) → i < j → nat_cmp i j ≡ Less
@@ -74,5 +74,5 @@ in_range t k lt = grind (arith, nat_tests)
 pub enabled_all : (n : PlainNet) (m : Marking) (clock : ℕ) (entries : List PlainEntry) → EnabledBelow n m clock (length n.transitions) entries → Enabled n m clock entries
 enabled_all n m clock entries below = record {
   rising = below.rising;
-  exact = λ x. (λ h. ((below.exact x).0 h).1, λ is. (below.exact x).1 (in_range x.element.transition (length n.transitions) (covered_parts n m x.earliest x.element.transition x.element.binding is.is_covered).in_range, is));
+  exact = λ x. (λ h. ((below.exact x).0 h).1, λ is. (below.exact x).1 (in_range x.element.transition (length n.transitions) (covered_parts n m x.earliest x.element is.is_covered).in_range, is));
 }

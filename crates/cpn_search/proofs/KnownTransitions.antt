@@ -4,7 +4,6 @@ use Rattle.std.specs.List.{list_all, list_any, AllByRecursion}
 use Rattle.std.proofs.lemmas.Bool.Decides.{nat_tests}
 use Rattle.cpn_definitions.specs.Marking.{Marking}
 use Rattle.cpn_definitions.specs.Net.{PlainArc, PlainTransition, PlainNet, no_transition, transition_at}
-use Rattle.cpn_definitions.specs.Lone.{is_variable, stands_alone, HasLoneVariables, IsFoundOnTokens}
 use Rattle.cpn_definitions.specs.Outcome.{HasMeaning}
 use Rattle.cpn_definitions.specs.Meaning.{PlainBinding}
 use Rattle.cpn_definitions.specs.Occurrence.{binds, guard_holds, may_occur, needs_of}
@@ -15,10 +14,11 @@ use Rattle.cpn_core.specs.declared.nets.Net.{Net}
 use Rattle.cpn_core.specs.declared.nets.PlaceArc.{PlaceArc}
 use Rattle.cpn_core.specs.declared.nets.Transition.{Transition}
 use Rattle.cpn_core.specs.Nets.{arc_view, transition_view, net_view}
-use Rattle.cpn_search.specs.Known.{IsKnown}
+use Rattle.cpn_stages.specs.Partial.{unbound}
+use Rattle.cpn_stages.proofs.TransitionEnds.{unbound_variables}
+use Rattle.cpn_search.specs.Searches.{AreDeclared}
 use Rattle.cpn_elements.specs.Guards.{GuardHasMeaning}
 use Rattle.cpn_search.specs.Found.{element_of, IsNeverCovered}
-use Rattle.cpn_search.proofs.Completeness.{lone_transition}
 use Rattle.cpn_search.proofs.LeastTimes.{never_by_guard}
 
 pub length_map : {A B : Type 0} (f : A → B) (xs : List A) → length (map f xs) ≡ length xs
@@ -53,28 +53,21 @@ in_range n t lt = ap (nat_lt t) (length_map transition_view n.transitions.items)
 
 -- ---- what is known
 
+-- the variables of a transition of a sound net are declared
+pub variables_declared : (n : Net) (t : ℕ) (tr : Transition) → IsSound (net_view n) → t < length n.transitions.items → tr ≡ get_or n.transitions.items t tr → AreDeclared (length n.variables.items) (unbound tr.vars.items)
+variables_declared n t tr sound lt is = record {
+  all =
+      ap (list_all (λ x. nat_lt x (length n.variables.items))) (unbound_variables tr.vars.items)
+      ∙ ap (λ (k : ℕ). list_all (λ x. nat_lt x k) tr.vars.items) (sym (length_map _ n.variables.items))
+      ∙ (subst (IsSoundTransition (net_view n)) (transition_is n t tr lt is) (sound_transition (net_view n) t sound (in_range n t lt))).declared;
+}
+
 -- the places of sound input arcs are below the number of places
-arcs_placed : (n : PlainNet) (t : PlainTransition) (k : ℕ) (arcs : List PlaceArc) → length n.places ≡ k → AllByRecursion (IsSoundInput n t) (map arc_view arcs) → list_all (λ arc. nat_lt arc.place k) arcs ≡ true
+pub arcs_placed : (n : PlainNet) (t : PlainTransition) (k : ℕ) (arcs : List PlaceArc) → length n.places ≡ k → AllByRecursion (IsSoundInput n t) (map arc_view arcs) → list_all (λ arc. nat_lt arc.place k) arcs ≡ true
 arcs_placed n t k [] long sound = refl
 arcs_placed n t k (arc ∷ arcs) long sound =
     let first : nat_lt arc.place k ≡ true = above arc.place k (subst (λ (j : ℕ). arc.place < j) long sound.0.sound.place_known) in
     rw first (arcs_placed n t k arcs long sound.1)
-
-known_parts : (n : Net) (m : Marking) (tr : Transition) → IsSoundTransition (net_view n) (transition_view tr) → HasLoneVariables (transition_view tr) → IsMarking (net_view n).places m → IsKnown n m tr
-known_parts n m tr sound alone marking = record {
-  placed = arcs_placed (net_view n) (transition_view tr) (length m) tr.inputs.items (sym (marking_length (net_view n).places m marking)) sound.inputs_sound;
-  declared = ap (λ (k : ℕ). list_all (λ x. nat_lt x k) tr.vars.items) (sym (length_map _ n.variables.items)) ∙ sound.declared;
-  bindable =
-      all_alike (λ x. list_any (λ (arc : PlaceArc). is_variable x (arc_view arc).expr) tr.inputs.items) (stands_alone (transition_view tr)) tr.vars.items
-      (λ x. sym (any_mapped (λ (arc : PlainArc). is_variable x arc.expr) arc_view tr.inputs.items))
-      ∙ alone;
-}
-
--- what is known of a transition of a sound net
-pub known_transition : (n : Net) (m : Marking) (t : ℕ) (tr : Transition) → IsSound (net_view n) → IsFoundOnTokens (net_view n) → IsMarking (net_view n).places m → t < length n.transitions.items → tr ≡ get_or n.transitions.items t tr → IsKnown n m tr
-known_transition n m t tr sound alone marking lt is =
-    known_parts n m tr (subst (IsSoundTransition (net_view n)) (transition_is n t tr lt is) (sound_transition (net_view n) t sound (in_range n t lt)))
-    (subst HasLoneVariables (transition_is n t tr lt is) (lone_transition (net_view n) t alone (in_range n t lt))) marking
 
 -- ---- what may be asked
 

@@ -10,7 +10,7 @@ use Rattle.cpn_definitions.specs.Order.{value_cmp, same_value}
 use Rattle.cpn_definitions.specs.Marking.{PlainToken, Tokens, token_cmp, AreSorted}
 use Rattle.cpn_definitions.specs.ValueOrder.{value_cmp_total, value_same, value_itself, same_value_refl, value_not_above}
 use Rattle.cpn_definitions.proofs.SortedTokens.{sorted_places}
-use Rattle.cpn_search.specs.Candidates.{is_last_of, values_passing}
+use Rattle.cpn_search.specs.Values.{is_last_of, values_of}
 use Rattle.cpn_search.specs.Stretches.{is_at_most, IsEndOf}
 
 -- ---- values that are not after another
@@ -53,23 +53,23 @@ last_at_end : (v : PlainValue) (k : PlainToken) (ks : Tokens) → k.value ≡ v 
 last_at_end v k [] e other = refl
 last_at_end v k (l ∷ ls) e other = ap (λ w. not (same_value w l.value)) e ∙ ap not (other 1 k (omega arith) (omega arith))
 
--- the tokens of one value at the front give it once, if it passes
+-- the tokens of one value at the front give it once
 one_stretch
-    : (keep : PlainValue → Bool) (v : PlainValue) (ks : Tokens) (n : ℕ)
+    : (v : PlainValue) (ks : Tokens) (n : ℕ)
     → n < length ks
     → AllWithin (λ k. k.value ≡ v) ks 0 (suc n)
     → AllWithin (λ k. same_value v k.value ≡ false) ks (suc n) (length ks)
-    → values_passing keep ks ≡ cond (keep v) (v ∷ values_passing keep (drop (suc n) ks)) (values_passing keep (drop (suc n) ks))
-one_stretch keep v [] n lt same other = let no : ⊥ = omega arith in absurd no
-one_stretch keep v (k ∷ ks) zero lt same other =
+    → values_of ks ≡ v ∷ values_of (drop (suc n) ks)
+one_stretch v [] n lt same other = let no : ⊥ = omega arith in absurd no
+one_stretch v (k ∷ ks) zero lt same other =
     let e : k.value ≡ v = same 0 k (omega arith) (omega arith) in
-    rw (last_at_end v k ks e other) (ap (λ w. cond (keep w) (w ∷ values_passing keep ks) (values_passing keep ks)) e)
-one_stretch keep v (k ∷ []) (suc n) lt same other = let no : ⊥ = omega arith in absurd no
-one_stretch keep v (k ∷ l ∷ ls) (suc n) lt same other =
+    rw (last_at_end v k ks e other) (ap (λ w. w ∷ values_of ks) e)
+one_stretch v (k ∷ []) (suc n) lt same other = let no : ⊥ = omega arith in absurd no
+one_stretch v (k ∷ l ∷ ls) (suc n) lt same other =
     let first : k.value ≡ v = same 0 k (omega arith) (omega arith) in
     let second : l.value ≡ v = same 1 k (omega arith) (omega arith) in
     let goes_on : is_last_of k (l ∷ ls) ≡ false = ap not (ap₂ same_value first second ∙ same_value_refl v) in
-    rw goes_on (one_stretch keep v (l ∷ ls) n (omega arith) (λ j d low h. same (suc j) d (omega arith) (omega arith)) (λ j d low h. other (suc j) d (omega arith) (omega arith)))
+    rw goes_on (one_stretch v (l ∷ ls) n (omega arith) (λ j d low h. same (suc j) d (omega arith) (omega arith)) (λ j d low h. other (suc j) d (omega arith) (omega arith)))
 
 -- ---- from one stretch to the next
 
@@ -101,13 +101,13 @@ module _ (ks : Tokens) (start end : ℕ) (k : PlainToken) (sorted : AreSorted ks
       let long : length (drop start ks) ≡ length ks - start = length-drop start ks in
       subst (λ l. same_value k.value l.value ≡ false) (sym (get_or-drop start ks j d)) (later_other k.value (get_or ks (start + j) d).value (ends.1 (start + j) d (omega arith) (omega (arith, long, h))))
 
-  -- the tokens from a stretch's start on give its value, if it passes, and what those past its end give
-  pub passing_from : (keep : PlainValue → Bool) → values_passing keep (drop start ks) ≡ cond (keep k.value) (k.value ∷ values_passing keep (drop end ks)) (values_passing keep (drop end ks))
-  passing_from keep =
+  -- the tokens from a stretch's start on give its value, and what those past its end give
+  pub values_from : values_of (drop start ks) ≡ k.value ∷ values_of (drop end ks)
+  values_from =
       let past : start < end = ends_past in
       let long : length (drop start ks) ≡ length ks - start = length-drop start ks in
       let size : end - start ≡ suc (end - start - 1) = omega (arith, past) in
       let to : start + suc (end - start - 1) ≡ end = omega (arith, past) in
-      one_stretch keep k.value (drop start ks) (end - start - 1) (omega (arith, past, long)) (subst (AllWithin (λ l. l.value ≡ k.value) (drop start ks) 0) size same_within)
+      one_stretch k.value (drop start ks) (end - start - 1) (omega (arith, past, long)) (subst (AllWithin (λ l. l.value ≡ k.value) (drop start ks) 0) size same_within)
       (subst (λ n. AllWithin (λ l. same_value k.value l.value ≡ false) (drop start ks) n (length (drop start ks))) size other_past)
-      ∙ ap (λ ls. cond (keep k.value) (k.value ∷ values_passing keep ls) (values_passing keep ls)) (drop-drop (suc (end - start - 1)) start ks ∙ ap (λ m. drop m ks) to)
+      ∙ ap (λ ls. k.value ∷ values_of ls) (drop-drop (suc (end - start - 1)) start ks ∙ ap (λ m. drop m ks) to)

@@ -1,6 +1,9 @@
-pub mod Candidates
-pub mod Assignments
+pub mod Values
 pub mod Stretches
 pub mod Found
 pub mod FoundViews
-pub mod Known
+pub mod StageViews
+pub mod Plans
+pub mod TrialViews
+pub mod TriedStages
+pub mod Searches

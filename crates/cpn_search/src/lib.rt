@@ -1,14 +1,20 @@
 //! The search for the enabled bindings of a net.
 //!
-//! From the tokens of a marking it finds each binding of a transition that is covered at some time, once,
-//! in order, with the least such time; and from those of all transitions the enabled elements. It changes
-//! no marking, keeps nothing between two searches, and takes no value from anywhere but the tokens.
+//! Stage by stage it finds the values of a transition's variables: from the tokens on the places of its input arcs, from the
+//! equations of its guard, and from small colour sets. Each binding that all stages make is kept if the transition is covered
+//! with it at some time, once, in order, with the least such time; and from those of all transitions come the enabled
+//! elements. It changes no marking and keeps nothing between two searches.
 #![tactic(auto)]
 
-mod assignments;
-mod candidates;
 mod earliest;
-mod lone;
+mod extending;
+mod plan;
 mod searching;
+mod sorting;
+mod tokens;
+mod trials;
+mod turns;
 
-pub use searching::{enabled, enabled_of};
+pub use plan::{Plan, Stage};
+pub use searching::{enabled, enabled_of, search};
+pub use turns::Searched;

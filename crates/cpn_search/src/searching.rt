@@ -1,72 +1,58 @@
-// The enabled bindings of a transition, and the enabled elements of a net.
-ghost use Rattle.std.specs.Prelude.{◌≡◌, ◌<◌, ◌++◌, true, length, map, OnOk, IfOk};
-ghost use Rattle.std.specs.List.{AllByRecursion};
-ghost use Rattle.cpn_definitions.specs.Lists.{Rises};
-ghost use Rattle.cpn_definitions.specs.Net.{transition_at};
-ghost use Rattle.cpn_definitions.specs.Occurrence.{binds};
-ghost use Rattle.cpn_definitions.specs.Enabled.{binding_cmp, EnabledOf, Enabled};
-ghost use Rattle.cpn_definitions.specs.Lone.{IsFoundOnTokens};
+//! The enabled bindings of a transition, and the enabled elements of a net.
+ghost use Rattle.std.specs.Prelude.{◌≡◌, ◌<◌, ◌++◌, length, map, OnOk, IfOk};
+ghost use Rattle.cpn_definitions.specs.Enabled.{EnabledOf, Enabled};
 ghost use Rattle.cpn_definitions.specs.Sound.{IsSound, IsMarking};
 ghost use Rattle.cpn_core.specs.Nets.{net_view};
 ghost use Rattle.cpn_core.specs.Elements.{entry_view};
-ghost use Rattle.cpn_search.specs.Found.{found_of, EnabledAmong, entries_at};
+ghost use Rattle.cpn_stages.specs.Solvable.{AreSolvable};
+ghost use Rattle.cpn_search.specs.Found.{entries_at};
 ghost use Rattle.cpn_search.specs.FoundViews.{found_view};
 
-use crate::assignments::assignments;
-use crate::earliest::earliest_of;
-use cpn_core::{Binding, Element, Entry, Found, FoundBinding, Memory, Net, PlainMarking};
+use crate::plan::Plan;
+use crate::sorting::in_order;
+use crate::trials::trials_of;
+use crate::turns::{Searched, all_found};
+use cpn_core::{Element, Entry, Found, Memory, Net, PlainMarking};
 use std::alloc::Global;
 
-/// Appends the binding with its least time, where there is one.
-fn push_found(found: &mut Found, binding: Binding, earliest: Option<u64>) -> Result<(), Memory>
-    ensures appended { OnOk result (map found_view found.new.items ≡ map found_view found.old.items ++ found_of binding earliest) }
-{
-    if let Some(earliest) = earliest {
-        found.push(FoundBinding { binding, earliest })?;
-    }
-    Ok(())
-}
-
-/// Those of the bindings with which the transition is covered at some time, in their order, each with the least such
-/// time.
-fn enabled_among(
-    alloc: Global,
-    net: &Net,
-    marking: &PlainMarking,
-    t: u32,
-    bindings: Vec<Binding>,
-) -> Result<Found, Memory>
+/// The enabled bindings of a transition of a sound net: each binding with which it is covered at some time, over all
+/// assignments of admitted values to its variables, once, by the values of the variables in declaration order, with the least
+/// such time; and how many tries it took.
+///
+/// The search goes by the stages of the transition's plan: binding terms on the tokens of their places, equations of the
+/// guard, small colour sets. Each binding that they make is found if its guard is true and its needs are covered at some
+/// time; a fault in the guard or in an input inscription makes it not enabled. `Memory` comes where memory is wanted, and
+/// leaves nothing behind.
+/// Source: Jensen and Kristensen, chapters 4 and 11; the order, and what a fault means, are our own choice.
+pub fn search(alloc: Global, net: &Net, marking: &PlainMarking, t: u32) -> Result<Searched, Memory>
     requires sound { IsSound (net_view net.now) }
+    requires solvable { AreSolvable (net_view net.now) }
     requires marking { IsMarking (net_view net.now).places marking.now }
     requires in_range { t < length net.now.transitions.items }
-    requires in_order { Rises binding_cmp bindings.items }
-    requires bound { AllByRecursion (λ b. binds (net_view net.now) (transition_at (net_view net.now) t).vars b ≡ true) bindings.items }
-    ensures found { IfOk result (λ found. EnabledAmong (net_view net.now) marking.now t bindings.items (map found_view found.items)) }
+    ensures enabled { IfOk result (λ searched. EnabledOf (net_view net.now) marking.now t (map found_view searched.found.items)) }
 {
-    let mut found = Vec::new(alloc);
-    for binding in bindings {
-        let earliest = earliest_of(alloc, net, marking, t, &binding)?;
-        push_found(&mut found, binding, earliest)?;
-    }
-    Ok(found)
+    let plan = Plan::of(alloc, net, t)?;
+    let trials = trials_of(alloc, &plan, marking)?;
+    let searched = all_found(alloc, net, marking, t, &trials)?;
+    let found = in_order(searched.found)?;
+    Ok(Searched {
+        found,
+        tries: searched.tries,
+    })
 }
 
-/// The enabled bindings of a transition of a sound net in which each variable stands alone on an input arc: each binding
-/// with which it is covered at some time, once, by the values of its variables in declaration order, with the least such time.
-///
-/// The search goes from the tokens: a variable takes only values that stand on the place of each input arc
-/// whose inscription it is, each of them once. `Memory` comes where memory is wanted, and leaves nothing behind.
-/// Source: Jensen and Kristensen, chapters 4 and 11; the order is our own choice.
+/// The enabled bindings of a transition of a sound net, as a `search` finds them: each binding with which it is covered at
+/// some time, over all assignments of admitted values, once, in order, with the least such time. `Memory` comes where memory
+/// is wanted, and leaves nothing behind. Source: Jensen and Kristensen, chapters 4 and 11; the order is our own choice.
 pub fn enabled_of(alloc: Global, net: &Net, marking: &PlainMarking, t: u32) -> Result<Found, Memory>
     requires sound { IsSound (net_view net.now) }
-    requires alone { IsFoundOnTokens (net_view net.now) }
+    requires solvable { AreSolvable (net_view net.now) }
     requires marking { IsMarking (net_view net.now).places marking.now }
     requires in_range { t < length net.now.transitions.items }
     ensures enabled { IfOk result (λ found. EnabledOf (net_view net.now) marking.now t (map found_view found.items)) }
 {
-    let bindings = assignments(alloc, net, marking, t)?;
-    let found = enabled_among(alloc, net, marking, t, bindings)?;
-    Ok(found)
+    let searched = search(alloc, net, marking, t)?;
+    Ok(searched.found)
 }
 
 /// Appends the entries of a transition with the bindings, none of them before the clock.
@@ -90,9 +76,8 @@ fn push_entries(
     Ok(())
 }
 
-/// The enabled elements of a sound net in which each variable stands alone on an input arc: each binding element that is covered at some time not before the
-/// clock, once, by transition and then by binding, with the least such time. `Memory` comes where memory
-/// is wanted, and leaves nothing behind.
+/// The enabled elements of a sound net: each binding element that is covered at some time not before the clock, once, by
+/// transition and then by binding, with the least such time. `Memory` comes where memory is wanted, and leaves nothing behind.
 /// Source: Jensen and Kristensen, chapter 11; the order is our own choice.
 pub fn enabled(
     alloc: Global,
@@ -101,7 +86,7 @@ pub fn enabled(
     clock: u64,
 ) -> Result<Vec<Entry>, Memory>
     requires sound { IsSound (net_view net.now) }
-    requires alone { IsFoundOnTokens (net_view net.now) }
+    requires solvable { AreSolvable (net_view net.now) }
     requires marking { IsMarking (net_view net.now).places marking.now }
     ensures enabled { IfOk result (λ entries. Enabled (net_view net.now) marking.now clock (map entry_view entries.items)) }
 {

@@ -1,4 +1,5 @@
 pub mod FiveMeanings
+pub mod SolvableGuards
 pub mod TwoPlaceNets
 pub mod PrintedNets
 pub mod PlayedNet

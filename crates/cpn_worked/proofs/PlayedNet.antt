@@ -1,16 +1,13 @@
--- The net of the worked runs is sound and untimed, and a run of one seat may start from its markings.
-use Rattle.std.proofs.Common.{◌≡◌, ℕ, zero, suc, ◌<◌, ◌≤◌, Bool, true, false, List, [], refl, sym, subst, arith, Contains}
+-- The net of the worked runs is sound, untimed and solvable, and a run of one seat may start from its markings.
+use Rattle.std.proofs.Common.{◌≡◌, ℕ, zero, suc, ◌≤◌, Bool, true, false, List, refl, sym, subst, arith}
 use Rattle.cpn_definitions.specs.Net.{PlainNet}
-use Rattle.cpn_definitions.specs.Lone.{IsFoundOnTokens}
 use Rattle.cpn_definitions.specs.Sound.{IsSound, IsSoundTransition, IsUntimed, IsMarking}
+use Rattle.cpn_stages.specs.Solvable.{AreSolvable}
 use Rattle.cpn_runs.specs.Bounds.{most_steps}
 use Rattle.cpn_runs.specs.State.{PlainSetup}
 use Rattle.cpn_book.specs.Playable.{IsPlayable}
 use Rattle.cpn_worked.specs.ThreePlaces.{arc_of, transition_of, worked, start_of}
-
--- no variable is listed
-none_there : (x : ℕ) → Contains [] x → ⊥
-none_there x there = let far : there.0 < 0 = there.1 in absurd (omega (arith, far))
+use Rattle.cpn_worked.proofs.SolvableGuards.{none_there, without_variables}
 
 move_sound : (name : List ℕ) → IsSoundTransition worked (transition_of name (arc_of 0 1) (arc_of 1 2))
 move_sound name = record {
@@ -51,8 +48,8 @@ is_untimed (suc zero) = refl
 is_untimed (suc (suc zero)) = refl
 is_untimed (suc (suc (suc p))) = refl
 
-is_found : IsFoundOnTokens worked
-is_found = (refl, (refl, tt))
+is_solvable : AreSolvable worked
+is_solvable = (without_variables _ _ refl refl, (without_variables _ _ refl refl, tt))
 
 is_marking : (second : Bool) → IsMarking worked.places (start_of second)
 is_marking true = (tt, refl, ((tt, tt), refl, (tt, refl, tt)))
@@ -63,7 +60,7 @@ pub may_start : (setup : PlainSetup) (second : Bool) → setup.net ≡ worked �
 may_start setup second net start clock until steps seat = record {
   sound = subst IsSound (sym net) is_sound;
   untimed = subst IsUntimed (sym net) is_untimed;
-  alone = subst IsFoundOnTokens (sym net) is_found;
+  solvable = subst AreSolvable (sym net) is_solvable;
   marking = subst (λ (n : PlainNet). IsMarking n.places setup.start) (sym net) (subst (IsMarking worked.places) (sym start) (is_marking second));
   clock = omega arith;
   until = omega arith;

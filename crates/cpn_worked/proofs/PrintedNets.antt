@@ -1,5 +1,5 @@
 -- The nets of two places can be printed, and so can the binding elements of those of two variables.
-use Rattle.std.proofs.Common.{◌≡◌, ℕ, zero, suc, ◌<◌, ◌≤◌, ◌^◌, Bool, true, ◌&&◌, nat_lt, List, [], ◌∷◌, map, length, replicate, refl, sym, ap, ap₂, subst, arith}
+use Rattle.std.proofs.Common.{◌≡◌, ℕ, zero, suc, ◌<◌, ◌≤◌, ◌^◌, Bool, true, ◌&&◌, nat_lt, List, [], ◌∷◌, length, replicate, refl, sym, ap, subst, arith}
 use Rattle.std.proofs.lemmas.Bool.{and_from}
 use Rattle.std.specs.List.{list_all, range_with_len}
 use Rattle.cpn_definitions.specs.Value.{PlainValue}

@@ -1,6 +1,6 @@
 -- The nets of two places are sound, and what is added to their markings leaves them markings.
 use Rattle.std.proofs.Common.{◌≡◌, ◌⊎◌, ℕ, zero, suc, ◌+◌, ◌-◌, ◌<◌, ◌≤◌, ◌^◌, ◌==◌, pos, Bool, true, false, cond, ◌&&◌, ◌||◌, nat_lt, List, [], ◌∷◌, ◌++◌, map, length, slice_index_or, slice_set, Option, Some, None, refl, replicate, sym, ap, ap₂, ◌∙◌, subst, inl, inr, ⊎_elim, true≢false, arith, Less, nat_cmp}
-use Rattle.std.specs.List.{list_all, list_any, range_with_len, AllByRecursion}
+use Rattle.std.specs.List.{flat_map, list_all, list_any, range_with_len, AllByRecursion}
 use Rattle.std.proofs.lemmas.Bool.{and_parts, and_from, cases_lt, cond-true}
 use Rattle.std.proofs.lemmas.Bool.Decides.{nat_tests}
 use Rattle.std.proofs.lemmas.List.{length-map, length-replicate}
@@ -10,8 +10,8 @@ use Rattle.cpn_definitions.specs.Lists.{Rises}
 use Rattle.cpn_definitions.specs.Marking.{Marking, token_at, add_token}
 use Rattle.cpn_definitions.specs.Inscription.{PlainExpr, literal, variable, variable_pattern, literal_pattern, Functions, one}
 use Rattle.cpn_definitions.specs.Net.{PlainArc, PlainTransition, Coloured, PlainNet, no_transition, nothing, place_at, transition_at, variable_at}
-use Rattle.cpn_definitions.specs.Bindable.{binding_terms, AreClosed}
-use Rattle.cpn_definitions.specs.Lone.{is_variable, stands_alone, HasLoneVariables, IsFoundOnTokens}
+use Rattle.cpn_definitions.specs.Bindable.{binding_terms, variables_of, conjuncts_of, AreClosed}
+use Rattle.cpn_definitions.specs.Lone.{is_variable, stands_alone}
 use Rattle.cpn_definitions.specs.Outcome.{gives, faults, not_in_colour, HasMeaning, given, ◌>>=◌}
 use Rattle.cpn_definitions.specs.Meaning.{PlainBinding, bound_value, meaning}
 use Rattle.cpn_definitions.specs.Terms.{PlainTerm, in_colour, terms_of}
@@ -21,7 +21,10 @@ use Rattle.cpn_definitions.proofs.RisingLists.{IsIn, in_map, of_one_in, each_imp
 use Rattle.cpn_definitions.proofs.Lone.{are_bindable_alone}
 use Rattle.cpn_definitions.proofs.Terms.{one_token}
 use Rattle.cpn_definitions.proofs.Markings.{added_marking}
+use Rattle.cpn_stages.specs.Solvable.{IsSolvable, AreSolvable}
+use Rattle.cpn_stages.specs.Stages.{equations_at}
 use Rattle.cpn_worked.specs.TwoPlaces.{numbers, inscription_of, arc_of, has_arc, are_fit, two_places, IsWorked}
+use Rattle.cpn_worked.proofs.SolvableGuards.{without_variables}
 
 number_same : (x y : ℕ) → (x == y) ≡ true → x ≡ y
 number_same x y h = grind (arith, nat_tests)
@@ -96,6 +99,12 @@ colour_of_two c (a ∷ b ∷ rest) (suc zero) lt e = cc
 colour_of_two c (a ∷ b ∷ rest) (suc (suc i)) lt e = absurd (omega arith)
 
 -- ---- the one transition
+
+-- each is, where it is
+only_one : (P : PlainTransition → Type 0) (ts : List PlainTransition) → length ts ≡ 1 → P (slice_index_or ts 0 no_transition) → AllByRecursion P ts
+only_one P [] long h = absurd (omega arith)
+only_one P (u ∷ []) long h = (h, tt)
+only_one P (u ∷ v ∷ us) long h = absurd (omega arith)
 
 -- an inscription has a meaning under each binding of the variables
 inscription_means : (n : PlainNet) (funs : Functions) (vars x : ℕ) (colour : PlainColour) (b : PlainBinding) (time : ℕ) → binds n (range_with_len 0 vars) b ≡ true → HasMeaning (terms_of funs (one (inscription_of vars x)) colour b time)
@@ -179,11 +188,6 @@ module _ (timed guard : Bool) (vars : ℕ) (arcs : List (ℕ × ℕ)) (n : Plain
     outputs_sound = subst (AllByRecursion (IsSoundArc n t)) (sym is.worked.outputs) tt;
   }
 
-  only_one : (P : PlainTransition → Type 0) (ts : List PlainTransition) → length ts ≡ 1 → P (slice_index_or ts 0 no_transition) → AllByRecursion P ts
-  only_one P [] long h = absurd (omega arith)
-  only_one P (u ∷ []) long h = (h, tt)
-  only_one P (u ∷ v ∷ us) long h = absurd (omega arith)
-
   -- such a net is sound
   pub worked_is_sound : vars < 2 ^ 32 → IsSound n
   worked_is_sound narrow = record {
@@ -194,9 +198,11 @@ module _ (timed guard : Bool) (vars : ℕ) (arcs : List (ℕ × ℕ)) (n : Plain
     few_variables = omega (arith, counted);
   }
 
-  -- and each of its variables stands alone on an input arc
-  pub worked_is_found : IsFoundOnTokens n
-  worked_is_found = only_one HasLoneVariables n.transitions is.transitions each_alone
+-- and solvable, by its guard alone
+pub worked_is_solvable : (timed guard : Bool) (vars : ℕ) (arcs : List (ℕ × ℕ)) (n : PlainNet) → IsWorked timed guard vars arcs n → AreSolvable n
+worked_is_solvable timed guard vars arcs n is =
+    only_one (IsSolvable n) n.transitions is.transitions
+    (without_variables n (transition_at n 0) (ap (λ (es : List PlainExpr). flat_map variables_of es) is.worked.guarded) (ap (λ (es : List PlainExpr). flat_map equations_at (flat_map conjuncts_of es)) is.worked.guarded))
 
 -- ---- markings
 
@@ -274,11 +280,3 @@ pub sound_where_tested
     → length arcs ≤ 64 → vars < 2 ^ 32 → IsSound n
 sound_where_tested timed guard vars arcs n is placed used few narrow =
     worked_is_sound timed guard vars arcs n is (and_from (list_all (λ (a : ℕ × ℕ). nat_lt a.0 2) arcs) (list_all (λ x. has_arc x arcs) (range_with_len 0 vars)) placed used) few narrow
-
--- and its bindings are found on the tokens
-pub found_where_tested
-    : (timed guard : Bool) (vars : ℕ) (arcs : List (ℕ × ℕ)) (n : PlainNet)
-    → IsWorked timed guard vars arcs n → list_all (λ (a : ℕ × ℕ). nat_lt a.0 2) arcs ≡ true → list_all (λ x. has_arc x arcs) (range_with_len 0 vars) ≡ true
-    → length arcs ≤ 64 → IsFoundOnTokens n
-found_where_tested timed guard vars arcs n is placed used few =
-    worked_is_found timed guard vars arcs n is (and_from (list_all (λ (a : ℕ × ℕ). nat_lt a.0 2) arcs) (list_all (λ x. has_arc x arcs) (range_with_len 0 vars)) placed used) few

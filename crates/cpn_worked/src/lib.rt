@@ -7,6 +7,8 @@ mod data;
 #[cfg(test)]
 mod elements;
 #[cfg(test)]
+mod matching;
+#[cfg(test)]
 mod nets;
 #[cfg(test)]
 mod reports;

@@ -1,9 +1,9 @@
 //! Searches for what is enabled: that the calls succeed where memory is left, and that the definitions mean what the table here says,
 //! which was filled in by hand.
 ghost use Rattle.std.specs.Prelude.{◌≡◌, ◌<◌, ◌≤◌, true, length, IfOk};
-ghost use Rattle.cpn_definitions.specs.Lone.{IsFoundOnTokens};
 ghost use Rattle.cpn_definitions.specs.Sound.{IsSound, IsMarking};
 ghost use Rattle.cpn_core.specs.Nets.{net_view};
+ghost use Rattle.cpn_stages.specs.Solvable.{AreSolvable};
 ghost use Rattle.cpn_worked.specs.TwoPlaces.{two_places};
 
 use crate::nets::empty_net;
@@ -30,7 +30,7 @@ fn push_found(
     marking: &PlainMarking,
 ) -> Result<(), Memory>
     requires sound { IsSound (net_view net.now) }
-    requires alone { IsFoundOnTokens (net_view net.now) }
+    requires solvable { AreSolvable (net_view net.now) }
     requires marking { IsMarking (net_view net.now).places marking.now }
     requires some { length net.now.transitions.items ≡ 1 }
 {
@@ -53,7 +53,7 @@ fn push_times(
     marking: &PlainMarking,
 ) -> Result<(), Memory>
     requires sound { IsSound (net_view net.now) }
-    requires alone { IsFoundOnTokens (net_view net.now) }
+    requires solvable { AreSolvable (net_view net.now) }
     requires marking { IsMarking (net_view net.now).places marking.now }
 {
     let entries = enabled(alloc, net, marking, 3)?;
@@ -66,7 +66,7 @@ fn push_times(
 /// What is found in the marking: the bindings, and behind a bar the times of the elements.
 fn told(alloc: Global, net: &Net, marking: &PlainMarking) -> Result<String, Memory>
     requires sound { IsSound (net_view net.now) }
-    requires alone { IsFoundOnTokens (net_view net.now) }
+    requires solvable { AreSolvable (net_view net.now) }
     requires marking { IsMarking (net_view net.now).places marking.now }
     requires some { length net.now.transitions.items ≡ 1 }
 {

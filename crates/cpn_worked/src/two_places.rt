@@ -2,11 +2,11 @@
 ghost use Rattle.std.specs.Prelude.{◌≡◌, ◌<◌, ◌≤◌, nat_lt, true, length, map, replicate, IfOk, OnOk};
 ghost use Rattle.std.specs.List.{list_all, range_with_len};
 ghost use Rattle.cpn_definitions.specs.Marking.{Marking};
-ghost use Rattle.cpn_definitions.specs.Lone.{IsFoundOnTokens};
 ghost use Rattle.cpn_definitions.specs.Sound.{IsSound, IsMarking};
 ghost use Rattle.cpn_core.specs.Colours.{colour_view};
 ghost use Rattle.cpn_core.specs.Inscriptions.{expr_view, pattern_view};
 ghost use Rattle.cpn_core.specs.Nets.{arc_view, transition_view, variable_view, net_view};
+ghost use Rattle.cpn_stages.specs.Solvable.{AreSolvable};
 ghost use Rattle.cpn_worked.specs.TwoPlaces.{numbers as numbers_colour, inscription_of, pattern_of, arc_of, has_arc as some_arc, two_places, IsWorkedTransition, IsWorked};
 
 use cpn_core::{
@@ -212,7 +212,7 @@ pub fn sound_net(
     requires used { list_all (λ x. some_arc x arcs.now) (range_with_len 0 vars) ≡ true }
     requires few { length arcs.now ≤ 64 }
     ensures sound { IfOk result (λ net. IsSound (net_view net)) }
-    ensures alone { IfOk result (λ net. IsFoundOnTokens (net_view net)) }
+    ensures solvable { IfOk result (λ net. AreSolvable (net_view net)) }
     ensures places { IfOk result (λ net. (m : Marking) → IsMarking (two_places timed) m → IsMarking (net_view net).places m) }
     ensures transitions { IfOk result (λ net. length net.transitions.items ≡ 1) }
 {

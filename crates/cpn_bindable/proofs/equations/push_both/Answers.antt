@@ -1,7 +1,11 @@
 -- Other than two parts make no equation.
 use Rattle.std.proofs.Common.{sym, append-nil, arith}
-use Rattle.cpn_bindable.proofs.EquationForms.{not_both}
+use Rattle.cpn_bindable.proofs.EquationForms.{not_both, not_at_both}
 use Rattle.cpn_bindable.proofs.equations.push_both.Goals as goal
 
 pub returns-then-len-ne2 : goal.returns-then-len-ne2
-returns-then-len-ne2 c = record { added = rw (not_both c.args.parts.now.items (λ two. c.if-len-ne2.true (omega (arith, c.args.parts.now.ok.0)))) (sym (append-nil _)) }
+returns-then-len-ne2 c = record {
+  added = rw (not_both c.args.parts.now.items (λ two. c.if-len-ne2.true (omega (arith, c.args.parts.now.ok.0)))) (sym (append-nil _));
+  equations = rw (not_at_both c.args.parts.now.items (λ two. c.if-len-ne2.true (omega (arith, c.args.parts.now.ok.0)))) (sym (append-nil _));
+  sources = λ h. h;
+}

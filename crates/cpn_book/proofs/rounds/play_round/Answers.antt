@@ -1,4 +1,4 @@
--- The round keeps the run under way, its marking one of the net's places, and its draws those of the claims to come.
+-- The round keeps the run under way, its marking one of the net's places, and its draw before the word of the next claim.
 use Rattle.std.proofs.Common.{◌≡◌, ℕ, ◌<◌, ◌%◌, true, length, map, refl, sym, ap, ◌∙◌, subst, arith, rules}
 use Rattle.std.proofs.Math.Path.{ap₂}
 use Rattle.cpn_definitions.specs.Outcome.{gives, faults, HasMeaning}
@@ -11,8 +11,8 @@ use Rattle.cpn_definitions.proofs.SoundElements.{outputs_mean}
 use Rattle.cpn_core.specs.Nets.{net_view}
 use Rattle.cpn_core.specs.Elements.{element_view, entry_view}
 use Rattle.cpn_core.specs.Faults.{fault_view}
+use Rattle.cpn_draw.specs.Draw.{generator, word}
 use Rattle.cpn_runs.specs.declared.events.End.TheVariants as ends
-use Rattle.cpn_runs.specs.Draw.{generator, word}
 use Rattle.cpn_runs.specs.FinishedViews.{setup_view}
 use Rattle.cpn_book.specs.declared.run_progress.Progress.{Progress}
 use Rattle.cpn_book.proofs.PlayedRounds.{some_are_ready, drawn_covered, covered_needs_given, HasClaimed, HasPlayed, HasFaulted, played, kept_marking, faulted}
@@ -53,8 +53,8 @@ returns-in_ok-push-in-Ok-clause-running c = λ none.
     let same : element_view c.in_ok-element.element ≡ (entry_view c.ready_entry-drawn.result.now).element = ap₂ (λ t b. record { transition = t; binding = b }) c.in_ok-element.ensures.transition c.in_ok-element.ensures.binding in
     let needs : needs_of s.net (element_view c.in_ok-element.element) ≡ gives c.in_ok-needs.needs = ap (λ n. needs_of (net_view n) (element_view c.in_ok-element.element)) (sym c.deref.ensures) ∙ c.in_ok-needs.ensures.needs in
     let outputs : outputs_of s.net (element_view c.in_ok-element.element) s.clock ≡ gives c.in-Ok.outputs = ap (λ n. outputs_of (net_view n) (element_view c.in_ok-element.element) s.clock) (sym c.deref-2.ensures) ∙ c.in-Ok.ensures.outputs in
-    let drawn = c.pick-position.ensures.drawn c.args.setup.now.seed (length old.occurrences.items) c.requires.running.draws in
-    let next = c.pick-position.ensures.next c.args.setup.now.seed (length old.occurrences.items) c.requires.running.draws in
+    let drawn = c.pick-position.ensures.drawn c.args.setup.now.seed (length old.occurrences.items) c.requires.running.draw in
+    let next = c.pick-position.ensures.next c.args.setup.now.seed (length old.occurrences.items) c.requires.running.draw in
     let claimed : HasClaimed s old.occurrences.items old.marking = record {
       entries = c.args.entries.now;
       position = c.pick-position.result;
@@ -81,7 +81,7 @@ returns-in_ok-push-in-Ok-clause-running c = λ none.
     record {
       way = played s old.journal.items c.push-2.new.self.items old.occurrences.items c.push-in-Ok.new.self.items old.marking c.add_made.new.self c.requires.playable did c.requires.running.way;
       marking = kept_marking s old.journal.items c.push-2.new.self.items old.occurrences.items c.push-in-Ok.new.self.items old.marking c.add_made.new.self c.requires.playable did c.requires.running.marking;
-      draws = next ∙ ap (generator c.args.setup.now.seed) (search rules);
+      draw = next ∙ ap (generator c.args.setup.now.seed) (search rules);
     }
 
 pub returns-in_ok-push-in-Err-Fault-clause-ended : goal.returns-in_ok-push-in-Err-Fault-clause-ended
@@ -91,7 +91,7 @@ returns-in_ok-push-in-Err-Fault-clause-ended c =
     let same : element_view c.in_ok-element.element ≡ (entry_view c.ready_entry-drawn.result.now).element = ap₂ (λ t b. record { transition = t; binding = b }) c.in_ok-element.ensures.transition c.in_ok-element.ensures.binding in
     let told : outputs_of (net_view c.deref-2.result.now) (element_view c.in_ok-element.element) s.clock ≡ faults (fault_view c.in-Err-Fault.fault) = search rules in
     let fault : outputs_of s.net (element_view c.in_ok-element.element) s.clock ≡ faults (fault_view c.in-Err-Fault.fault) = ap (λ n. outputs_of (net_view n) (element_view c.in_ok-element.element) s.clock) (sym c.deref-2.ensures) ∙ told in
-    let drawn = c.pick-position.ensures.drawn c.args.setup.now.seed (length old.occurrences.items) c.requires.running.draws in
+    let drawn = c.pick-position.ensures.drawn c.args.setup.now.seed (length old.occurrences.items) c.requires.running.draw in
     let claimed : HasClaimed s old.occurrences.items old.marking = record {
       entries = c.args.entries.now;
       position = c.pick-position.result;
@@ -112,5 +112,5 @@ returns-in_ok-push-in-Err-Fault-clause-ended c =
       journal_is = search rules;
       cause_is = refl;
     } in
-    let after : Progress = record { marking = old.marking; occurrences = old.occurrences; journal = c.push-in-Err-Fault.new.self; draws = c.pick-position.new.self } in
+    let after : Progress = record { marking = old.marking; occurrences = old.occurrences; journal = c.push-in-Err-Fault.new.self; draw = c.pick-position.new.self } in
     faulted s old.journal.items old.occurrences.items old.marking after (ends.Fault c.in_ok-element.element c.in-Err-Fault.fault) c.requires.playable did refl refl c.requires.running.way

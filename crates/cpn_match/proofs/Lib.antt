@@ -1,0 +1,5 @@
+pub mod PairPlaces
+pub mod Levels
+pub mod Rows
+pub mod ForgottenValues
+pub mod Matched

@@ -1,0 +1,4 @@
+pub mod PartialCode
+pub mod Pairs
+pub mod Places
+pub mod Answers

@@ -1,0 +1,2 @@
+pub mod AcceptedSides
+pub mod SolvableTransitions
