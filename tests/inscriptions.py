@@ -17,7 +17,6 @@ ANSWER  TOKENS          the document is served, t occurs once, and these tokens 
                         and word 0 of seed 0, which is 2354861276966075475, modulo N is the number of the one that occurs
         idle            it is served, and t is not enabled
         fault NAME      the inscription of the arc, or the initial marking, has that fault
-        not yet         the text is accepted, but the net is not served: error document 7 not_yet
         PART K NAME ..  the text is refused: error inscription POINTER PART K NAME .., with the pointer of the text, or with
                         that of t where its variables are refused
 
@@ -121,8 +120,6 @@ def answer_of(row, document, written):
     answer, ways = written(row.answer).decode(), 1
     if found := WAYS.fullmatch(answer):
         answer, ways = found[1], int(found[2])
-    if answer == "not yet":
-        return "error document 7 not_yet\n", 3
     if re.match("(lex|syntax|type) ", answer):
         return f"error inscription {pointer_of(row, document)} {answer}\n", 4
     if answer.startswith("fault "):

@@ -1,4 +1,5 @@
 pub mod SoonestTimes
+pub mod NextTimes
 pub mod ReadyEntries
 pub mod PlayedRounds
 pub mod EndedRuns

@@ -9,10 +9,9 @@ use Rattle.cpn_definitions.specs.Net.{PlainNet}
 use Rattle.cpn_definitions.specs.Outcome.{gives, faults}
 use Rattle.cpn_definitions.specs.Occurrence.{PlainElement, Needed, Made, threshold, threshold_in, are_covered, may_occur, needs_of, covered, outputs_of, subtract, add_made}
 use Rattle.cpn_definitions.specs.Enabled.{PlainEntry, Enabled, ready}
-use Rattle.cpn_definitions.specs.Sound.{Gives, IsUntimed, IsMarking}
+use Rattle.cpn_definitions.specs.Sound.{Gives, IsMarking}
 use Rattle.cpn_definitions.proofs.Outcomes.{gives_and_parts}
 use Rattle.cpn_definitions.proofs.RisingLists.{in_filter_from, contains_from_in}
-use Rattle.cpn_definitions.proofs.UntimedNets.{all_are_ready}
 use Rattle.cpn_definitions.proofs.Markings.{occurred_marking}
 use Rattle.cpn_core.specs.declared.bindings.Element.{Element}
 use Rattle.cpn_core.specs.declared.entries.Entry.{Entry}
@@ -28,7 +27,7 @@ use Rattle.cpn_runs.specs.declared.events.End.TheVariants as ends
 use Rattle.cpn_runs.specs.Views.{occurrence_view, event_view, end_view}
 use Rattle.cpn_runs.specs.State.{PlainSetup, PlainEvent, claim_made, claim_completed, cut_made, fault_end, PlainOccurrence, given_needs}
 use Rattle.cpn_runs.specs.Run.{HasOutlook}
-use Rattle.cpn_runs.specs.Rounds.{IsUnderWay, IsClaimed, IsRound, IsFaultyRound, faulted_journal, next_occurrence, marking_after}
+use Rattle.cpn_runs.specs.Rounds.{IsUnderWay, IsClaimed, IsRound, IsFaultyRound, played_journal, faulted_journal, next_occurrence, marking_after}
 use Rattle.cpn_runs.proofs.Items.{map_more, in_from_get}
 use Rattle.cpn_runs.proofs.Rounds.{round_more}
 use Rattle.cpn_runs.proofs.RunEnds.{ended_by_fault}
@@ -37,13 +36,6 @@ use Rattle.cpn_book.specs.Progress.{HasEnded}
 use Rattle.cpn_book.specs.declared.run_progress.Progress.{Progress}
 
 -- ---- what is drawn
-
--- where something is enabled in an untimed net, something is ready
-pub some_are_ready : (n : PlainNet) (m : Marking) (clock : ℕ) (entries : List Entry) → IsUntimed n → Enabled n m clock (map entry_view entries) → 0 < length entries → 0 < length (ready clock (map entry_view entries))
-some_are_ready n m clock entries untimed enabled some =
-    let all : ready clock (map entry_view entries) ≡ map entry_view entries = all_are_ready n m clock (map entry_view entries) untimed enabled in
-    let same : length (ready clock (map entry_view entries)) ≡ length entries = ap length all ∙ length-map entries entry_view in
-    omega arith
 
 -- what is drawn from the ready elements is covered at the clock
 pub drawn_covered : (n : PlainNet) (m : Marking) (clock : ℕ) (entries : List PlainEntry) (i : ℕ) (x : PlainEntry) → Enabled n m clock entries → slice_get (ready clock entries) i ≡ Some x → covered n m clock x.element ≡ true
@@ -62,105 +54,106 @@ covered_needs_given n m time e is =
 -- ---- a round
 
 -- What the code of a round claims, of what is enabled in the marking, behind the occurrences.
-pub record HasClaimed (setup : PlainSetup) (O : List Occurrence) (M : Marking) : Type 0 where
+pub record HasClaimed (setup : PlainSetup) (clock : ℕ) (O : List Occurrence) (M : Marking) : Type 0 where
   pub entries : List Entry
   pub position : ℕ
   pub entry : Entry
   pub element : Element
   pub number : ℕ
-  pub enabled : Enabled setup.net M setup.clock (map entry_view entries)
+  pub enabled : Enabled setup.net M clock (map entry_view entries)
   pub below_limit : length O < setup.limits.steps
   pub number_is : number ≡ length O
-  pub position_is : position ≡ word setup.seed (length O) % length (ready setup.clock (map entry_view entries))
-  pub entry_is : slice_get (ready setup.clock (map entry_view entries)) position ≡ Some (entry_view entry)
+  pub position_is : position ≡ word setup.seed (length O) % length (ready clock (map entry_view entries))
+  pub entry_is : slice_get (ready clock (map entry_view entries)) position ≡ Some (entry_view entry)
   pub element_is : element_view element ≡ element_view entry.element
 
 -- What the code of a round did: the journal, the occurrences and the marking before and after it.
-pub record HasPlayed (setup : PlainSetup) (J J' : List Event) (O O' : List Occurrence) (M M' : Marking) : Type 0 where
-  pub claimed : HasClaimed setup O M
+pub record HasPlayed (setup : PlainSetup) (clock : ℕ) (J J' : List Event) (O O' : List Occurrence) (M M' : Marking) : Type 0 where
+  pub claimed : HasClaimed setup clock O M
   pub needs : List Needed
   pub outputs : List Made
   pub needs_are : needs_of setup.net (element_view claimed.element) ≡ gives needs
-  pub outputs_are : outputs_of setup.net (element_view claimed.element) setup.clock ≡ gives outputs
+  pub outputs_are : outputs_of setup.net (element_view claimed.element) clock ≡ gives outputs
   pub journal_is : J' ≡ (J ++ events.Claim 0 claimed.number ∷ []) ++ events.Done 0 claimed.number ∷ []
-  pub occurrences_are : O' ≡ O ++ record { number = claimed.number; time = setup.clock; element = claimed.element } ∷ []
-  pub marking_is : M' ≡ add_made outputs (subtract (threshold setup.clock) needs M)
+  pub occurrences_are : O' ≡ O ++ record { number = claimed.number; time = clock; element = claimed.element } ∷ []
+  pub marking_is : M' ≡ add_made outputs (subtract (threshold clock) needs M)
 
 -- What the code of a round with a fault did: the journal before and after it, and the cause of the end.
-pub record HasFaulted (setup : PlainSetup) (J J' : List Event) (O : List Occurrence) (M : Marking) (cause : End) : Type 0 where
-  pub claimed : HasClaimed setup O M
+pub record HasFaulted (setup : PlainSetup) (clock : ℕ) (J J' : List Event) (O : List Occurrence) (M : Marking) (cause : End) : Type 0 where
+  pub claimed : HasClaimed setup clock O M
   pub fault : EvalFault
-  pub fault_is : outputs_of setup.net (element_view claimed.element) setup.clock ≡ faults (fault_view fault)
+  pub fault_is : outputs_of setup.net (element_view claimed.element) clock ≡ faults (fault_view fault)
   pub journal_is : J' ≡ ((J ++ events.Claim 0 claimed.number ∷ []) ++ events.Done 0 claimed.number ∷ []) ++ events.Cut claimed.number ∷ []
   pub cause_is : cause ≡ ends.Fault claimed.element fault
 
 -- the drawn one of the ready elements is claimed
-is_claimed : (setup : PlainSetup) (O : List Occurrence) (M : Marking) → IsPlayable setup → (p : HasClaimed setup O M) → IsClaimed setup (map occurrence_view O) M (entry_view p.entry)
-is_claimed setup O M playable p =
+is_claimed : (setup : PlainSetup) (clock : ℕ) (O : List Occurrence) (M : Marking) → IsPlayable setup → (p : HasClaimed setup clock O M) → IsClaimed setup clock (map occurrence_view O) M (entry_view p.entry)
+is_claimed setup clock O M playable p =
     let same : length (map occurrence_view O) ≡ length O = length-map O occurrence_view in
     record {
       entries = map entry_view p.entries;
       enabled = p.enabled;
-      drawn_is = ap (slice_get (ready setup.clock (map entry_view p.entries))) (ap (λ (k : ℕ). word setup.seed k % length (ready setup.clock (map entry_view p.entries))) same ∙ sym p.position_is) ∙ p.entry_is;
+      drawn_is = ap (slice_get (ready clock (map entry_view p.entries))) (ap (λ (k : ℕ). word setup.seed k % length (ready clock (map entry_view p.entries))) same ∙ sym p.position_is) ∙ p.entry_is;
       below_limit = subst (λ (k : ℕ). k < setup.limits.steps) (sym same) p.below_limit;
       has_seat = (let seat = playable.seat in omega arith);
-      is_covered = drawn_covered setup.net M setup.clock (map entry_view p.entries) p.position (entry_view p.entry) p.enabled p.entry_is;
+      is_covered = drawn_covered setup.net M clock (map entry_view p.entries) p.position (entry_view p.entry) p.enabled p.entry_is;
     }
 
 -- the claim and the completion in the journal
 claim_seen : (J : List Event) (number : ℕ) → map event_view ((J ++ events.Claim 0 number ∷ []) ++ events.Done 0 number ∷ []) ≡ (map event_view J ++ claim_made 0 number ∷ []) ++ claim_completed 0 number ∷ []
 claim_seen J number = map_more event_view (J ++ events.Claim 0 number ∷ []) (events.Done 0 number) ∙ ap (λ xs. xs ++ claim_completed 0 number ∷ []) (map_more event_view J (events.Claim 0 number))
 
-module _ (setup : PlainSetup) (J J' : List Event) (O O' : List Occurrence) (M M' : Marking) (playable : IsPlayable setup) (p : HasPlayed setup J J' O O' M M') where
+module _ (setup : PlainSetup) (clock : ℕ) (J J' : List Event) (O O' : List Occurrence) (M M' : Marking) (playable : IsPlayable setup) (p : HasPlayed setup clock J J' O O' M M') where
   number_seen : p.claimed.number ≡ length (map occurrence_view O)
   number_seen = p.claimed.number_is ∙ sym (length-map O occurrence_view)
 
-  is_round : IsRound setup (map occurrence_view O) M (entry_view p.claimed.entry) p.outputs
-  is_round = record { claimed = is_claimed setup O M playable p.claimed; outputs_are = ap (λ e. outputs_of setup.net e setup.clock) (sym p.claimed.element_is) ∙ p.outputs_are }
+  is_round : IsRound setup clock (map occurrence_view O) M (entry_view p.claimed.entry) p.outputs
+  is_round = record { claimed = is_claimed setup clock O M playable p.claimed; outputs_are = ap (λ e. outputs_of setup.net e clock) (sym p.claimed.element_is) ∙ p.outputs_are }
 
-  journal_seen : map event_view J' ≡ (map event_view J ++ claim_made 0 (length (map occurrence_view O)) ∷ []) ++ claim_completed 0 (length (map occurrence_view O)) ∷ []
+  journal_seen : map event_view J' ≡ played_journal (map event_view J) (map occurrence_view O)
   journal_seen =
       ap (map event_view) p.journal_is ∙ claim_seen J p.claimed.number ∙ ap (λ (n : ℕ). (map event_view J ++ claim_made 0 n ∷ []) ++ claim_completed 0 n ∷ []) number_seen
 
-  occurrences_seen : map occurrence_view O' ≡ map occurrence_view O ++ next_occurrence setup (map occurrence_view O) (entry_view p.claimed.entry).element ∷ []
+  occurrences_seen : map occurrence_view O' ≡ map occurrence_view O ++ next_occurrence clock (map occurrence_view O) (entry_view p.claimed.entry).element ∷ []
   occurrences_seen =
-      ap (map occurrence_view) p.occurrences_are ∙ map_more occurrence_view O (record { number = p.claimed.number; time = setup.clock; element = p.claimed.element })
-      ∙ ap₂ (λ n e. map occurrence_view O ++ record { number = n; time = setup.clock; element = e } ∷ []) number_seen p.claimed.element_is
+      ap (map occurrence_view) p.occurrences_are ∙ map_more occurrence_view O (record { number = p.claimed.number; time = clock; element = p.claimed.element })
+      ∙ ap₂ (λ n e. map occurrence_view O ++ record { number = n; time = clock; element = e } ∷ []) number_seen p.claimed.element_is
 
-  marking_seen : M' ≡ marking_after setup M (entry_view p.claimed.entry).element p.outputs
+  marking_seen : M' ≡ marking_after setup.net clock M (entry_view p.claimed.entry).element p.outputs
   marking_seen =
       let needs : p.needs ≡ given_needs (needs_of setup.net (entry_view p.claimed.entry).element) = sym (ap given_needs (ap (needs_of setup.net) (sym p.claimed.element_is) ∙ p.needs_are)) in
-      p.marking_is ∙ ap (λ xs. add_made p.outputs (subtract (threshold setup.clock) xs M)) needs
+      p.marking_is ∙ ap (λ xs. add_made p.outputs (subtract (threshold clock) xs M)) needs
 
   -- a round keeps a run under way
-  pub played : IsUnderWay setup (map event_view J) (map occurrence_view O) M → IsUnderWay setup (map event_view J') (map occurrence_view O') M'
+  pub played : IsUnderWay setup (map event_view J) clock (map occurrence_view O) M → IsUnderWay setup (map event_view J') clock (map occurrence_view O') M'
   played way =
-      let next = round_more setup (map event_view J) (map occurrence_view O) M (entry_view p.claimed.entry) p.outputs way is_round in
-      let A : List PlainEvent → Type 0 = λ j. IsUnderWay setup j (map occurrence_view O') M' in
-      let B : List PlainOccurrence → Type 0 = λ o. IsUnderWay setup ((map event_view J ++ claim_made 0 (length (map occurrence_view O)) ∷ []) ++ claim_completed 0 (length (map occurrence_view O)) ∷ []) o M' in
-      let C : Marking → Type 0 = λ m. IsUnderWay setup ((map event_view J ++ claim_made 0 (length (map occurrence_view O)) ∷ []) ++ claim_completed 0 (length (map occurrence_view O)) ∷ []) (map occurrence_view O ++ next_occurrence setup (map occurrence_view O) (entry_view p.claimed.entry).element ∷ []) m in
+      let next = round_more setup clock (map occurrence_view O) M (entry_view p.claimed.entry) (map event_view J) p.outputs way is_round in
+      let A : List PlainEvent → Type 0 = λ j. IsUnderWay setup j clock (map occurrence_view O') M' in
+      let B : List PlainOccurrence → Type 0 = λ o. IsUnderWay setup (played_journal (map event_view J) (map occurrence_view O)) clock o M' in
+      let C : Marking → Type 0 = λ m. IsUnderWay setup (played_journal (map event_view J) (map occurrence_view O)) clock (map occurrence_view O ++ next_occurrence clock (map occurrence_view O) (entry_view p.claimed.entry).element ∷ []) m in
       subst A (sym journal_seen) (subst B (sym occurrences_seen) (subst C (sym marking_seen) next))
 
   -- and its marking one of the net's places
   pub kept_marking : IsMarking setup.net.places M → IsMarking setup.net.places M'
   kept_marking is =
-      subst (IsMarking setup.net.places) (sym p.marking_is) (occurred_marking setup.net (threshold setup.clock) p.needs (element_view p.claimed.element) setup.clock p.outputs M playable.sound p.outputs_are is)
+      subst (IsMarking setup.net.places) (sym p.marking_is) (occurred_marking setup.net (threshold clock) p.needs (element_view p.claimed.element) clock p.outputs M playable.sound p.outputs_are is)
 
 -- a round with a fault ends the run
-pub faulted : (setup : PlainSetup) (J : List Event) (O : List Occurrence) (M : Marking) (after : Progress) (cause : End) → IsPlayable setup → HasFaulted setup J after.journal.items O M cause → after.occurrences.items ≡ O → after.marking ≡ M
-    → IsUnderWay setup (map event_view J) (map occurrence_view O) M → HasEnded setup after (end_view cause)
-faulted setup J O M after cause playable p occurrences marking way =
+pub faulted : (setup : PlainSetup) (clock : ℕ) (J : List Event) (O : List Occurrence) (M : Marking) (after : Progress) (cause : End) → IsPlayable setup → HasFaulted setup clock J after.journal.items O M cause → after.occurrences.items ≡ O → after.marking ≡ M → after.clock ≡ clock
+    → IsUnderWay setup (map event_view J) clock (map occurrence_view O) M → HasEnded setup after (end_view cause)
+faulted setup clock J O M after cause playable p occurrences marking now way =
     let os = map occurrence_view O in
     let claimed = p.claimed in
     let number : claimed.number ≡ length os = claimed.number_is ∙ sym (length-map O occurrence_view) in
     let element = (entry_view claimed.entry).element in
-    let round : IsFaultyRound setup os M (entry_view claimed.entry) (fault_view p.fault) = record { claimed = is_claimed setup O M playable claimed; fault_is = ap (λ e. outputs_of setup.net e setup.clock) (sym claimed.element_is) ∙ p.fault_is } in
+    let round : IsFaultyRound setup clock os M (entry_view claimed.entry) (fault_view p.fault) = record { claimed = is_claimed setup clock O M playable claimed; fault_is = ap (λ e. outputs_of setup.net e clock) (sym claimed.element_is) ∙ p.fault_is } in
     let journal : map event_view after.journal.items ≡ faulted_journal (map event_view J) os =
     ap (map event_view) p.journal_is ∙ map_more event_view ((J ++ events.Claim 0 claimed.number ∷ []) ++ events.Done 0 claimed.number ∷ []) (events.Cut claimed.number)
     ∙ ap (λ xs. xs ++ cut_made claimed.number ∷ []) (claim_seen J claimed.number)
     ∙ ap (λ (n : ℕ). ((map event_view J ++ claim_made 0 n ∷ []) ++ claim_completed 0 n ∷ []) ++ cut_made n ∷ []) number in
     let is : end_view cause ≡ fault_end element (fault_view p.fault) = ap end_view p.cause_is ∙ ap (λ e. fault_end e (fault_view p.fault)) claimed.element_is in
     λ opening closing at_start at_end.
-    let seen : HasOutlook setup M setup.clock closing = subst (λ m. HasOutlook setup m setup.clock closing) marking at_end in
-    let run = ended_by_fault setup (map event_view J) os M (entry_view claimed.entry) (fault_view p.fault) opening closing way round at_start seen in
-    rw (journal, occurrences, marking, is) run
+    let P : Marking → ℕ → Type 0 = λ m t. HasOutlook setup m t closing in
+    let seen : HasOutlook setup M clock closing = subst (P M) now (subst (λ m. P m after.clock) marking at_end) in
+    let run = ended_by_fault setup (map event_view J) clock os M (entry_view claimed.entry) (fault_view p.fault) opening closing way round at_start seen in
+    rw (journal, occurrences, marking, now, is) run

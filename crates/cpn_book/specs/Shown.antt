@@ -12,4 +12,4 @@ outlook_at clock entries = record { ready_count = length (ready clock entries); 
 
 -- what the progress shows, with the outlook at the start, what is enabled at the end, and the cause of the end
 abbrev pub shown : PlainSetup → Progress → Outlook → List PlainEntry → PlainEnd → PlainFinished
-shown setup p opening entries cause = ended_with setup p cause opening (outlook_at setup.clock entries)
+shown setup p opening entries cause = ended_with setup p cause opening (outlook_at p.clock entries)

@@ -1,6 +1,6 @@
 //! Books: runs of one seat, from their start to their end.
 
-ghost use Rattle.std.specs.Prelude.{◌≡◌, map, IfOk};
+ghost use Rattle.std.specs.Prelude.{◌≡◌, ◌≤◌, map, IfOk};
 ghost use Rattle.cpn_runs.specs.Run.{IsRun};
 ghost use Rattle.cpn_core.specs.Elements.{entry_view};
 ghost use Rattle.cpn_runs.specs.Views.{end_view};
@@ -9,6 +9,7 @@ ghost use Rattle.cpn_book.specs.Playable.{IsPlayable};
 ghost use Rattle.cpn_book.specs.Books.{setup_in};
 ghost use Rattle.cpn_book.specs.Shown.{shown};
 
+use crate::clock::reach_next_time;
 use crate::outlooks::outlook;
 use crate::rounds::play_round;
 use crate::run_progress::Progress;
@@ -36,17 +37,21 @@ impl Book {
         Book { alloc, setup }
     }
 
-    /// The run from its start to its end, each claim being completed before the next is made: until the limit
-    /// of claims is reached, nothing is enabled, or the outputs of an element have a fault.
+    /// The run from its start to its end, each claim being completed before the next is made, and the clock moving where
+    /// nothing is ready: until the limit of claims is reached, nothing is enabled at any time, nothing is enabled up to the
+    /// last time that the run may reach, or the outputs of an element have a fault.
     pub fn run_alone(self) -> Result<Finished, Memory>
         requires playable { IsPlayable (setup_in self) }
         ensures setup { IfOk result (λ f. setup_view f.setup ≡ setup_in self) }
         // The journal leads to a state that ends by the cause, the occurrences are a legal occurrence sequence,
         // a fault is that of an element that is covered at the end, and the rest is what that state has.
         ensures run { IfOk result (λ f. IsRun (setup_in self) (finished_view f)) }
+        // The clock does not pass the last time that the run may reach.
+        ensures in_time { IfOk result (λ f. f.clock ≤ self.setup.limits.until) }
     {
         let Book { alloc, setup } = self;
         let mut progress = Progress {
+            clock: setup.clock,
             marking: setup.start.copy()?,
             occurrences: Vec::new(alloc),
             journal: Vec::new(alloc),
@@ -55,13 +60,13 @@ impl Book {
         let mut entries = enabled(alloc, &setup.net, &progress.marking, setup.clock)?;
         let opening = outlook(&entries, setup.clock);
         'rounds: for _number in 0..setup.limits.steps {
-            if entries.is_empty() {
-                return Ok(finished(setup, progress, opening, &entries, End::Dead));
+            if let Some(cause) = reach_next_time(&setup, &entries, &mut progress)? {
+                return Ok(finished(setup, progress, opening, &entries, cause));
             }
             if let Some(cause) = play_round(alloc, &setup, &entries, &mut progress)? {
                 return Ok(finished(setup, progress, opening, &entries, cause));
             }
-            entries = enabled(alloc, &setup.net, &progress.marking, setup.clock)?;
+            entries = enabled(alloc, &setup.net, &progress.marking, progress.clock)?;
         }
         Ok(finished(setup, progress, opening, &entries, End::Steps))
     }
@@ -78,15 +83,14 @@ fn finished(
     ensures setup { setup_view result.setup ≡ setup_view setup }
     ensures shown { finished_view result ≡ shown (setup_view setup) progress (outlook_view opening) (map entry_view entries.now) (end_view cause) }
 {
-    let closing = outlook(entries, setup.clock);
-    let clock = setup.clock;
+    let closing = outlook(entries, progress.clock);
     Finished {
         setup,
         opening,
         journal: progress.journal,
         occurrences: progress.occurrences,
         marking: progress.marking,
-        clock,
+        clock: progress.clock,
         cause,
         closing,
     }

@@ -5,6 +5,7 @@
 #![tactic(auto)]
 
 mod books;
+mod clock;
 mod outlooks;
 mod rounds;
 mod run_progress;

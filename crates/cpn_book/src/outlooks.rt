@@ -32,7 +32,8 @@ pub fn ready_count(entries: &[Entry], clock: u64) -> u64
     count
 }
 
-fn next_time(entries: &[Entry]) -> Option<u64>
+/// The least earliest time, `None` where nothing is enabled at any time.
+pub fn next_time(entries: &[Entry]) -> Option<u64>
     ensures { result ≡ next_time (map entry_view entries.now) }
 {
     let mut next = None;

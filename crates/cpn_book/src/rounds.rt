@@ -30,29 +30,31 @@ pub fn play_round(
 ) -> Result<Option<End>, Memory>
     requires playable { IsPlayable (setup_view setup.now) }
     requires running { IsRunning (setup_view setup.now) progress.old }
-    requires enabled { Enabled (net_view setup.now.net.value) progress.old.marking setup.now.clock (map entry_view entries.now) }
-    requires some { 0 < length entries.now }
+    requires enabled { Enabled (net_view setup.now.net.value) progress.old.marking progress.old.clock (map entry_view entries.now) }
+    requires some { 0 < length (ready progress.old.clock (map entry_view entries.now)) }
     requires below_limit { length progress.old.occurrences.items < setup.now.limits.steps }
     ensures running { IfOk result (λ ended. ended ≡ None → IsRunning (setup_view setup.now) progress.new) }
     ensures count { IfOk result (λ ended. ended ≡ None → length progress.new.occurrences.items ≡ length progress.old.occurrences.items + 1) }
     ensures ended { IfOk result (λ ended. IfSome ended (λ cause. HasEnded (setup_view setup.now) progress.new (end_view cause))) }
+    ensures clock { progress.new.clock ≡ progress.old.clock }
     ensures marking { IfOk result (λ ended. IfSome ended (λ _. progress.new.marking ≡ progress.old.marking)) }
 {
+    let clock = progress.clock;
     let number = progress.occurrences.len() as u64;
-    let position = progress.draw.pick(ready_count(entries, setup.clock));
-    let drawn = ready_entry(entries, setup.clock, position);
+    let position = progress.draw.pick(ready_count(entries, clock));
+    let drawn = ready_entry(entries, clock, position);
     let element = drawn.element.copy()?;
     let needs = needs_taken(alloc, &setup.net, &element)?;
     progress.journal.push(Event::Claim { seat: 0, number })?;
-    let outputs = outputs_of(alloc, &setup.net, &element, setup.clock);
+    let outputs = outputs_of(alloc, &setup.net, &element, clock);
     progress.journal.push(Event::Done { seat: 0, number })?;
     match outputs {
         Ok(outputs) => {
-            progress.marking.subtract(&needs, setup.clock);
+            progress.marking.subtract(&needs, clock);
             progress.marking.add_made(outputs)?;
             progress.occurrences.push(Occurrence {
                 number,
-                time: setup.clock,
+                time: clock,
                 element,
             })?;
             Ok(None)

@@ -1,14 +1,16 @@
 //! How far a run of one seat has come.
 
-use cpn_core::PlainMarking;
 use cpn_draw::Draw;
+use cpn_marking::Marking;
 use cpn_runs::{Event, Occurrence};
 
 /// How far a run of one seat has come.
 #[derive(Drop)]
 pub struct Progress {
+    /// The clock.
+    pub clock: u64,
     /// The marking that its claims leave.
-    pub marking: PlainMarking,
+    pub marking: Marking,
     /// Its occurrences.
     pub occurrences: Vec<Occurrence>,
     /// Its events.

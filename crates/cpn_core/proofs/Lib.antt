@@ -1,8 +1,6 @@
 pub mod Levels
 pub mod Items
 pub mod Shapes
-pub mod PlacedTokens
-pub mod TakenStamps
 pub mod NumberedItems
 pub mod ShapeCounts
 pub mod CappedCounts
@@ -11,10 +9,3 @@ pub mod ListedParts
 pub mod ShapeOrder
 pub mod ShapeMembers
 pub mod SmallSets
-pub mod TokenPlaces
-pub mod InsertPlaces
-pub mod Thresholds
-pub mod EarliestTimes
-pub mod Ranks
-pub mod StampRanks
-pub mod NeedPlaces

@@ -7,11 +7,7 @@ pub mod BindingCode
 pub mod Inscriptions
 pub mod Nets
 pub mod Elements
-pub mod Tokens
 pub mod Code
-pub mod Positions
 pub mod Faults
-pub mod InsertPlaces
 pub mod NeedsViews
 pub mod OutputsViews
-pub mod NeedPositions

@@ -1,5 +1,5 @@
-//! The data of nets: values with their order, colour sets with the values that they admit, markings as sorted
-//! tokens with time stamps, nets with their inscriptions, bindings, and the tokens that a binding element
+//! The data of nets: values with their order, colour sets with the values that they admit, nets with their
+//! inscriptions, bindings, and the tokens that a binding element
 //! needs and makes. Each stands for the plain data of the definitions, and its calls answer exactly what the
 //! definitions say. `Memory` and `Text` of `cpn_memory` are passed on. The crate evaluates no inscription,
 //! knows nothing of what is enabled, and reads and writes nothing outside the program.
@@ -9,17 +9,13 @@ mod bindings;
 mod colours;
 mod comparing;
 mod entries;
-mod exchanges;
 mod faults;
 mod inscriptions;
-mod markings;
 mod needed;
 mod needs;
 mod nets;
 mod outputs;
-mod places;
 mod small;
-mod stamps;
 mod values;
 
 pub use bindings::{Binding, Element, Pair};
@@ -31,10 +27,8 @@ pub use inscriptions::{
     ArcExpr, Arm, BindingTerm, Expr, Exprs, Function, Funs, Guard, MArm, MExpr, MExprs, Op, Pat,
     Pats,
 };
-pub use markings::PlainMarking;
 pub use needed::Needed;
 pub use needs::Needs;
 pub use nets::{Net, Place, PlaceArc, Transition, Variable};
 pub use outputs::{Made, Outputs};
-pub use places::Token;
 pub use values::{Value, Values, copy_values};

@@ -5,7 +5,7 @@ ghost use Rattle.std.specs.Ordering.{is_lt};
 ghost use Rattle.cpn_definitions.specs.Lists.{with_item, IsInOrder};
 ghost use Rattle.cpn_definitions.specs.Occurrence.{made_cmp};
 ghost use Rattle.cpn_core.specs.Views.{value_view};
-ghost use Rattle.cpn_core.specs.InsertPlaces.{IsInsertPlace};
+ghost use Rattle.cpn_definitions.specs.InsertPlaces.{IsInsertPlace};
 ghost use Rattle.cpn_core.specs.OutputsViews.{made_view, made_views};
 
 use crate::values::Value;

@@ -4,6 +4,7 @@ pub mod DividedLists
 pub mod RisingLists
 pub mod OneEnabledList
 pub mod OrderedLists
+pub mod InsertPlaces
 pub mod TokenOrder
 pub mod Outcomes
 pub mod UntimedPlaces
@@ -14,7 +15,6 @@ pub mod Addition
 pub mod RicherMarkings
 pub mod Needs
 pub mod Terms
-pub mod Lone
 pub mod Markings
 pub mod LegalSequences
 pub mod Rows

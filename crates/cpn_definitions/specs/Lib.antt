@@ -1,6 +1,7 @@
 pub mod Value
 pub mod Order
 pub mod Lists
+pub mod InsertPlaces
 pub mod Colour
 pub mod Marking
 pub mod ValueOrder
@@ -12,7 +13,6 @@ pub mod Net
 pub mod Meaning
 pub mod Terms
 pub mod Bindable
-pub mod Lone
 pub mod Occurrence
 pub mod Legal
 pub mod Enabled

@@ -1,6 +1,6 @@
 -- Sound nets: those that the calls of the program take. Source: own choice.
 use Rattle.std.specs.Prelude.{◌≡◌, ◌||◌, ◌&&◌, ℕ, ◌+◌, ◌<◌, ◌≤◌, ◌==◌, ◌^◌, Bool, true, false, nat_lt, List, [], ◌∷◌, length, Contains}
-use Rattle.std.specs.List.{list_all, AllByRecursion}
+use Rattle.std.specs.List.{flat_map, list_all, AllByRecursion}
 use Rattle.std.specs.Ordering.{nat_cmp}
 use Rattle.cpn_definitions.specs.Colour.{PlainColour, admits}
 use Rattle.cpn_definitions.specs.Lists.{Rises}
@@ -9,7 +9,8 @@ use Rattle.cpn_definitions.specs.Outcome.{Outcome, gives, HasMeaning}
 use Rattle.cpn_definitions.specs.Net.{PlainArc, PlainTransition, Coloured, PlainNet, place_at, is_timed}
 use Rattle.cpn_definitions.specs.Meaning.{PlainBinding, meaning}
 use Rattle.cpn_definitions.specs.Terms.{terms_of}
-use Rattle.cpn_definitions.specs.Bindable.{binding_terms, AreClosed, IsBindable}
+use Rattle.cpn_definitions.specs.Inscription.{PlainExpr}
+use Rattle.cpn_definitions.specs.Bindable.{binding_terms, variables_of, AreClosed, IsBindable, IsEquated}
 use Rattle.cpn_definitions.specs.Occurrence.{binds, transition_delay}
 use Rattle.cpn_definitions.specs.Times.{last_time}
 
@@ -25,13 +26,21 @@ pub record IsSoundInput (n : PlainNet) (t : PlainTransition) (arc : PlainArc) : 
   pub sound : IsSoundArc n t arc
   pub terms_are : arc.terms ≡ binding_terms arc.expr
 
+-- Solvable guard: its variables are among the transition's; and what it makes a variable equal to has a meaning under each
+-- binding of its own variables, so that a search may go by it.
+pub record IsSolvable (n : PlainNet) (t : PlainTransition) : Type 0 where
+  pub guard_listed : (x : ℕ) → Contains (flat_map variables_of t.guard) x → Contains t.vars x
+  pub equations_mean : (x : ℕ) (e : PlainExpr) → IsEquated t x e → (xs : List ℕ) (b : PlainBinding) → binds n xs b ≡ true
+      → ((y : ℕ) → Contains (variables_of e) y → Contains xs y) → HasMeaning (meaning n.functions e b 0)
+
 -- Sound transition: its variables are listed once, in declaration order, and are variables of the net, each bindable; its
--- guard and its delay have a meaning under each binding of them; it has at most 64 arcs, which are sound.
+-- guard and its delay have a meaning under each binding of them; its guard is solvable; it has at most 64 arcs, which are sound.
 pub record IsSoundTransition (n : PlainNet) (t : PlainTransition) : Type 0 where
   pub listed : Rises nat_cmp t.vars
   pub declared : list_all (λ x. nat_lt x (length n.variables)) t.vars ≡ true
   pub bindable : (x : ℕ) → Contains t.vars x → IsBindable n t x
   pub guard_means : (b : PlainBinding) → binds n t.vars b ≡ true → AllByRecursion (λ e. HasMeaning (meaning n.functions e b 0)) t.guard
+  pub guard_solvable : IsSolvable n t
   pub delay_means : (b : PlainBinding) (time : ℕ) → binds n t.vars b ≡ true → time ≤ last_time → HasMeaning (transition_delay n.functions t.delay b time)
   pub few_arcs : length t.inputs + length t.outputs ≤ 64
   pub inputs_sound : AllByRecursion (IsSoundInput n t) t.inputs

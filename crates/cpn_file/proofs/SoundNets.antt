@@ -11,6 +11,7 @@ use Rattle.cpn_typing.specs.Consistency.{IsConsistent}
 use Rattle.cpn_typing.specs.Multisets.{Side, input, output}
 use Rattle.cpn_typing.specs.Names.{Declared, Checked, ok}
 use Rattle.cpn_typing.proofs.MeaningfulTransitions.{accepted_is_meaningful}
+use Rattle.cpn_solvable.proofs.SolvableTransitions.{accepted_is_solvable}
 use Rattle.cpn_file.specs.Reading.{Reading, read}
 use Rattle.cpn_readings.specs.ItemByItem.{EachIs}
 use Rattle.cpn_file.specs.Joining.{HasItsTerms}
@@ -42,14 +43,6 @@ bindable_each n ts b h = bindable_then n 0 ts (read b) b h refl
 good_completed : (ds : Declared) (places : List Coloured) (bare : PlainTransition) (vars : List ℕ) → IsGoodTransition ds places bare → IsGoodTransition ds places (with_variables bare vars)
 good_completed ds places bare vars g = record { guard = g.guard; delay = g.delay; inputs = g.inputs; outputs = g.outputs }
 
--- with their variables listed they are accepted transitions
-pub transitions_accepted : (ds : Declared) (places : List Coloured) (bares all : List PlainTransition) → EachIs IsCompleted bares all → AllByRecursion (IsGoodTransition ds places) bares → AllByRecursion (IsAcceptedTransition ds) all
-transitions_accepted ds places [] [] is accepted = tt
-transitions_accepted ds places [] (t ∷ all) is accepted = absurd is
-transitions_accepted ds places (bare ∷ bares) [] is accepted = absurd is
-transitions_accepted ds places (bare ∷ bares) (t ∷ all) is accepted =
-    (good_accepted ds places t (subst (IsGoodTransition ds places) (sym is.0.same) (good_completed ds places bare t.vars accepted.0)) is.0.variables, transitions_accepted ds places bares all is.1 accepted.1)
-
 -- ---- a transition
 
 module _ (ds : Declared) (good : IsConsistent ds) (places : List Coloured) (ts : List PlainTransition) where
@@ -72,6 +65,7 @@ module _ (ds : Declared) (good : IsConsistent ds) (places : List Coloured) (ts :
         declared = means.declared;
         bindable = λ x is. of_one_in (IsBindable its_net t) t.vars x bindable (in_from_contains t.vars x is);
         guard_means = means.guard_means;
+        guard_solvable = accepted_is_solvable ds good its_net (record { functions_are = refl; variables_are = refl }) t (good_accepted ds places t accepted its);
         delay_means = means.delay_means;
         few_arcs = few;
         inputs_sound = inputs_sound t t.inputs (arcs_sound t input t.inputs accepted.inputs means.inputs_mean) terms;

@@ -29,9 +29,8 @@ use Rattle.cpn_file.proofs.FewArcs.{HasFewArcs, IsBare, bare_is, arcs_counted, a
 use Rattle.cpn_file.proofs.InitialMarkings.{HaveColours, initials_have, marking_is}
 use Rattle.cpn_file.proofs.NamedNets.{named}
 use Rattle.cpn_readings.proofs.Readings.{same_read, steps, checked}
-use Rattle.cpn_file.proofs.ServedNets.{served_is}
-use Rattle.cpn_file.proofs.SoundNets.{HasBindable, bindable_each, transitions_sound, transitions_accepted}
-use Rattle.cpn_solvable.proofs.SolvableTransitions.{accepted_are_solvable}
+use Rattle.cpn_file.proofs.ServedNets.{few_variables}
+use Rattle.cpn_file.proofs.SoundNets.{HasBindable, bindable_each, transitions_sound}
 
 -- ---- lengths
 
@@ -120,7 +119,6 @@ net_well a good ts loaded completed bindable h =
     let n : PlainNet = net_from a.declared a.places ts in
     let served = steps _ (check (is_served (net_from a.declared a.places ts)) not_served) loaded h in
     let marking = steps _ (each_from (start_of (net_from a.declared a.places ts)) 0 a.initials) loaded served.2 in
-    let simple = served_is n (checked (is_served n) served.0 not_served served.1) in
     let start = marking_is n a.initials marking.0 good.as_many good.colours marking.1 in
     subst IsWellLoaded (same_read _ loaded marking.2) (record {
       sound = record {
@@ -128,13 +126,11 @@ net_well a good ts loaded completed bindable h =
         functions_closed = good.closed;
         few_places = good.few_places;
         few_transitions = subst (λ k. k < 2 ^ 32) (sym (each_is_long IsCompleted a.transitions ts completed)) good.few_transitions;
-        few_variables = simple.few_variables;
+        few_variables = few_variables n (checked (is_served n) served.0 not_served served.1);
       };
-      solvable = accepted_are_solvable a.declared good.consistent n (record { functions_are = refl; variables_are = refl }) (transitions_accepted a.declared a.places a.transitions ts completed good.transitions);
       marking = start.marking;
       places = each_from_long (start_of n) 0 a.initials marking.0 marking.1 ∙ good.as_many;
       few = start.few;
-      untimed = simple.untimed;
       named = good.names ts;
     })
 

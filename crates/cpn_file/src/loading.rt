@@ -24,8 +24,9 @@ use crate::places::{initials_of, net_places};
 use crate::refusals::LoadError;
 use crate::served::is_served;
 use crate::transitions::bare_transitions;
-use cpn_core::{ArcExpr, Memory, Net, Place, PlainMarking, Transition};
+use cpn_core::{ArcExpr, Memory, Net, Place, Transition};
 use cpn_document::{DocError, Pointer};
+use cpn_marking::Marking;
 use cpn_parsing::DocumentTrees;
 use cpn_types::Decls;
 use std::alloc::Global;
@@ -37,7 +38,7 @@ pub struct Loaded {
     /// The net.
     pub net: Net,
     /// The tokens of each of its places at the start.
-    pub initial: PlainMarking,
+    pub initial: Marking,
 }
 
 /// What is accepted of a document.

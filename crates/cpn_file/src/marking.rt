@@ -17,8 +17,9 @@ ghost use Rattle.cpn_file.specs.Starts.{IsMeant, tokens_with, IsInit, IsFaulted}
 ghost use Rattle.cpn_file.specs.Answers.{Loads, load_refusal_of};
 
 use crate::refusals::LoadError;
-use cpn_core::{ArcExpr, Binding, EvalFault, Funs, Memory, Net, PlainMarking, Value};
+use cpn_core::{ArcExpr, Binding, EvalFault, Funs, Memory, Net, Value};
 use cpn_eval::{Refused, Term, Terms, eval_mset};
+use cpn_marking::Marking;
 use std::alloc::Global;
 
 /// The time stamp of the tokens of a term; on a place that keeps none it is 0.
@@ -30,7 +31,7 @@ fn stamp_of(timed: bool, term: &Term) -> u64
 
 /// Adds tokens of a value, each with the stamp, to a place.
 fn add_tokens(
-    marking: &mut PlainMarking,
+    marking: &mut Marking,
     place: u32,
     value: &Value,
     count: u64,
@@ -47,12 +48,7 @@ fn add_tokens(
 }
 
 /// Adds the tokens of terms to a place.
-fn add_terms(
-    marking: &mut PlainMarking,
-    place: u32,
-    timed: bool,
-    terms: &[Term],
-) -> Result<(), Memory>
+fn add_terms(marking: &mut Marking, place: u32, timed: bool, terms: &[Term]) -> Result<(), Memory>
     requires in_range { place < length marking.old }
     ensures added { OnOk result (marking.new ≡ slice_set marking.old place (tokens_with timed (terms_view terms.now) (slice_index_or marking.old place []))) }
     ensures places { length marking.new ≡ length marking.old }
@@ -99,7 +95,7 @@ fn terms_at(alloc: Global, funs: &Funs, name: &str, initial: &ArcExpr) -> Result
 fn start_at(
     alloc: Global,
     net: &Net,
-    marking: &mut PlainMarking,
+    marking: &mut Marking,
     place: usize,
     initial: &Option<ArcExpr>,
 ) -> Result<(), LoadError>
@@ -128,13 +124,13 @@ pub(crate) fn marking_of(
     alloc: Global,
     net: &Net,
     initials: &[Option<ArcExpr>],
-) -> Result<PlainMarking, LoadError>
+) -> Result<Marking, LoadError>
     requires as_many { length initials.now ≡ length net.now.places.items }
     requires few { length initials.now < 2 ^ 32 }
     requires meant { AllByRecursion (IsMeant (net_view net.now).functions) (initials_view initials.now) }
     ensures reads { Loads (λ marking. marking) result (each_from (start_of (net_view net.now)) 0 (initials_view initials.now)) }
 {
-    let mut marking = PlainMarking::new(alloc, initials.len())?;
+    let mut marking = Marking::new(alloc, initials.len())?;
     for (place, initial) in initials.iter().enumerate() {
         start_at(alloc, net, &mut marking, place, initial)?;
     }

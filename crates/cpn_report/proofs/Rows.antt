@@ -9,7 +9,7 @@ use Rattle.cpn_definitions.specs.Marking.{PlainToken, token_at}
 use Rattle.cpn_definitions.specs.Net.{Coloured, PlainNet}
 use Rattle.cpn_definitions.specs.Outcome.{overflow, divide_by_zero, empty_list, no_case, not_in_colour, bad_coefficient, bad_delay, too_large}
 use Rattle.cpn_definitions.specs.Occurrence.{PlainElement}
-use Rattle.cpn_runs.specs.State.{claim_made, claim_completed, dead, steps_made, fault_end}
+use Rattle.cpn_runs.specs.State.{claim_made, claim_completed, clock_moved, dead, steps_made, until_passed, fault_end}
 use Rattle.cpn_report.specs.Report.{binding_text, element_text, fault_text, run_line, occurrence_line, schedule_line, end_line, occurrences_line, clock_line, place_line, ready_line, next_line, total_line}
 
 -- ---- a net with two variables and a transition, and an element of it
@@ -101,6 +101,10 @@ end_dead = refl
 end_by_steps : end_line small_net steps_made ≡ codes "end steps\n"
 unfolding end_line
 end_by_steps = refl
+
+end_until : end_line small_net (until_passed 8) ≡ codes "end until 8\n"
+unfolding end_line
+end_until = rw (decimal_digit 8 (omega arith)) refl
 
 end_by_a_fault : end_line small_net (fault_end element not_in_colour) ≡ codes "end fault 5 not_in_colour Top/t {x=8, y=~6}\n"
 unfolding end_line element_text binding_text

@@ -1,15 +1,15 @@
 -- The schedule line tells a journal apart from each other one: it is read back event by event, since no digit of a number
 -- is the space or the line feed that stands after it.
-use Rattle.std.proofs.Common.{◌≡◌, ◌∙◌, refl, sym, ap, ap₂, ℕ, ◌<◌, ◌≤◌, ◌^◌, List, [], ◌∷◌, ◌++◌, drop, get_or, append_assoc, arith}
+use Rattle.std.proofs.Common.{◌≡◌, ◌∙◌, refl, sym, ap, ap₂, ℕ, ◌<◌, ◌≤◌, ◌^◌, ◌==◌, cond, subst, List, [], ◌∷◌, ◌++◌, drop, get_or, append_assoc, arith}
 use Rattle.std.specs.Prelude.{codes}
 use Rattle.std.specs.List.{flat_map}
 use Rattle.std.specs.Char.{digit_value}
 use Rattle.std.specs.Fmt.{decimal}
 use Rattle.std.specs.Str.Parse.{AllDigits}
 use Rattle.std.proofs.lemmas.Fmt.{decimal_is_IsNumeral, decimal_injective}
-use Rattle.cpn_runs.specs.State.{PlainEvent, claim_made, claim_completed, cut_made}
+use Rattle.cpn_runs.specs.State.{PlainEvent, claim_made, claim_completed, clock_moved, cut_made}
 use Rattle.cpn_report.specs.Report.{event_text, schedule_line}
-use Rattle.cpn_report.specs.Schedule.{claim, completion, cut, without_seats, AreNumbered, SchedulesDiffer}
+use Rattle.cpn_report.specs.Schedule.{Kind, claim, completion, move, cut, without_seat, without_seats, AreNumbered, SchedulesDiffer}
 
 -- no digit begins the text
 abbrev EndsDigits : List ℕ → Type 0
@@ -35,24 +35,36 @@ numbers_apart j k r s lj lk er es e =
 line_end : List PlainEvent → List ℕ
 line_end journal = flat_map event_text journal ++ codes "\n"
 
+-- ---- the letter of an event
+
+abbrev letter : Kind → ℕ
+letter claim = 99
+letter completion = 100
+letter move = 109
+letter cut = 120
+
+-- the kind of a letter
+abbrev kind_of : ℕ → Kind
+kind_of byte = cond (byte == 99) claim (cond (byte == 100) completion (cond (byte == 109) move cut))
+
+kind_back : (kind : Kind) → kind_of (letter kind) ≡ kind
+kind_back claim = refl
+kind_back completion = refl
+kind_back move = refl
+kind_back cut = refl
+
+-- an event is told by a space, its letter, and its number or time
+event_is : (event : PlainEvent) (journal : List PlainEvent) → line_end (event ∷ journal) ≡ 32 ∷ letter (without_seat event).0 ∷ (decimal (without_seat event).1 ++ line_end journal)
+unfolding line_end
+event_is (claim_made seat number) journal = simp append_assoc
+event_is (claim_completed seat number) journal = simp append_assoc
+event_is (clock_moved time) journal = simp append_assoc
+event_is (cut_made number) journal = simp append_assoc
+
 line_ends : (journal : List PlainEvent) → EndsDigits (line_end journal)
 unfolding line_end
 line_ends [] = omega arith
-line_ends (claim_made seat number ∷ journal) = omega arith
-line_ends (claim_completed seat number ∷ journal) = omega arith
-line_ends (cut_made number ∷ journal) = omega arith
-
-claim_is : (seat number : ℕ) (journal : List PlainEvent) → line_end (claim_made seat number ∷ journal) ≡ codes " c" ++ decimal number ++ line_end journal
-unfolding line_end
-claim_is seat number journal = simp append_assoc
-
-completion_is : (seat number : ℕ) (journal : List PlainEvent) → line_end (claim_completed seat number ∷ journal) ≡ codes " d" ++ decimal number ++ line_end journal
-unfolding line_end
-completion_is seat number journal = simp append_assoc
-
-cut_is : (number : ℕ) (journal : List PlainEvent) → line_end (cut_made number ∷ journal) ≡ codes " x" ++ decimal number ++ line_end journal
-unfolding line_end
-cut_is number journal = simp append_assoc
+line_ends (event ∷ journal) = subst EndsDigits (sym (event_is event journal)) (omega arith)
 
 -- texts that are the same have the same byte at each place
 byte_at : (i : ℕ) (text other : List ℕ) → text ≡ other → get_or text i 0 ≡ get_or other i 0
@@ -61,27 +73,13 @@ byte_at i text other e = ap (λ bytes. get_or bytes i 0) e
 told : (journal other : List PlainEvent) → AreNumbered journal → AreNumbered other → line_end journal ≡ line_end other → without_seats journal ≡ without_seats other
 unfolding line_end
 told [] [] numbered other_numbered e = refl
-told [] (claim_made t k ∷ other) numbered other_numbered e = absurd (omega (arith, byte_at 0 _ _ e))
-told [] (claim_completed t k ∷ other) numbered other_numbered e = absurd (omega (arith, byte_at 0 _ _ e))
-told [] (cut_made k ∷ other) numbered other_numbered e = absurd (omega (arith, byte_at 0 _ _ e))
-told (claim_made s j ∷ journal) [] numbered other_numbered e = absurd (omega (arith, byte_at 0 _ _ e))
-told (claim_completed s j ∷ journal) [] numbered other_numbered e = absurd (omega (arith, byte_at 0 _ _ e))
-told (cut_made j ∷ journal) [] numbered other_numbered e = absurd (omega (arith, byte_at 0 _ _ e))
-told (claim_made s j ∷ journal) (claim_completed t k ∷ other) numbered other_numbered e = absurd (omega (arith, byte_at 1 _ _ e))
-told (claim_completed s j ∷ journal) (claim_made t k ∷ other) numbered other_numbered e = absurd (omega (arith, byte_at 1 _ _ e))
-told (claim_made s j ∷ journal) (cut_made k ∷ other) numbered other_numbered e = absurd (omega (arith, byte_at 1 _ _ e))
-told (cut_made j ∷ journal) (claim_made t k ∷ other) numbered other_numbered e = absurd (omega (arith, byte_at 1 _ _ e))
-told (claim_completed s j ∷ journal) (cut_made k ∷ other) numbered other_numbered e = absurd (omega (arith, byte_at 1 _ _ e))
-told (cut_made j ∷ journal) (claim_completed t k ∷ other) numbered other_numbered e = absurd (omega (arith, byte_at 1 _ _ e))
-told (claim_made s j ∷ journal) (claim_made t k ∷ other) numbered other_numbered e =
-    let apart = numbers_apart j k (line_end journal) (line_end other) numbered.0 other_numbered.0 (line_ends journal) (line_ends other) (ap (drop 2) (sym (claim_is s j journal) ∙ e ∙ claim_is t k other)) in
-    ap₂ (λ n rest. (claim, n) ∷ rest) apart.0 (told journal other numbered.1 other_numbered.1 apart.1)
-told (claim_completed s j ∷ journal) (claim_completed t k ∷ other) numbered other_numbered e =
-    let apart = numbers_apart j k (line_end journal) (line_end other) numbered.0 other_numbered.0 (line_ends journal) (line_ends other) (ap (drop 2) (sym (completion_is s j journal) ∙ e ∙ completion_is t k other)) in
-    ap₂ (λ n rest. (completion, n) ∷ rest) apart.0 (told journal other numbered.1 other_numbered.1 apart.1)
-told (cut_made j ∷ journal) (cut_made k ∷ other) numbered other_numbered e =
-    let apart = numbers_apart j k (line_end journal) (line_end other) numbered.0 other_numbered.0 (line_ends journal) (line_ends other) (ap (drop 2) (sym (cut_is j journal) ∙ e ∙ cut_is k other)) in
-    ap₂ (λ n rest. (cut, n) ∷ rest) apart.0 (told journal other numbered.1 other_numbered.1 apart.1)
+told [] (event ∷ other) numbered other_numbered e = absurd (omega (arith, byte_at 0 _ _ (e ∙ event_is event other)))
+told (event ∷ journal) [] numbered other_numbered e = absurd (omega (arith, byte_at 0 _ _ (sym (event_is event journal) ∙ e)))
+told (event ∷ journal) (event' ∷ other) numbered other_numbered e =
+    let same = sym (event_is event journal) ∙ e ∙ event_is event' other in
+    let kinds : (without_seat event).0 ≡ (without_seat event').0 = sym (kind_back (without_seat event).0) ∙ ap kind_of (byte_at 1 _ _ same) ∙ kind_back (without_seat event').0 in
+    let apart = numbers_apart (without_seat event).1 (without_seat event').1 (line_end journal) (line_end other) numbered.0 other_numbered.0 (line_ends journal) (line_ends other) (ap (drop 2) same) in
+    ap₂ (λ (told : Kind × ℕ) rest. told ∷ rest) (ap₂ (λ kind n. (kind, n)) kinds apart.0) (told journal other numbered.1 other_numbered.1 apart.1)
 
 pub schedules_differ : SchedulesDiffer
 unfolding schedule_line line_end

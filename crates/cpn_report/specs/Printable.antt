@@ -7,7 +7,7 @@ use Rattle.cpn_definitions.specs.Net.{PlainNet, variable_at, transition_at}
 use Rattle.cpn_definitions.specs.Named.{IsNamed}
 use Rattle.cpn_definitions.specs.Occurrence.{PlainElement, binds}
 use Rattle.cpn_definitions.specs.Sound.{IsSound, IsMarking}
-use Rattle.cpn_runs.specs.State.{PlainEnd, dead, steps_made, fault_end, PlainOccurrence}
+use Rattle.cpn_runs.specs.State.{PlainEnd, dead, steps_made, until_passed, fault_end, PlainOccurrence}
 use Rattle.cpn_runs.specs.Run.{PlainFinished}
 
 -- The net is sound, and has the names of the colour sets of its places and variables.
@@ -32,6 +32,7 @@ is_occurrence n o = is_binding_element n o.element
 abbrev pub IsCause : PlainNet → PlainEnd → Type 0
 IsCause n dead = Unit {0}
 IsCause n steps_made = Unit {0}
+IsCause n (until_passed time) = Unit {0}
 IsCause n (fault_end e fault) = is_binding_element n e ≡ true
 
 -- The report of the run can be printed: each value in it is one of the colour set of its variable or its place, and has

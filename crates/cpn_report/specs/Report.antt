@@ -10,7 +10,7 @@ use Rattle.cpn_definitions.specs.Net.{Coloured, PlainNet, variable_at, transitio
 use Rattle.cpn_definitions.specs.Outcome.{Fault, overflow, divide_by_zero, empty_list, no_case, not_in_colour, bad_coefficient, bad_delay, too_large}
 use Rattle.cpn_definitions.specs.Meaning.{PlainBinding}
 use Rattle.cpn_definitions.specs.Occurrence.{PlainElement}
-use Rattle.cpn_runs.specs.State.{PlainSetup, PlainEvent, claim_made, claim_completed, cut_made, PlainEnd, dead, steps_made, fault_end, PlainOccurrence}
+use Rattle.cpn_runs.specs.State.{PlainSetup, PlainEvent, claim_made, claim_completed, clock_moved, cut_made, PlainEnd, dead, steps_made, until_passed, fault_end, PlainOccurrence}
 use Rattle.cpn_runs.specs.Run.{PlainFinished, Outlook}
 use Rattle.cpn_report.specs.ValueText.{joined, value_text}
 use Rattle.cpn_report.specs.declared.traces.Trace.{Trace}
@@ -46,10 +46,12 @@ run_line number clock outlook =
 unfoldable pub occurrence_line : PlainNet → PlainOccurrence → List ℕ
 occurrence_line n o = codes "occ " ++ decimal o.number ++ codes " @" ++ decimal o.time ++ codes " " ++ element_text n o.element ++ codes "\n"
 
--- an event: c for a claim, d for a completion, with the claim's number; x for a cut, with the number that it is at
+-- an event: c for a claim, d for a completion, with the claim's number; m for a move of the clock, with its time; x for a cut,
+-- with the number that it is at
 abbrev pub event_text : PlainEvent → List ℕ
 event_text (claim_made seat number) = codes " c" ++ decimal number
 event_text (claim_completed seat number) = codes " d" ++ decimal number
+event_text (clock_moved time) = codes " m" ++ decimal time
 event_text (cut_made number) = codes " x" ++ decimal number
 
 -- the line of the run's journal
@@ -71,6 +73,7 @@ fault_text too_large = codes "8 too_large"
 abbrev pub cause_text : PlainNet → PlainEnd → List ℕ
 cause_text n dead = codes "dead"
 cause_text n steps_made = codes "steps"
+cause_text n (until_passed time) = codes "until " ++ decimal time
 cause_text n (fault_end e fault) = codes "fault " ++ fault_text fault ++ codes " " ++ element_text n e
 
 unfoldable pub end_line : PlainNet → PlainEnd → List ℕ

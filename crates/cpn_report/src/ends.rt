@@ -39,6 +39,7 @@ fn push_cause(out: &mut String, net: &Net, cause: &End) -> Result<(), Memory>
         }
         End::Steps => out.push_str("steps")?,
         End::Dead => out.push_str("dead")?,
+        End::Until(time) => write!(out, "until {time}")?,
     }
     Ok(())
 }

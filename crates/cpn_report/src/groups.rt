@@ -7,12 +7,13 @@ ghost use Rattle.cpn_definitions.specs.Sound.{may_hold};
 ghost use Rattle.cpn_definitions.specs.Named.{has_names};
 ghost use Rattle.cpn_core.specs.Colours.{shape_view, colour_view};
 ghost use Rattle.cpn_core.specs.Nets.{net_view};
-ghost use Rattle.cpn_core.specs.Tokens.{token_view, tokens_view};
+ghost use Rattle.cpn_marking.specs.Tokens.{token_view, tokens_view};
 ghost use Rattle.cpn_report.specs.Report.{Group, same_token, groups, group_text, tokens_text};
 ghost use Rattle.cpn_report.specs.ValueText.{joined};
 
 use crate::values::push_value;
-use cpn_core::{Colour, Memory, Net, Token};
+use cpn_core::{Colour, Memory, Net};
+use cpn_marking::Token;
 use std::fmt::Write;
 
 /// Appends the tokens of a place of the colour set, with their stamps where the place is timed.

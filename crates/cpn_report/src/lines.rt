@@ -76,6 +76,7 @@ fn push_event(out: &mut String, event: Event) -> Result<(), Memory>
     match event {
         Event::Claim { seat: _, number } => write!(out, " c{number}")?,
         Event::Done { seat: _, number } => write!(out, " d{number}")?,
+        Event::Move { time } => write!(out, " m{time}")?,
         Event::Cut { number } => write!(out, " x{number}")?,
     }
     Ok(())

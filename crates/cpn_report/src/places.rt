@@ -6,11 +6,12 @@ ghost use Rattle.cpn_definitions.specs.Sound.{IsMarking, may_hold};
 ghost use Rattle.cpn_definitions.specs.Named.{is_named, has_names};
 ghost use Rattle.cpn_core.specs.Colours.{shape_view, colour_view};
 ghost use Rattle.cpn_core.specs.Nets.{net_view, place_view};
-ghost use Rattle.cpn_core.specs.Tokens.{tokens_view};
+ghost use Rattle.cpn_marking.specs.Tokens.{tokens_view};
 ghost use Rattle.cpn_report.specs.Report.{place_line, place_lines};
 
 use crate::groups::push_tokens;
-use cpn_core::{Memory, Net, Place, PlainMarking, Token};
+use cpn_core::{Memory, Net, Place};
+use cpn_marking::{Marking, Token};
 
 /// Appends the line of a place.
 #[tactic(auto, unfolding(crate::specs::Report::place_line))]
@@ -37,7 +38,7 @@ pub(crate) fn push_place_lines(
     out: &mut String,
     net: &Net,
     places: &[Place],
-    marking: &PlainMarking,
+    marking: &Marking,
 ) -> Result<(), Memory>
     requires named { list_all (is_named (net_view net.now)) (map place_view places.now) ≡ true }
     requires marking { IsMarking (map place_view places.now) marking.now }

@@ -59,6 +59,11 @@ done_is_not_open open_claim is = cc
 done_is_not_open (done_with outputs) is = refl
 done_is_not_open (faulted_with fault) is = cc
 
+pub open_is_not_done : (status : Status) → is_open status ≡ true → is_done status ≡ false
+open_is_not_done open_claim is = refl
+open_is_not_done (done_with outputs) is = cc
+open_is_not_done (faulted_with fault) is = refl
+
 pub done_are_closed : (claims : List PlainClaim) → AreDone claims → list_any (λ claim. is_open claim.status) claims ≡ false
 done_are_closed [] done = refl
 done_are_closed (claim ∷ claims) done = rw (done_is_not_open claim.status done.0) (done_are_closed claims done.1)

@@ -1,6 +1,6 @@
 -- Every journal, whatever the order in which claims are made and completed, and for any number of seats: the claims leave a
 -- marking, and those that are committed are a legal occurrence sequence.
-use Rattle.std.proofs.Common.{◌≡◌, ℕ, suc, ◌==◌, ◌⊎◌, true, false, cond, List, [], ◌∷◌, ◌++◌, map, length, take, drop, Some, None, Option, refl, sym, ap, subst, ◌∙◌, inl, inr, slice_get}
+use Rattle.std.proofs.Common.{◌≡◌, ℕ, suc, ◌==◌, ◌⊎◌, true, false, cond, List, [], ◌∷◌, ◌++◌, map, length, take, drop, append_assoc, Some, None, Option, refl, sym, ap, subst, ◌∙◌, inl, inr, slice_get}
 use Rattle.std.specs.List.{AllByRecursion, list_any}
 use Rattle.std.specs.Option.{MatchOption}
 use Rattle.std.proofs.Math.Path.{ap₂}
@@ -13,7 +13,7 @@ use Rattle.cpn_definitions.specs.Marking.{Marking}
 use Rattle.cpn_definitions.specs.Net.{PlainNet}
 use Rattle.cpn_definitions.specs.Outcome.{Fault, Outcome, gives, faults, no_meaning}
 use Rattle.cpn_definitions.specs.Occurrence.{PlainElement, Needed, Made, needed_cmp, threshold, are_covered, covered, after, needs_of, outputs_of, subtract, add_made}
-use Rattle.cpn_definitions.specs.Legal.{LeastTime, Legal}
+use Rattle.cpn_definitions.specs.Legal.{LeastTime, TimedElement, Legal}
 use Rattle.cpn_definitions.specs.Sound.{IsStamped, IsMarking}
 use Rattle.cpn_definitions.proofs.UntimedPlaces.{MadeStamped, stamped_subtracted, stamped_added, outputs_stamped, marking_stamped}
 use Rattle.cpn_definitions.proofs.Markings.{held_at}
@@ -22,12 +22,12 @@ use Rattle.cpn_definitions.proofs.Subtraction.{AllAreSorted}
 use Rattle.cpn_definitions.proofs.Addition.{sorted_added}
 use Rattle.cpn_definitions.proofs.RicherMarkings.{IsRicher, richer_covers, richer_subtracted, richer_added, richer_with_more, sorted_subtracted}
 use Rattle.cpn_runs.specs.HoleRun.{PlainClaim, Status, open_claim, done_with, faulted_with, added, after_claim, marking_left, is_open, is_done, done_prefix}
-use Rattle.cpn_runs.specs.State.{PlainSetup, PlainState, PlainEvent, claim_made, claim_completed, cut_made, PlainEnd, dead, steps_made, fault_end, PlainCut, first_state, unclaimed_in, settled_in, committed, owed_cut, cut_at, cut_by, given_needs, new_claim, status_after, MayClaim, MayComplete, MayCut, Happens, Leads, IsState, timed, numbered, committed_occurrences, HasCause, EndsBy}
+use Rattle.cpn_runs.specs.State.{PlainSetup, PlainState, PlainEvent, claim_made, claim_completed, clock_moved, cut_made, PlainEnd, dead, steps_made, until_passed, fault_end, PlainCut, first_state, unclaimed_in, settled_in, committed, owed_cut, cut_at, cut_by, given_needs, new_claim, status_after, MayClaim, MayComplete, MayMove, MayCut, Happens, Leads, IsState, timed, numbered, committed_occurrences, HasCause, EndsBy}
 use Rattle.cpn_runs.specs.Run.{Outlook, HasOutlook, IsTrueFault, IsRun}
-use Rattle.cpn_runs.proofs.Items.{split_at, all_parts}
-use Rattle.cpn_runs.proofs.Sequences.{left_parts, left_from, marking_left_more}
+use Rattle.cpn_runs.proofs.Items.{split_at, all_joined, all_parts}
+use Rattle.cpn_runs.proofs.Sequences.{legal_joined, legal_moved, left_parts, left_from, left_split, marking_left_more}
 use Rattle.cpn_runs.proofs.CoveredElements.{covered_needs, covered_too, after_is, least_now}
-use Rattle.cpn_runs.proofs.Cuts.{no_cut_at_any, committed_are_done, done_owe_none, done_are_closed, owed_is}
+use Rattle.cpn_runs.proofs.Cuts.{no_cut_at_any, AreDone, committed_are_done, open_is_not_done, done_owe_none, done_are_closed, owed_is}
 use Rattle.cpn_runs.proofs.States.{IsClaimOf, drawn_now, IsReached, event_reaches, every_state, no_completion_after_a_cut}
 
 -- ---- a hole is filled
@@ -122,11 +122,56 @@ stamped_left setup m (claim ∷ claims) last each stamped is =
 
 -- ---- the unclaimed marking is there in each state
 
+-- what a claim is in a legal sequence
+abbrev pub timed_claim : PlainClaim → TimedElement
+timed_claim claim = record { element = claim.element; time = claim.time }
+
+timed_numbered : (k : ℕ) (claims : List PlainClaim) → map timed (numbered k claims) ≡ map timed_claim claims
+timed_numbered k [] = refl
+timed_numbered k (claim ∷ claims) = ap (λ os. timed_claim claim ∷ os) (timed_numbered (suc k) claims)
+
+-- the claims were made at a time
+abbrev pub WereMadeAt : ℕ → List PlainClaim → Type 0
+WereMadeAt time claims = AllByRecursion (λ claim. claim.time ≡ time) claims
+
+-- Of the claims that stand those that were made before the last move of the clock are done, and are a legal occurrence sequence
+-- up to the clock; the others were made at the clock.
+pub record SinceMove (setup : PlainSetup) (clock : ℕ) (claims : List PlainClaim) : Type 0 where
+  pub before : List PlainClaim
+  pub since : List PlainClaim
+  pub claims_are : claims ≡ before ++ since
+  pub before_done : AreDone before
+  pub mid : Marking
+  pub mid_is : marking_left setup.start before ≡ Some mid
+  pub legal : Legal setup.net setup.start setup.clock (map timed_claim before) mid clock
+  pub made_now : WereMadeAt clock since
+
 -- The claims leave a marking, where the element of the fault that a cut is for is covered.
 pub record LeavesMarking (setup : PlainSetup) (state : PlainState) : Type 0 where
   pub last : Marking
   pub is : unclaimed_in setup state ≡ Some last
-  pub true_cut : (cut : PlainCut) → state.cut ≡ Some cut → IsTrueFault setup.net last setup.clock cut.cause
+  pub moved : SinceMove setup state.clock state.claims
+  pub true_cut : (cut : PlainCut) → state.cut ≡ Some cut → IsTrueFault setup.net last state.clock cut.cause
+
+-- a claim that is not done stands behind those that are
+record IsBehind (done since before : List PlainClaim) (claim : PlainClaim) (later : List PlainClaim) : Type 0 where
+  ahead : List PlainClaim
+  before_is : before ≡ done ++ ahead
+  since_is : since ≡ ahead ++ claim ∷ later
+
+is_behind : (done since before : List PlainClaim) (claim : PlainClaim) (later : List PlainClaim) → AreDone done → is_done claim.status ≡ false → done ++ since ≡ before ++ claim ∷ later → IsBehind done since before claim later
+is_behind [] since before claim later all not_done same = record { ahead = before; before_is = refl; since_is = same }
+is_behind (d ∷ done) since [] claim later all not_done same =
+    let first : d ≡ claim = cc in
+    let P : PlainClaim → Type 0 = λ c. is_done c.status ≡ true in
+    let yes : is_done claim.status ≡ true = subst P first all.0 in
+    let e : true ≡ false = sym yes ∙ not_done in
+    cc
+is_behind (d ∷ done) since (b ∷ before) claim later all not_done same =
+    let first : d ≡ b = cc in
+    let others : done ++ since ≡ before ++ claim ∷ later = cc in
+    let rest = is_behind done since before claim later all.1 not_done others in
+    record { ahead = rest.ahead; before_is = ap₂ (λ c cs. c ∷ cs) (sym first) rest.before_is; since_is = rest.since_is }
 
 open_adds_none : (status : Status) → is_open status ≡ true → added status ≡ []
 open_adds_none open_claim h = refl
@@ -136,12 +181,22 @@ open_adds_none (faulted_with fault) h = refl
 not_none : (o : Option PlainCut) (cut : PlainCut) → o ≡ Some cut → o ≡ None → ⊥
 not_none o cut some none = cc
 
-claim_leaves : (setup : PlainSetup) (old : PlainState) (seat number : ℕ) (new : PlainState) → (c : MayClaim setup old seat number new) → IsStamped setup.net c.marking → LeavesMarking setup new
-claim_leaves setup old seat number new c stamped =
+claim_leaves : (setup : PlainSetup) (old : PlainState) (seat number : ℕ) (new : PlainState) → (c : MayClaim setup old seat number new) → IsStamped setup.net c.marking → SinceMove setup old.clock old.claims → LeavesMarking setup new
+claim_leaves setup old seat number new c stamped moved =
     let claim = new_claim setup.net seat old.clock c.drawn.element in
     subst (LeavesMarking setup) (sym c.new_is) (record {
       last = after_claim claim c.marking;
       is = marking_left_more setup.start old.claims claim c.marking c.marking_is (covered_needs setup.net c.marking old.clock c.drawn.element stamped (drawn_now setup old seat number new c));
+      moved = record {
+        before = moved.before;
+        since = moved.since ++ claim ∷ [];
+        claims_are = ap (λ cs. cs ++ claim ∷ []) moved.claims_are ∙ append_assoc moved.before moved.since (claim ∷ []);
+        before_done = moved.before_done;
+        mid = moved.mid;
+        mid_is = moved.mid_is;
+        legal = moved.legal;
+        made_now = all_joined (λ k. k.time ≡ old.clock) moved.since (claim ∷ []) moved.made_now (refl, tt);
+      };
       true_cut = λ cut stands. absurd (not_none old.cut cut stands c.no_cut);
     })
 
@@ -151,10 +206,24 @@ completion_leaves setup journal old seat number new sorted reached leaves c =
     let parts = split_at old.claims number claim c.claim_is in
     let none = open_adds_none claim.status (and_parts (is_open claim.status) (claim.seat == seat) c.held).0 in
     let ordered = subst (AllByRecursion HasOrder) parts.is (have_order setup old.claims reached.claims_are) in
+    let opened = (and_parts (is_open claim.status) (claim.seat == seat) c.held).0 in
+    let moved = leaves.moved in
+    let behind = is_behind moved.before moved.since parts.before claim parts.later moved.before_done (open_is_not_done claim.status opened) (sym moved.claims_are ∙ parts.is) in
+    let now = all_parts (λ k. k.time ≡ old.clock) behind.ahead (claim ∷ parts.later) (subst (WereMadeAt old.clock) behind.since_is moved.made_now) in
     let filled = filled_leaves setup.start parts.before claim parts.later c.status leaves.last sorted ordered none (subst (λ cs. marking_left setup.start cs ≡ Some leaves.last) parts.is leaves.is) in
     subst (LeavesMarking setup) (sym (c.new_is ∙ ap (λ cs. record old { claims = cs }) (parts.changed (completed c.status claim)))) (record {
       last = filled.0;
       is = filled.1;
+      moved = record {
+        before = moved.before;
+        since = behind.ahead ++ completed c.status claim ∷ parts.later;
+        claims_are = ap (λ cs. cs ++ completed c.status claim ∷ parts.later) behind.before_is ∙ append_assoc moved.before behind.ahead (completed c.status claim ∷ parts.later);
+        before_done = moved.before_done;
+        mid = moved.mid;
+        mid_is = moved.mid_is;
+        legal = moved.legal;
+        made_now = all_joined (λ k. k.time ≡ old.clock) behind.ahead (completed c.status claim ∷ parts.later) now.0 (now.1.0, now.1.1);
+      };
       true_cut = λ cut stands. absurd (no_completion_after_a_cut setup journal old seat number new cut reached stands c);
     })
 
@@ -194,39 +263,26 @@ cut_leaves setup old number new stamped claims leaves c =
     let needs_covered = subst (λ needs. are_covered (threshold claim.time) left.mid needs ≡ true) one.needs_are left.covers in
     let is_covered : covered setup.net left.mid claim.time claim.element ≡ true = covered_too setup.net one.marking left.mid claim.time claim.element (stamped_left setup setup.start parts.before left.mid each.0 stamped left.is) one.was_covered needs_covered in
     let has_fault : outputs_of setup.net claim.element claim.time ≡ faults owed.fault = faulted_with_fault (outputs_of setup.net claim.element claim.time) claim.status owed.fault one.status_is owed.fault_is in
-    let is_true : IsTrueFault setup.net left.mid setup.clock (fault_end claim.element owed.fault) =
-    subst (λ (t : ℕ). (covered setup.net left.mid t claim.element ≡ true) × (outputs_of setup.net claim.element t ≡ faults owed.fault)) one.time_is (is_covered, has_fault) in
+    let moved = leaves.moved in
+    let behind = is_behind moved.before moved.since parts.before claim parts.later moved.before_done (ap is_done owed.fault_is) (sym moved.claims_are ∙ parts.is) in
+    let now = all_parts (λ k. k.time ≡ old.clock) behind.ahead (claim ∷ parts.later) (subst (WereMadeAt old.clock) behind.since_is moved.made_now) in
+    let is_true : IsTrueFault setup.net left.mid old.clock (fault_end claim.element owed.fault) =
+    subst (λ (t : ℕ). (covered setup.net left.mid t claim.element ≡ true) × (outputs_of setup.net claim.element t ≡ faults owed.fault)) now.1.0 (is_covered, has_fault) in
     subst (LeavesMarking setup) (sym c.new_is) (record {
       last = left.mid;
       is = ap (marking_left setup.start) first ∙ left.is;
-      true_cut = λ cut stands. subst (IsTrueFault setup.net left.mid setup.clock) (sym owed.cause_is ∙ ap (λ (k : PlainCut). k.cause) (same_Some c.cut cut stands)) is_true;
+      moved = record {
+        before = moved.before;
+        since = behind.ahead;
+        claims_are = first ∙ behind.before_is;
+        before_done = moved.before_done;
+        mid = moved.mid;
+        mid_is = moved.mid_is;
+        legal = moved.legal;
+        made_now = now.0;
+      };
+      true_cut = λ cut stands. subst (IsTrueFault setup.net left.mid old.clock) (sym owed.cause_is ∙ ap (λ (k : PlainCut). k.cause) (same_Some c.cut cut stands)) is_true;
     })
-
--- What is kept from the start of a run on: its first marking is sorted, and stamped as the net is timed.
-pub record IsStart (setup : PlainSetup) : Type 0 where
-  pub sorted : AllAreSorted setup.start
-  pub stamped : IsStamped setup.net setup.start
-
--- a marking of the net's places is such a start
-pub marking_is_start : (setup : PlainSetup) → IsMarking setup.net.places setup.start → IsStart setup
-marking_is_start setup is = record { sorted = λ p. (held_at setup.net.places setup.start is p).0; stamped = marking_stamped setup.net setup.start is }
-
-event_leaves : (setup : PlainSetup) (journal : List PlainEvent) (old : PlainState) (event : PlainEvent) (new : PlainState) → IsStart setup → IsReached setup journal old → LeavesMarking setup old → Happens setup old event new → LeavesMarking setup new
-event_leaves setup journal old (claim_made seat number) new start reached leaves c =
-    claim_leaves setup old seat number new c (stamped_left setup setup.start old.claims c.marking reached.claims_are start.stamped c.marking_is)
-event_leaves setup journal old (claim_completed seat number) new start reached leaves c = completion_leaves setup journal old seat number new start.sorted reached leaves c
-event_leaves setup journal old (cut_made number) new start reached leaves c = cut_leaves setup old number new start.stamped reached.claims_are leaves c
-
-events_leave
-    : (setup : PlainSetup) (journal : List PlainEvent) (old : PlainState) (events : List PlainEvent) (state : PlainState)
-    → IsStart setup
-    → IsReached setup journal old
-    → LeavesMarking setup old
-    → Leads setup old events state
-    → LeavesMarking setup state
-events_leave setup journal old [] state start reached leaves leads = subst (LeavesMarking setup) (sym leads) leaves
-events_leave setup journal old (event ∷ events) state start reached leaves leads =
-    events_leave setup (journal ++ event ∷ []) leads.0 events state start (event_reaches setup journal old event leads.0 reached leads.1) (event_leaves setup journal old event leads.0 start reached leaves leads.1) leads.2
 
 -- ---- the committed claims
 
@@ -235,24 +291,17 @@ is_done_with open_claim h = cc
 is_done_with (done_with outputs) h = (outputs, refl)
 is_done_with (faulted_with fault) h = cc
 
--- the first of claims that leave a marking leave one
-front_leaves : (m : Marking) (before later : List PlainClaim) (last : Marking) → marking_left m (before ++ later) ≡ Some last → (end : Marking) × (marking_left m before ≡ Some end)
-front_leaves m [] later last is = (m, refl)
-front_leaves m (claim ∷ before) later last is =
-    let parts = left_parts m claim (before ++ later) last is in
-    let rest = front_leaves (after_claim claim m) before later last parts.1 in
-    (rest.0, left_from m claim before rest.0 parts.0 rest.1)
-
 -- claims that are all done, from a marking whose clock is theirs, are a legal sequence
 done_are_legal
-    : (setup : PlainSetup) (m : Marking) (claims : List PlainClaim) (last : Marking) (k : ℕ)
+    : (setup : PlainSetup) (m : Marking) (clock : ℕ) (claims : List PlainClaim) (last : Marking)
     → IsStamped setup.net m
+    → WereMadeAt clock claims
     → AllByRecursion (IsClaimOf setup) claims
     → AllByRecursion (λ claim. is_done claim.status ≡ true) claims
     → marking_left m claims ≡ Some last
-    → Legal setup.net m setup.clock (map timed (numbered k claims)) last setup.clock
-done_are_legal setup m [] last k stamped each done is = (sym (same_Some m last is), inl refl)
-done_are_legal setup m (claim ∷ claims) last k stamped each done is =
+    → Legal setup.net m clock (map timed_claim claims) last clock
+done_are_legal setup m clock [] last stamped now each done is = (sym (same_Some m last is), inl refl)
+done_are_legal setup m clock (claim ∷ claims) last stamped now each done is =
     let n = setup.net in
     let e = claim.element in
     let parts = left_parts m claim claims last is in
@@ -263,13 +312,13 @@ done_are_legal setup m (claim ∷ claims) last k stamped each done is =
     after_is n m claim.time e made.0 stamped is_covered (outputs_are setup claim made.0 each.0 made.1)
     ∙ ap (λ needs. Some (add_made made.0 (subtract (threshold claim.time) needs m))) (sym each.0.needs_are)
     ∙ ap (λ status. Some (add_made (added status) (subtract (threshold claim.time) claim.needs m))) (sym made.1) in (
-      subst (λ t. LeastTime n m t claim.time) each.0.time_is (least_now n m claim.time e is_covered),
+      subst (λ t. LeastTime n m t claim.time) now.0 (least_now n m claim.time e is_covered),
       is_covered,
       (
         after_claim claim m,
         next,
-        subst (λ t. Legal n (after_claim claim m) t (map timed (numbered (suc k) claims)) last setup.clock) (sym each.0.time_is)
-            (done_are_legal setup (after_claim claim m) claims last (suc k) (stamped_after setup claim m each.0 stamped) each.1 done.1 parts.1),
+        subst (λ t. Legal n (after_claim claim m) t (map timed_claim claims) last clock) (sym now.0)
+            (done_are_legal setup (after_claim claim m) clock claims last (stamped_after setup claim m each.0 stamped) now.1 each.1 done.1 parts.1),
       ),
     )
 
@@ -290,6 +339,94 @@ all_are_committed (claim ∷ claims) none_open none_owed = split claim.status re
         ∙ ap (λ cs. claim ∷ cs) (rest none_open_later (no_cut_at_any (suc (done_prefix claims)) (done_prefix claims) (slice_get claims (done_prefix claims)) owed))
     split (faulted_with fault) is rest = let e : cut_by 0 claim.element (faulted_with fault) ≡ None = rw is at none_owed in cc
 
+joined_timed : (xs ys : List PlainClaim) → map timed_claim xs ++ map timed_claim ys ≡ map timed_claim (xs ++ ys)
+joined_timed [] ys = refl
+joined_timed (x ∷ xs) ys = ap (λ os. timed_claim x ∷ os) (joined_timed xs ys)
+
+-- claims that were made before the last move, and further ones at the clock, all done, are a legal sequence up to the clock
+all_legal
+    : (setup : PlainSetup) (clock : ℕ) (before since : List PlainClaim) (mid last : Marking)
+    → IsStamped setup.net setup.start
+    → Legal setup.net setup.start setup.clock (map timed_claim before) mid clock
+    → marking_left setup.start before ≡ Some mid
+    → WereMadeAt clock since
+    → AllByRecursion (IsClaimOf setup) (before ++ since)
+    → AreDone since
+    → marking_left setup.start (before ++ since) ≡ Some last
+    → Legal setup.net setup.start setup.clock (map timed_claim (before ++ since)) last clock
+all_legal setup clock before since mid last stamped legal mid_is now each done is =
+    let parts = left_split setup.start before since last is in
+    let same : parts.0 ≡ mid = same_Some parts.0 mid (sym parts.1 ∙ mid_is) in
+    let P : Marking → Type 0 = λ m. marking_left m since ≡ Some last in
+    let two = all_parts (IsClaimOf setup) before since each in
+    subst (λ os. Legal setup.net setup.start setup.clock os last clock) (joined_timed before since)
+    (legal_joined setup.net setup.start setup.clock (map timed_claim before) mid clock (map timed_claim since) last clock legal
+    (done_are_legal setup mid clock since last (stamped_left setup setup.start before mid two.0 stamped mid_is) now two.1 done (subst P same parts.2)))
+
+-- ---- a move of the clock
+
+no_more_claims : (cs : List PlainClaim) → cs ++ [] ≡ cs
+no_more_claims [] = refl
+no_more_claims (c ∷ cs) = ap (λ ds. c ∷ ds) (no_more_claims cs)
+
+-- At a move all claims are committed, and they are a legal sequence up to the new clock.
+move_leaves : (setup : PlainSetup) (old : PlainState) (time : ℕ) (new : PlainState) → IsStamped setup.net setup.start → AllByRecursion (IsClaimOf setup) old.claims → LeavesMarking setup old → MayMove setup old time new → LeavesMarking setup new
+move_leaves setup old time new stamped claims leaves c =
+    let moved = leaves.moved in
+    let all = all_are_committed old.claims c.none_open c.none_owed in
+    let done : AreDone old.claims = subst AreDone all (committed_are_done old.claims) in
+    let same : leaves.last ≡ c.marking = same_Some leaves.last c.marking (sym leaves.is ∙ c.marking_is) in
+    let two = all_parts (λ claim. is_done claim.status ≡ true) moved.before moved.since (subst AreDone moved.claims_are done) in
+    let up_to_now =
+    all_legal setup old.clock moved.before moved.since moved.mid leaves.last stamped moved.legal moved.mid_is moved.made_now (subst (AllByRecursion (IsClaimOf setup)) moved.claims_are claims) two.1
+    (subst (λ cs. marking_left setup.start cs ≡ Some leaves.last) moved.claims_are leaves.is) in
+    let legal = subst (λ cs. Legal setup.net setup.start setup.clock (map timed_claim cs) leaves.last old.clock) (sym moved.claims_are) up_to_now in
+    let P : Marking → Type 0 = λ m. LeastTime setup.net m old.clock time in
+    subst (LeavesMarking setup) (sym c.new_is) (record {
+      last = leaves.last;
+      is = leaves.is;
+      moved = record {
+        before = old.claims;
+        since = [];
+        claims_are = sym (no_more_claims old.claims);
+        before_done = done;
+        mid = leaves.last;
+        mid_is = leaves.is;
+        legal = legal_moved setup.net setup.start setup.clock (map timed_claim old.claims) leaves.last old.clock time legal (subst P (sym same) c.least);
+        made_now = tt;
+      };
+      true_cut = λ cut stands. absurd (not_none old.cut cut stands c.no_cut);
+    })
+
+-- ---- every journal
+
+-- What is kept from the start of a run on: its first marking is sorted, and stamped as the net is timed.
+pub record IsStart (setup : PlainSetup) : Type 0 where
+  pub sorted : AllAreSorted setup.start
+  pub stamped : IsStamped setup.net setup.start
+
+-- a marking of the net's places is such a start
+pub marking_is_start : (setup : PlainSetup) → IsMarking setup.net.places setup.start → IsStart setup
+marking_is_start setup is = record { sorted = λ p. (held_at setup.net.places setup.start is p).0; stamped = marking_stamped setup.net setup.start is }
+
+event_leaves : (setup : PlainSetup) (journal : List PlainEvent) (old : PlainState) (event : PlainEvent) (new : PlainState) → IsStart setup → IsReached setup journal old → LeavesMarking setup old → Happens setup old event new → LeavesMarking setup new
+event_leaves setup journal old (claim_made seat number) new start reached leaves c =
+    claim_leaves setup old seat number new c (stamped_left setup setup.start old.claims c.marking reached.claims_are start.stamped c.marking_is) leaves.moved
+event_leaves setup journal old (claim_completed seat number) new start reached leaves c = completion_leaves setup journal old seat number new start.sorted reached leaves c
+event_leaves setup journal old (clock_moved time) new start reached leaves c = move_leaves setup old time new start.stamped reached.claims_are leaves c
+event_leaves setup journal old (cut_made number) new start reached leaves c = cut_leaves setup old number new start.stamped reached.claims_are leaves c
+
+events_leave
+    : (setup : PlainSetup) (journal : List PlainEvent) (old : PlainState) (events : List PlainEvent) (state : PlainState)
+    → IsStart setup
+    → IsReached setup journal old
+    → LeavesMarking setup old
+    → Leads setup old events state
+    → LeavesMarking setup state
+events_leave setup journal old [] state start reached leaves leads = subst (LeavesMarking setup) (sym leads) leaves
+events_leave setup journal old (event ∷ events) state start reached leaves leads =
+    events_leave setup (journal ++ event ∷ []) leads.0 events state start (event_reaches setup journal old event leads.0 reached leads.1) (event_leaves setup journal old event leads.0 start reached leaves leads.1) leads.2
+
 -- What holds of every journal: the claims leave a marking; the committed ones leave one, and are a legal occurrence
 -- sequence from the start to it and the clock; where no claim is open and no cut is owed, all claims are committed and
 -- both markings are the same; and the element of the fault that a cut is for is covered in the settled marking at the clock,
@@ -304,21 +441,49 @@ pub record Settles (setup : PlainSetup) (state : PlainState) : Type 0 where
   pub all_settled : list_any (λ claim. is_open claim.status) state.claims ≡ false → owed_cut setup state ≡ None → marking ≡ last
   pub true_cut : (cut : PlainCut) → state.cut ≡ Some cut → IsTrueFault setup.net marking state.clock cut.cause
 
+-- the claims that are committed are those before the last move, and some of those at the clock
+front_of : (before since : List PlainClaim) → AreDone before → take (done_prefix (before ++ since)) (before ++ since) ≡ before ++ take (done_prefix since) since
+front_of [] since done = refl
+front_of (claim ∷ before) since done = rw done.0 (ap (λ cs. claim ∷ cs) (front_of before since done.1))
+
+committed_legal
+    : (setup : PlainSetup) (state : PlainState) (last : Marking)
+    → IsStamped setup.net setup.start
+    → SinceMove setup state.clock state.claims
+    → AllByRecursion (IsClaimOf setup) (take (committed setup state) state.claims)
+    → marking_left setup.start (take (committed setup state) state.claims) ≡ Some last
+    → Legal setup.net setup.start setup.clock (map timed_claim (take (committed setup state) state.claims)) last state.clock
+committed_legal setup state last stamped moved each is =
+    let j = done_prefix moved.since in
+    let at : take (committed setup state) state.claims ≡ moved.before ++ take j moved.since = ap (λ cs. take (done_prefix cs) cs) moved.claims_are ∙ front_of moved.before moved.since moved.before_done in
+    let now = all_parts (λ k. k.time ≡ state.clock) (take j moved.since) (drop j moved.since) (subst (WereMadeAt state.clock) (sym (take-append-drop j moved.since)) moved.made_now) in
+    subst (λ cs. Legal setup.net setup.start setup.clock (map timed_claim cs) last state.clock) (sym at)
+    (all_legal setup state.clock moved.before (take j moved.since) moved.mid last stamped moved.legal moved.mid_is now.0 (subst (AllByRecursion (IsClaimOf setup)) at each) (committed_are_done moved.since)
+    (subst (λ cs. marking_left setup.start cs ≡ Some last) at is))
+
+at_start : (setup : PlainSetup) → LeavesMarking setup (first_state setup)
+at_start setup = record {
+  last = setup.start;
+  is = refl;
+  moved = record { before = []; since = []; claims_are = refl; before_done = tt; mid = setup.start; mid_is = refl; legal = (refl, inl refl); made_now = tt };
+  true_cut = λ cut stands. absurd (not_none None cut stands refl);
+}
+
 -- every journal settles, for any number of seats
 pub every_journal_settles : (setup : PlainSetup) (journal : List PlainEvent) (state : PlainState) → IsStart setup → IsState setup journal state → Settles setup state
 every_journal_settles setup journal state start reached =
     let r = every_state setup journal state reached in
-    let leaves = events_leave setup [] (first_state setup) journal state start (every_state setup [] (first_state setup) refl) (record { last = setup.start; is = refl; true_cut = λ cut stands. absurd (not_none None cut stands refl) }) reached in
+    let leaves = events_leave setup [] (first_state setup) journal state start (every_state setup [] (first_state setup) refl) (at_start setup) reached in
     let k = committed setup state in
     let whole : take k state.claims ++ drop k state.claims ≡ state.claims = take-append-drop k state.claims in
-    let front = front_leaves setup.start (take k state.claims) (drop k state.claims) leaves.last (subst (λ cs. marking_left setup.start cs ≡ Some leaves.last) (sym whole) leaves.is) in
+    let front = left_split setup.start (take k state.claims) (drop k state.claims) leaves.last (subst (λ cs. marking_left setup.start cs ≡ Some leaves.last) (sym whole) leaves.is) in
     let each = all_parts (IsClaimOf setup) (take k state.claims) (drop k state.claims) (subst (AllByRecursion (IsClaimOf setup)) (sym whole) r.claims_are) in
     record {
       last = leaves.last;
       leaves = leaves.is;
       marking = front.0;
       settled_is = front.1;
-      legal = subst (Legal setup.net setup.start setup.clock (map timed (committed_occurrences setup state)) front.0) (sym r.clock_is) (done_are_legal setup setup.start (take k state.claims) front.0 0 start.stamped each.0 (committed_are_done state.claims) front.1);
+      legal = subst (λ os. Legal setup.net setup.start setup.clock os front.0 state.clock) (sym (timed_numbered 0 (take k state.claims))) (committed_legal setup state front.0 start.stamped leaves.moved each.0 front.1);
       all_committed = λ none_open none_owed. all_are_committed state.claims none_open none_owed;
       all_settled =
           λ none_open none_owed. same_Some front.0 leaves.last (sym front.1 ∙ ap (marking_left setup.start) (all_are_committed state.claims none_open none_owed) ∙ leaves.is);
@@ -326,8 +491,8 @@ every_journal_settles setup journal state start reached =
           let done = (r.cut_off cut stands).all_done in
           let same : front.0 ≡ leaves.last =
           same_Some front.0 leaves.last (sym front.1 ∙ ap (marking_left setup.start) (all_are_committed state.claims (done_are_closed state.claims done) (done_owe_none state.claims done)) ∙ leaves.is) in
-          let P : Marking → ℕ → Type 0 = λ m clock. IsTrueFault setup.net m clock cut.cause in
-          subst (P front.0) (sym r.clock_is) (subst (λ m. P m setup.clock) (sym same) (leaves.true_cut cut stands));
+          let P : Marking → Type 0 = λ m. IsTrueFault setup.net m state.clock cut.cause in
+          subst P (sym same) (leaves.true_cut cut stands);
     }
 
 -- where a run ends, all that it claimed has occurred: its last marking is the one that all its claims leave
@@ -343,6 +508,7 @@ ends_truly setup state cause m is_true ends = by state.cut refl ends.has_cause
     without : (c : PlainEnd) → HasCause setup state c → IsTrueFault setup.net m state.clock c
     without dead has = tt
     without steps_made has = tt
+    without (until_passed time) has = tt
     without (fault_end e fault) has = absurd has
 
     by : (cut : Option PlainCut) → state.cut ≡ cut → MatchOption cut (HasCause setup state cause) (λ k. cause ≡ k.cause) → IsTrueFault setup.net m state.clock cause

@@ -13,3 +13,4 @@ pub mod Rows
 pub mod WorkedNet
 pub mod TwoSeats
 pub mod FaultyRuns
+pub mod MovedRows

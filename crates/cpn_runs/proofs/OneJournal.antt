@@ -1,5 +1,5 @@
 -- With one seat there is at most one journal that has an end.
-use Rattle.std.proofs.Common.{◌≡◌, ℕ, zero, suc, ◌<◌, ◌==◌, ◌⊎◌, Bool, true, false, ◌||◌, List, [], ◌∷◌, ◌++◌, length, take, Some, None, Option, refl, sym, ap, ◌∙◌, subst, inl, inr, arith, slice_get, slice_set, eqb-true, eq-eqb}
+use Rattle.std.proofs.Common.{◌≡◌, ℕ, zero, suc, ◌<◌, ◌≤◌, ◌==◌, ◌⊎◌, Bool, true, false, ◌||◌, List, [], ◌∷◌, ◌++◌, length, take, Some, None, Option, refl, sym, ap, ◌∙◌, subst, inl, inr, arith, slice_get, slice_set, eqb-true, eq-eqb}
 use Rattle.std.specs.List.{list_any}
 use Rattle.std.specs.Option.{MatchOption}
 use Rattle.std.proofs.Math.Path.{ap₂}
@@ -7,26 +7,27 @@ use Rattle.std.proofs.lemmas.Bool.{and_parts}
 use Rattle.std.proofs.lemmas.Option.{same_Some}
 use Rattle.cpn_definitions.specs.Marking.{Marking}
 use Rattle.cpn_definitions.specs.Occurrence.{covered}
-use Rattle.cpn_definitions.specs.Enabled.{ready}
+use Rattle.cpn_definitions.specs.Legal.{LeastTime}
 use Rattle.cpn_runs.specs.HoleRun.{PlainClaim, is_open, done_prefix}
-use Rattle.cpn_runs.specs.State.{PlainSetup, PlainEvent, claim_made, claim_completed, cut_made, PlainEnd, dead, steps_made, fault_end, PlainState, owed_cut, is_held_by, new_claim, PlainCut, MayClaim, MayComplete, MayCut, Happens, Leads, HasCause, EndsBy}
-use Rattle.cpn_definitions.proofs.RisingLists.{in_filter_from, contains_from_in}
-use Rattle.cpn_runs.proofs.Items.{last_changed, in_from_get}
+use Rattle.cpn_runs.specs.State.{PlainSetup, PlainEvent, claim_made, claim_completed, clock_moved, cut_made, PlainEnd, dead, steps_made, until_passed, fault_end, PlainState, unclaimed_in, owed_cut, is_held_by, new_claim, PlainCut, MayClaim, MayComplete, MayMove, MayCut, Happens, Leads, HasCause, EndsBy}
+use Rattle.cpn_runs.proofs.Items.{last_changed}
 use Rattle.cpn_runs.proofs.Cuts.{AreDone, committed_are_done, done_owe_none, done_is_not_open, done_at, owed_is}
-use Rattle.cpn_runs.proofs.States.{claim_is_unique, completion_is_unique, cut_is_unique, closed_status}
+use Rattle.cpn_runs.proofs.States.{claim_is_unique, completion_is_unique, least_is_unique, move_is_unique, cut_is_unique, closed_status, drawn_now}
 
 -- no claim is open
 abbrev pub AreClosed : List PlainClaim → Type 0
 AreClosed claims = list_any (λ claim. is_open claim.status) claims ≡ false
 
--- Between rounds: no cut, and no claim is open.
-pub record IsCalm (state : PlainState) : Type 0 where
+-- Between rounds: no cut, and no claim is open; and the clock is one that the run may reach.
+pub record IsCalm (setup : PlainSetup) (state : PlainState) : Type 0 where
   pub no_cut : state.cut ≡ None
   pub closed : AreClosed state.claims
+  pub in_time : state.clock ≤ setup.limits.until
 
 -- Within a round: no cut, and the last claim alone is open, and is seat 0's.
-pub record IsBusy (state : PlainState) : Type 0 where
+pub record IsBusy (setup : PlainSetup) (state : PlainState) : Type 0 where
   pub no_cut : state.cut ≡ None
+  pub in_time : state.clock ≤ setup.limits.until
   pub before : List PlainClaim
   pub last : PlainClaim
   pub claims_are : state.claims ≡ before ++ last ∷ []
@@ -41,8 +42,8 @@ pub record IsCut (state : PlainState) : Type 0 where
   pub all_done : AreDone state.claims
 
 -- where a run of one seat is
-abbrev pub IsPhase : PlainState → Type 0
-IsPhase state = IsCalm state ⊎ (IsBusy state ⊎ IsCut state)
+abbrev pub IsPhase : PlainSetup → PlainState → Type 0
+IsPhase setup state = IsCalm setup state ⊎ (IsBusy setup state ⊎ IsCut state)
 
 clash : (b : Bool) → b ≡ true → b ≡ false → ⊥
 clash b is_true is_false = cc
@@ -104,11 +105,11 @@ held_is_open seat claim held =
     let parts = and_parts (is_open claim.status) (claim.seat == seat) held in
     (parts.0, eqb-true claim.seat seat parts.1)
 
-pub none_completes_calmly : (setup : PlainSetup) (old : PlainState) (seat number : ℕ) (new : PlainState) → IsCalm old → MayComplete setup old seat number new → ⊥
+pub none_completes_calmly : (setup : PlainSetup) (old : PlainState) (seat number : ℕ) (new : PlainState) → IsCalm setup old → MayComplete setup old seat number new → ⊥
 none_completes_calmly setup old seat number new calm c =
     clash (is_open c.held_claim.status) (held_is_open seat c.held_claim c.held).0 (closed_at old.claims number c.held_claim calm.closed c.claim_is)
 
-pub none_claims_busily : (setup : PlainSetup) (old : PlainState) (seat number : ℕ) (new : PlainState) → setup.limits.seats ≡ 1 → IsBusy old → MayClaim setup old seat number new → ⊥
+pub none_claims_busily : (setup : PlainSetup) (old : PlainState) (seat number : ℕ) (new : PlainState) → setup.limits.seats ≡ 1 → IsBusy setup old → MayClaim setup old seat number new → ⊥
 none_claims_busily setup old seat number new one busy c =
     let zero_seat : seat ≡ 0 = (let known = c.seat_known in omega arith) in
     let P : ℕ → Type 0 = λ s. list_any (is_held_by s) old.claims ≡ false in
@@ -117,12 +118,13 @@ none_claims_busily setup old seat number new one busy c =
 
 -- ---- what they lead to
 
-pub claim_makes_busy : (setup : PlainSetup) (old : PlainState) (seat number : ℕ) (new : PlainState) → setup.limits.seats ≡ 1 → IsCalm old → MayClaim setup old seat number new → IsBusy new
+pub claim_makes_busy : (setup : PlainSetup) (old : PlainState) (seat number : ℕ) (new : PlainState) → setup.limits.seats ≡ 1 → IsCalm setup old → MayClaim setup old seat number new → IsBusy setup new
 claim_makes_busy setup old seat number new one calm c =
     let known : seat ≡ 0 = (let s = c.seat_known in omega arith) in
-    let P : PlainState → Type 0 = λ s. IsBusy s in
+    let P : PlainState → Type 0 = λ s. IsBusy setup s in
     subst P (sym c.new_is) (record {
       no_cut = calm.no_cut;
+      in_time = calm.in_time;
       before = old.claims;
       last = new_claim setup.net seat old.clock c.drawn.element;
       claims_are = refl;
@@ -138,27 +140,27 @@ closed_more (k ∷ ks) claim closed is =
     rw parts.0 (closed_more ks claim parts.1 is)
 
 -- what a completion completes, in a busy state
-completed_last : (setup : PlainSetup) (old : PlainState) (seat number : ℕ) (new : PlainState) (busy : IsBusy old) (c : MayComplete setup old seat number new) → (number ≡ length busy.before) × (c.held_claim ≡ busy.last) × (seat ≡ 0)
+completed_last : (setup : PlainSetup) (old : PlainState) (seat number : ℕ) (new : PlainState) (busy : IsBusy setup old) (c : MayComplete setup old seat number new) → (number ≡ length busy.before) × (c.held_claim ≡ busy.last) × (seat ≡ 0)
 completed_last setup old seat number new busy c =
     let held = held_is_open seat c.held_claim c.held in
     let P : List PlainClaim → Type 0 = λ cs. slice_get cs number ≡ Some c.held_claim in
     let which = open_is_last busy.before busy.last c.held_claim number busy.closed (subst P busy.claims_are c.claim_is) held.0 in
     (which.0, which.1, sym held.1 ∙ ap (λ (k : PlainClaim). k.seat) which.1 ∙ busy.seat)
 
-completed_claims : (setup : PlainSetup) (old : PlainState) (seat number : ℕ) (new : PlainState) (busy : IsBusy old) (c : MayComplete setup old seat number new) → new ≡ record old { claims = busy.before ++ record busy.last { status = c.status } ∷ [] }
+completed_claims : (setup : PlainSetup) (old : PlainState) (seat number : ℕ) (new : PlainState) (busy : IsBusy setup old) (c : MayComplete setup old seat number new) → new ≡ record old { claims = busy.before ++ record busy.last { status = c.status } ∷ [] }
 completed_claims setup old seat number new busy c =
     let which = completed_last setup old seat number new busy c in
     let same : slice_set old.claims number (record c.held_claim { status = c.status }) ≡ slice_set (busy.before ++ busy.last ∷ []) (length busy.before) (record busy.last { status = c.status }) =
     ap₂ (λ cs (n : ℕ). slice_set cs n (record c.held_claim { status = c.status })) busy.claims_are which.0 ∙ ap (λ (k : PlainClaim). slice_set (busy.before ++ busy.last ∷ []) (length busy.before) (record k { status = c.status })) which.1 in
     c.new_is ∙ ap (λ cs. record old { claims = cs }) (same ∙ last_changed busy.before busy.last (record busy.last { status = c.status }))
 
-pub completion_makes_calm : (setup : PlainSetup) (old : PlainState) (seat number : ℕ) (new : PlainState) → IsBusy old → MayComplete setup old seat number new → IsCalm new
+pub completion_makes_calm : (setup : PlainSetup) (old : PlainState) (seat number : ℕ) (new : PlainState) → IsBusy setup old → MayComplete setup old seat number new → IsCalm setup new
 completion_makes_calm setup old seat number new busy c =
-    let P : PlainState → Type 0 = λ s. IsCalm s in
+    let P : PlainState → Type 0 = λ s. IsCalm setup s in
     let status_closed : is_open c.status ≡ false = closed_status _ c.status c.status_is in
-    subst P (sym (completed_claims setup old seat number new busy c)) (record { no_cut = busy.no_cut; closed = closed_more busy.before (record busy.last { status = c.status }) busy.closed status_closed })
+    subst P (sym (completed_claims setup old seat number new busy c)) (record { no_cut = busy.no_cut; in_time = busy.in_time; closed = closed_more busy.before (record busy.last { status = c.status }) busy.closed status_closed })
 
-pub completion_is_determined : (setup : PlainSetup) (old : PlainState) (seat number seat' number' : ℕ) (new new' : PlainState) → IsBusy old → MayComplete setup old seat number new → MayComplete setup old seat' number' new' → IsSameClaim seat number seat' number' new new'
+pub completion_is_determined : (setup : PlainSetup) (old : PlainState) (seat number seat' number' : ℕ) (new new' : PlainState) → IsBusy setup old → MayComplete setup old seat number new → MayComplete setup old seat' number' new' → IsSameClaim seat number seat' number' new new'
 completion_is_determined setup old seat number seat' number' new new' busy a b =
     let first = completed_last setup old seat number new busy a in
     let second = completed_last setup old seat' number' new' busy b in
@@ -179,49 +181,45 @@ not_owed_and_owed : (owed : Option PlainCut) (cut : PlainCut) → owed ≡ None 
 not_owed_and_owed owed cut none some = cc
 
 -- a cut is determined, and none follows it
-cut_same : (setup : PlainSetup) (old : PlainState) (number number' : ℕ) (new new' : PlainState) → MayCut setup old number new → MayCut setup old number' new' → IsSameEvent (cut_made number) (cut_made number') new new' × IsPhase new
+cut_same : (setup : PlainSetup) (old : PlainState) (number number' : ℕ) (new new' : PlainState) → MayCut setup old number new → MayCut setup old number' new' → IsSameEvent (cut_made number) (cut_made number') new new' × IsPhase setup new
 cut_same setup old number number' new new' a b =
     let cuts : a.cut ≡ b.cut = same_Some a.cut b.cut (sym a.owed ∙ b.owed) in
     let numbers : number ≡ number' = a.number_is ∙ ap (λ (c : PlainCut). c.number) cuts ∙ sym b.number_is in
     let same : MayCut setup old number' new = subst (λ (k : ℕ). MayCut setup old k new) numbers a in
     let at : number ≡ done_prefix old.claims = a.number_is ∙ (owed_is old.claims a.cut a.owed).number_is in (
       record { events = ap cut_made numbers; news = cut_is_unique setup old number' new new' same b },
-      subst IsPhase (sym a.new_is) (inr (inr (record { cut = a.cut; stands = refl; all_done = subst (λ (k : ℕ). AreDone (take k old.claims)) (sym at) (committed_are_done old.claims) }))),
+      subst (IsPhase setup) (sym a.new_is) (inr (inr (record { cut = a.cut; stands = refl; all_done = subst (λ (k : ℕ). AreDone (take k old.claims)) (sym at) (committed_are_done old.claims) }))),
     )
 
-calm_same : (setup : PlainSetup) (old : PlainState) (event event' : PlainEvent) (new new' : PlainState) → setup.limits.seats ≡ 1 → IsCalm old → Happens setup old event new → Happens setup old event' new' → IsSameEvent event event' new new' × IsPhase new
+-- a move leads from a calm state to a calm one
+move_stays_calm : (setup : PlainSetup) (old : PlainState) (time : ℕ) (new : PlainState) → IsCalm setup old → MayMove setup old time new → IsCalm setup new
+move_stays_calm setup old time new calm c = subst (IsCalm setup) (sym c.new_is) (record { no_cut = calm.no_cut; closed = calm.closed; in_time = c.in_time })
+
+-- where a claim is made the clock does not move: what is drawn is covered at the clock
+claim_or_move : (setup : PlainSetup) (old : PlainState) (seat number time : ℕ) (new new' : PlainState) → MayClaim setup old seat number new → MayMove setup old time new' → ⊥
+claim_or_move setup old seat number time new new' a b =
+    let same : a.marking ≡ b.marking = same_Some a.marking b.marking (sym a.marking_is ∙ b.marking_is) in
+    let P : Marking → Type 0 = λ m. covered setup.net m old.clock a.drawn.element ≡ true in
+    clash (covered setup.net b.marking old.clock a.drawn.element) (subst P same (drawn_now setup old seat number new a)) (b.none_ready a.drawn.element)
+
+calm_same : (setup : PlainSetup) (old : PlainState) (event event' : PlainEvent) (new new' : PlainState) → setup.limits.seats ≡ 1 → IsCalm setup old → Happens setup old event new → Happens setup old event' new' → IsSameEvent event event' new new' × IsPhase setup new
 calm_same setup old (claim_made seat number) (claim_made seat' number') new new' one calm a b =
     let same = claim_is_determined setup old seat number seat' number' new new' one a b in
     (record { events = ap₂ claim_made same.seats same.numbers; news = same.news }, inr (inl (claim_makes_busy setup old seat number new one calm a)))
 calm_same setup old (claim_made seat number) (claim_completed seat' number') new new' one calm a b = absurd (none_completes_calmly setup old seat' number' new' calm b)
+calm_same setup old (claim_made seat number) (clock_moved time') new new' one calm a b = absurd (claim_or_move setup old seat number time' new new' a b)
 calm_same setup old (claim_made seat number) (cut_made number') new new' one calm a b = absurd (not_owed_and_owed (owed_cut setup old) b.cut a.none_owed b.owed)
 calm_same setup old (claim_completed seat number) event' new new' one calm a b = absurd (none_completes_calmly setup old seat number new calm a)
+calm_same setup old (clock_moved time) (claim_made seat' number') new new' one calm a b = absurd (claim_or_move setup old seat' number' time new' new b a)
+calm_same setup old (clock_moved time) (claim_completed seat' number') new new' one calm a b = absurd (none_completes_calmly setup old seat' number' new' calm b)
+calm_same setup old (clock_moved time) (clock_moved time') new new' one calm a b =
+    let same = move_is_unique setup old time time' new new' a b in
+    (record { events = ap clock_moved same.0; news = same.1 }, inl (move_stays_calm setup old time new calm a))
+calm_same setup old (clock_moved time) (cut_made number') new new' one calm a b = absurd (not_owed_and_owed (owed_cut setup old) b.cut a.none_owed b.owed)
 calm_same setup old (cut_made number) (claim_made seat' number') new new' one calm a b = absurd (not_owed_and_owed (owed_cut setup old) a.cut b.none_owed a.owed)
 calm_same setup old (cut_made number) (claim_completed seat' number') new new' one calm a b = absurd (none_completes_calmly setup old seat' number' new' calm b)
+calm_same setup old (cut_made number) (clock_moved time') new new' one calm a b = absurd (not_owed_and_owed (owed_cut setup old) a.cut b.none_owed a.owed)
 calm_same setup old (cut_made number) (cut_made number') new new' one calm a b = cut_same setup old number number' new new' a b
-
-busy_same : (setup : PlainSetup) (old : PlainState) (event event' : PlainEvent) (new new' : PlainState) → setup.limits.seats ≡ 1 → IsBusy old → Happens setup old event new → Happens setup old event' new' → IsSameEvent event event' new new' × IsPhase new
-busy_same setup old (claim_completed seat number) (claim_completed seat' number') new new' one busy a b =
-    let same = completion_is_determined setup old seat number seat' number' new new' busy a b in
-    (record { events = ap₂ claim_completed same.seats same.numbers; news = same.news }, inl (completion_makes_calm setup old seat number new busy a))
-busy_same setup old (claim_completed seat number) (claim_made seat' number') new new' one busy a b = absurd (none_claims_busily setup old seat' number' new' one busy b)
-busy_same setup old (claim_completed seat number) (cut_made number') new new' one busy a b = absurd (not_owed_and_owed (owed_cut setup old) b.cut a.none_owed b.owed)
-busy_same setup old (claim_made seat number) event' new new' one busy a b = absurd (none_claims_busily setup old seat number new one busy a)
-busy_same setup old (cut_made number) (claim_made seat' number') new new' one busy a b = absurd (none_claims_busily setup old seat' number' new' one busy b)
-busy_same setup old (cut_made number) (claim_completed seat' number') new new' one busy a b = absurd (not_owed_and_owed (owed_cut setup old) a.cut b.none_owed a.owed)
-busy_same setup old (cut_made number) (cut_made number') new new' one busy a b = cut_same setup old number number' new new' a b
-
--- after the cut nothing happens
-none_after_cut : (setup : PlainSetup) (old : PlainState) (event : PlainEvent) (new : PlainState) → IsCut old → Happens setup old event new → ⊥
-none_after_cut setup old (claim_made seat number) new over a = not_owed_and_owed old.cut over.cut a.no_cut over.stands
-none_after_cut setup old (claim_completed seat number) new over a =
-    clash (is_open a.held_claim.status) (held_is_open seat a.held_claim a.held).0 (done_is_not_open a.held_claim.status (done_at old.claims number a.held_claim over.all_done a.claim_is))
-none_after_cut setup old (cut_made number) new over a = not_owed_and_owed (owed_cut setup old) a.cut (done_owe_none old.claims over.all_done) a.owed
-
-one_event : (setup : PlainSetup) (old : PlainState) (event event' : PlainEvent) (new new' : PlainState) → setup.limits.seats ≡ 1 → IsPhase old → Happens setup old event new → Happens setup old event' new' → IsSameEvent event event' new new' × IsPhase new
-one_event setup old event event' new new' one (inl calm) a b = calm_same setup old event event' new new' one calm a b
-one_event setup old event event' new new' one (inr (inl busy)) a b = busy_same setup old event event' new new' one busy a b
-one_event setup old event event' new new' one (inr (inr over)) a b = absurd (none_after_cut setup old event new over a)
 
 open_is_found : (before : List PlainClaim) (last : PlainClaim) → is_open last.status ≡ true → list_any (λ claim. is_open claim.status) (before ++ last ∷ []) ≡ true
 open_is_found [] last opened = rw opened refl
@@ -231,42 +229,94 @@ open_is_found (k ∷ ks) last opened = later (is_open k.status) (list_any (λ cl
     later true b is = refl
     later false b is = is
 
+-- a claim is open in a busy state
+busy_is_open : (setup : PlainSetup) (state : PlainState) → IsBusy setup state → list_any (λ claim. is_open claim.status) state.claims ≡ true
+busy_is_open setup state busy = subst (λ cs. list_any (λ claim. is_open claim.status) cs ≡ true) (sym busy.claims_are) (open_is_found busy.before busy.last busy.last_open)
+
+none_moves_busily : (setup : PlainSetup) (old : PlainState) (time : ℕ) (new : PlainState) → IsBusy setup old → MayMove setup old time new → ⊥
+none_moves_busily setup old time new busy c = clash (list_any (λ claim. is_open claim.status) old.claims) (busy_is_open setup old busy) c.none_open
+
+busy_same : (setup : PlainSetup) (old : PlainState) (event event' : PlainEvent) (new new' : PlainState) → setup.limits.seats ≡ 1 → IsBusy setup old → Happens setup old event new → Happens setup old event' new' → IsSameEvent event event' new new' × IsPhase setup new
+busy_same setup old (claim_completed seat number) (claim_completed seat' number') new new' one busy a b =
+    let same = completion_is_determined setup old seat number seat' number' new new' busy a b in
+    (record { events = ap₂ claim_completed same.seats same.numbers; news = same.news }, inl (completion_makes_calm setup old seat number new busy a))
+busy_same setup old (claim_completed seat number) (claim_made seat' number') new new' one busy a b = absurd (none_claims_busily setup old seat' number' new' one busy b)
+busy_same setup old (claim_completed seat number) (clock_moved time') new new' one busy a b = absurd (none_moves_busily setup old time' new' busy b)
+busy_same setup old (claim_completed seat number) (cut_made number') new new' one busy a b = absurd (not_owed_and_owed (owed_cut setup old) b.cut a.none_owed b.owed)
+busy_same setup old (claim_made seat number) event' new new' one busy a b = absurd (none_claims_busily setup old seat number new one busy a)
+busy_same setup old (clock_moved time) event' new new' one busy a b = absurd (none_moves_busily setup old time new busy a)
+busy_same setup old (cut_made number) (claim_made seat' number') new new' one busy a b = absurd (none_claims_busily setup old seat' number' new' one busy b)
+busy_same setup old (cut_made number) (claim_completed seat' number') new new' one busy a b = absurd (not_owed_and_owed (owed_cut setup old) a.cut b.none_owed a.owed)
+busy_same setup old (cut_made number) (clock_moved time') new new' one busy a b = absurd (none_moves_busily setup old time' new' busy b)
+busy_same setup old (cut_made number) (cut_made number') new new' one busy a b = cut_same setup old number number' new new' a b
+
+-- after the cut nothing happens
+none_after_cut : (setup : PlainSetup) (old : PlainState) (event : PlainEvent) (new : PlainState) → IsCut old → Happens setup old event new → ⊥
+none_after_cut setup old (claim_made seat number) new over a = not_owed_and_owed old.cut over.cut a.no_cut over.stands
+none_after_cut setup old (claim_completed seat number) new over a =
+    clash (is_open a.held_claim.status) (held_is_open seat a.held_claim a.held).0 (done_is_not_open a.held_claim.status (done_at old.claims number a.held_claim over.all_done a.claim_is))
+none_after_cut setup old (clock_moved time) new over a = not_owed_and_owed old.cut over.cut a.no_cut over.stands
+none_after_cut setup old (cut_made number) new over a = not_owed_and_owed (owed_cut setup old) a.cut (done_owe_none old.claims over.all_done) a.owed
+
+one_event : (setup : PlainSetup) (old : PlainState) (event event' : PlainEvent) (new new' : PlainState) → setup.limits.seats ≡ 1 → IsPhase setup old → Happens setup old event new → Happens setup old event' new' → IsSameEvent event event' new new' × IsPhase setup new
+one_event setup old event event' new new' one (inl calm) a b = calm_same setup old event event' new new' one calm a b
+one_event setup old event event' new new' one (inr (inl busy)) a b = busy_same setup old event event' new new' one busy a b
+one_event setup old event event' new new' one (inr (inr over)) a b = absurd (none_after_cut setup old event new over a)
+
 -- a busy state has no end
-pub busy_has_no_end : (setup : PlainSetup) (state : PlainState) (cause : PlainEnd) → IsBusy state → EndsBy setup state cause → ⊥
-busy_has_no_end setup state cause busy ends =
-    let P : List PlainClaim → Type 0 = λ cs. list_any (λ claim. is_open claim.status) cs ≡ false in
-    clash (list_any (λ claim. is_open claim.status) (busy.before ++ busy.last ∷ [])) (open_is_found busy.before busy.last busy.last_open) (subst P busy.claims_are ends.none_open)
+pub busy_has_no_end : (setup : PlainSetup) (state : PlainState) (cause : PlainEnd) → IsBusy setup state → EndsBy setup state cause → ⊥
+busy_has_no_end setup state cause busy ends = clash (list_any (λ claim. is_open claim.status) state.claims) (busy_is_open setup state busy) ends.none_open
 
 -- the cause of the end of a calm state
-calm_cause : (setup : PlainSetup) (state : PlainState) (cause : PlainEnd) → IsCalm state → EndsBy setup state cause → HasCause setup state cause
+calm_cause : (setup : PlainSetup) (state : PlainState) (cause : PlainEnd) → IsCalm setup state → EndsBy setup state cause → HasCause setup state cause
 calm_cause setup state cause calm ends =
     let P : Option PlainCut → Type 0 = λ cut. MatchOption cut (HasCause setup state cause) (λ c. cause ≡ c.cause) in
     subst P calm.no_cut ends.has_cause
 
--- what a claim draws is covered at some time
-drawn_covered : (setup : PlainSetup) (old : PlainState) (seat number : ℕ) (new : PlainState) (c : MayClaim setup old seat number new) → covered setup.net c.marking c.drawn.earliest c.drawn.element ≡ true
-drawn_covered setup old seat number new c =
-    ((c.enabled.exact c.drawn).0 (contains_from_in c.entries c.drawn (in_filter_from _ c.entries c.drawn (in_from_get (ready old.clock c.entries) _ c.drawn c.drawn_is)).0)).is_covered
+-- the marking that the claims of a state leave is one
+one_unclaimed : (setup : PlainSetup) (state : PlainState) (m k : Marking) → unclaimed_in setup state ≡ Some m → unclaimed_in setup state ≡ Some k → m ≡ k
+one_unclaimed setup state m k first second = same_Some m k (sym first ∙ second)
 
-no_claim_at_end : (setup : PlainSetup) (state : PlainState) (cause : PlainEnd) (seat number : ℕ) (new : PlainState) → HasCause setup state cause → MayClaim setup state seat number new → ⊥
-no_claim_at_end setup state steps_made seat number new has c =
+no_claim_at_end : (setup : PlainSetup) (state : PlainState) (cause : PlainEnd) (seat number : ℕ) (new : PlainState) → state.clock ≤ setup.limits.until → HasCause setup state cause → MayClaim setup state seat number new → ⊥
+no_claim_at_end setup state steps_made seat number new in_time has c =
     let below : number < setup.limits.steps = c.below_limit in
     let is : number ≡ length state.claims = c.next_number in
     let all : length state.claims ≡ setup.limits.steps = has in
     absurd (omega arith)
-no_claim_at_end setup state dead seat number new has c =
-    let same : c.marking ≡ has.1.0 = same_Some c.marking has.1.0 (sym c.marking_is ∙ has.1.1) in
-    let P : Marking → Type 0 = λ m. covered setup.net m c.drawn.earliest c.drawn.element ≡ true in
-    clash (covered setup.net has.1.0 c.drawn.earliest c.drawn.element) (subst P same (drawn_covered setup state seat number new c)) (has.1.2 c.drawn.earliest c.drawn.element)
-no_claim_at_end setup state (fault_end e fault) seat number new has c = has
+no_claim_at_end setup state dead seat number new in_time has c =
+    let P : Marking → Type 0 = λ m. covered setup.net m state.clock c.drawn.element ≡ true in
+    clash (covered setup.net has.1.0 state.clock c.drawn.element) (subst P (one_unclaimed setup state c.marking has.1.0 c.marking_is has.1.1) (drawn_now setup state seat number new c)) (has.1.2 state.clock c.drawn.element)
+no_claim_at_end setup state (until_passed time) seat number new in_time has c =
+    let past : setup.limits.until < time = has.1 in
+    let P : Marking → Type 0 = λ m. covered setup.net m state.clock c.drawn.element ≡ true in
+    clash (covered setup.net has.2.0 state.clock c.drawn.element) (subst P (one_unclaimed setup state c.marking has.2.0 c.marking_is has.2.1) (drawn_now setup state seat number new c))
+    (has.2.2.none_earlier state.clock c.drawn.element (omega arith) (omega arith))
+no_claim_at_end setup state (fault_end e fault) seat number new in_time has c = has
+
+no_move_at_end : (setup : PlainSetup) (state : PlainState) (cause : PlainEnd) (time : ℕ) (new : PlainState) → HasCause setup state cause → MayMove setup state time new → ⊥
+no_move_at_end setup state steps_made time new has c =
+    let below : length state.claims < setup.limits.steps = c.below_limit in
+    let all : length state.claims ≡ setup.limits.steps = has in
+    absurd (omega arith)
+no_move_at_end setup state dead time new has c =
+    let P : Marking → Type 0 = λ m. covered setup.net m time c.least.some.0 ≡ true in
+    clash (covered setup.net has.1.0 time c.least.some.0) (subst P (one_unclaimed setup state c.marking has.1.0 c.marking_is has.1.1) c.least.some.1) (has.1.2 time c.least.some.0)
+no_move_at_end setup state (until_passed other) time new has c =
+    let P : Marking → Type 0 = λ m. LeastTime setup.net m state.clock time in
+    let same : time ≡ other = least_is_unique setup.net has.2.0 state.clock time other (subst P (one_unclaimed setup state c.marking has.2.0 c.marking_is has.2.1) c.least) has.2.2 in
+    let past : setup.limits.until < other = has.1 in
+    let within : time ≤ setup.limits.until = c.in_time in
+    absurd (omega arith)
+no_move_at_end setup state (fault_end e fault) time new has c = has
 
 -- a state that has an end has no event
-calm_end_has_no_event : (setup : PlainSetup) (state : PlainState) (cause : PlainEnd) (event : PlainEvent) (new : PlainState) → IsCalm state → EndsBy setup state cause → Happens setup state event new → ⊥
-calm_end_has_no_event setup state cause (claim_made seat number) new calm ends happens = no_claim_at_end setup state cause seat number new (calm_cause setup state cause calm ends) happens
+calm_end_has_no_event : (setup : PlainSetup) (state : PlainState) (cause : PlainEnd) (event : PlainEvent) (new : PlainState) → IsCalm setup state → EndsBy setup state cause → Happens setup state event new → ⊥
+calm_end_has_no_event setup state cause (claim_made seat number) new calm ends happens = no_claim_at_end setup state cause seat number new calm.in_time (calm_cause setup state cause calm ends) happens
 calm_end_has_no_event setup state cause (claim_completed seat number) new calm ends happens = none_completes_calmly setup state seat number new calm happens
+calm_end_has_no_event setup state cause (clock_moved time) new calm ends happens = no_move_at_end setup state cause time new (calm_cause setup state cause calm ends) happens
 calm_end_has_no_event setup state cause (cut_made number) new calm ends happens = not_owed_and_owed (owed_cut setup state) happens.cut ends.none_owed happens.owed
 
-pub end_has_no_event : (setup : PlainSetup) (state : PlainState) (cause : PlainEnd) (event : PlainEvent) (new : PlainState) → IsPhase state → EndsBy setup state cause → Happens setup state event new → ⊥
+pub end_has_no_event : (setup : PlainSetup) (state : PlainState) (cause : PlainEnd) (event : PlainEvent) (new : PlainState) → IsPhase setup state → EndsBy setup state cause → Happens setup state event new → ⊥
 end_has_no_event setup state cause event new (inl calm) ends happens = calm_end_has_no_event setup state cause event new calm ends happens
 end_has_no_event setup state cause event new (inr (inl busy)) ends happens = busy_has_no_end setup state cause busy ends
 end_has_no_event setup state cause event new (inr (inr over)) ends happens = none_after_cut setup state event new over happens
@@ -279,7 +329,7 @@ pub record IsSameEnd (journal journal' : List PlainEvent) (state state' : PlainS
 moved_ends : (setup : PlainSetup) (old state : PlainState) (cause : PlainEnd) → state ≡ old → EndsBy setup state cause → EndsBy setup old cause
 moved_ends setup old state cause same ends = let P : PlainState → Type 0 = λ s. EndsBy setup s cause in subst P same ends
 
-pub same_journal : (setup : PlainSetup) (old : PlainState) (J J' : List PlainEvent) (s s' : PlainState) (cause cause' : PlainEnd) → setup.limits.seats ≡ 1 → IsPhase old → Leads setup old J s → EndsBy setup s cause → Leads setup old J' s' → EndsBy setup s' cause' → IsSameEnd J J' s s'
+pub same_journal : (setup : PlainSetup) (old : PlainState) (J J' : List PlainEvent) (s s' : PlainState) (cause cause' : PlainEnd) → setup.limits.seats ≡ 1 → IsPhase setup old → Leads setup old J s → EndsBy setup s cause → Leads setup old J' s' → EndsBy setup s' cause' → IsSameEnd J J' s s'
 same_journal setup old [] [] s s' cause cause' one phase a ends b ends' = record { journals = refl; states = a ∙ sym b }
 same_journal setup old [] (event ∷ J') s s' cause cause' one phase a ends b ends' = absurd (end_has_no_event setup old cause event b.0 phase (moved_ends setup old s cause a ends) b.1)
 same_journal setup old (event ∷ J) [] s s' cause cause' one phase a ends b ends' = absurd (end_has_no_event setup old cause' event a.0 phase (moved_ends setup old s' cause' b ends') a.1)

@@ -1,29 +1,47 @@
 -- With one seat a setup has one run.
-use Rattle.std.proofs.Common.{◌≡◌, ℕ, List, length, Some, None, Option, refl, sym, ap, ◌∙◌, subst, inl}
+use Rattle.std.proofs.Common.{◌≡◌, ℕ, ◌≤◌, true, false, List, length, Some, None, Option, refl, sym, ap, ◌∙◌, subst, inl}
 use Rattle.std.specs.Option.{MatchOption}
 use Rattle.std.proofs.Math.Path.{ap₂}
 use Rattle.std.proofs.lemmas.Option.{same_Some}
 use Rattle.cpn_definitions.specs.Marking.{Marking}
-use Rattle.cpn_definitions.specs.Enabled.{ready, next_time}
-use Rattle.cpn_runs.specs.State.{PlainSetup, PlainEvent, PlainEnd, dead, steps_made, fault_end, PlainCut, PlainState, first_state, IsState, HasCause, EndsBy, committed_occurrences, settled_in}
+use Rattle.cpn_definitions.specs.Legal.{LeastTime}
+use Rattle.cpn_definitions.specs.Enabled.{ready, next_time, IsDead}
+use Rattle.cpn_runs.specs.State.{PlainSetup, PlainEvent, PlainEnd, dead, steps_made, until_passed, fault_end, PlainCut, PlainState, first_state, IsState, HasCause, EndsBy, committed_occurrences, settled_in}
 use Rattle.cpn_runs.specs.Run.{PlainFinished, IsRun, Outlook, HasOutlook}
 use Rattle.cpn_definitions.proofs.OneEnabledList.{enabled_is_unique}
+use Rattle.cpn_runs.proofs.States.{least_is_unique}
 use Rattle.cpn_runs.proofs.OneJournal.{IsSameEnd, same_journal}
 
 -- with one seat there is at most one journal that has an end, and it leads to one state
-pub one_journal : (setup : PlainSetup) (J J' : List PlainEvent) (s s' : PlainState) (cause cause' : PlainEnd) → setup.limits.seats ≡ 1 → IsState setup J s → EndsBy setup s cause → IsState setup J' s' → EndsBy setup s' cause' → IsSameEnd J J' s s'
-one_journal setup J J' s s' cause cause' one a ends b ends' =
-    same_journal setup (first_state setup) J J' s s' cause cause' one (inl (record { no_cut = refl; closed = refl })) a ends b ends'
+pub one_journal : (setup : PlainSetup) (J J' : List PlainEvent) (s s' : PlainState) (cause cause' : PlainEnd) → setup.limits.seats ≡ 1 → setup.clock ≤ setup.limits.until → IsState setup J s → EndsBy setup s cause → IsState setup J' s' → EndsBy setup s' cause' → IsSameEnd J J' s s'
+one_journal setup J J' s s' cause cause' one in_time a ends b ends' =
+    same_journal setup (first_state setup) J J' s s' cause cause' one (inl (record { no_cut = refl; closed = refl; in_time = in_time })) a ends b ends'
+
+-- where something is covered at some time the marking is not dead
+dead_or_later : (setup : PlainSetup) (s : PlainState) (time : ℕ) → HasCause setup s dead → HasCause setup s (until_passed time) → ⊥
+dead_or_later setup s time over later =
+    let P : Marking → Type 0 = λ m. IsDead setup.net m in
+    let none = (subst P (same_Some over.1.0 later.2.0 (sym over.1.1 ∙ later.2.1)) over.1.2) time later.2.2.some.0 in
+    let e : true ≡ false = sym later.2.2.some.1 ∙ none in
+    cc
 
 -- a run without a cut has one cause
 one_cause : (setup : PlainSetup) (s : PlainState) (c c' : PlainEnd) → HasCause setup s c → HasCause setup s c' → c ≡ c'
 one_cause setup s steps_made steps_made has has' = refl
 one_cause setup s steps_made dead has has' = absurd (has'.0 has)
+one_cause setup s steps_made (until_passed time) has has' = absurd (has'.0 has)
 one_cause setup s dead steps_made has has' = absurd (has.0 has')
 one_cause setup s dead dead has has' = refl
+one_cause setup s dead (until_passed time) has has' = absurd (dead_or_later setup s time has has')
+one_cause setup s (until_passed time) steps_made has has' = absurd (has.0 has')
+one_cause setup s (until_passed time) dead has has' = absurd (dead_or_later setup s time has' has)
+one_cause setup s (until_passed time) (until_passed time') has has' =
+    let P : Marking → Type 0 = λ m. LeastTime setup.net m s.clock time in
+    ap until_passed (least_is_unique setup.net has'.2.0 s.clock time time' (subst P (same_Some has.2.0 has'.2.0 (sym has.2.1 ∙ has'.2.1)) has.2.2) has'.2.2)
 one_cause setup s (fault_end e f) c' has has' = absurd has
 one_cause setup s steps_made (fault_end e f) has has' = absurd has'
 one_cause setup s dead (fault_end e f) has has' = absurd has'
+one_cause setup s (until_passed time) (fault_end e f) has has' = absurd has'
 
 -- and so has each run, with a cut or without
 one_end : (setup : PlainSetup) (s : PlainState) (c c' : PlainEnd) → EndsBy setup s c → EndsBy setup s c' → c ≡ c'
@@ -47,10 +65,10 @@ same_finished r r' a j o m c e z =
     ∙ ap₂ (λ clock cause. record { opening = r'.opening; journal = r'.journal; occurrences = r'.occurrences; marking = r'.marking; clock = clock; cause = cause; closing = r.closing }) c e
     ∙ ap (λ closing. record r' { closing = closing }) z
 
--- with one seat a setup has one run
-pub one_run : (setup : PlainSetup) (r r' : PlainFinished) → setup.limits.seats ≡ 1 → IsRun setup r → IsRun setup r' → r ≡ r'
-one_run setup r r' one a b =
-    let same = one_journal setup r.journal r'.journal a.state b.state r.cause r'.cause one a.reached a.ends b.reached b.ends in
+-- with one seat a setup whose clock is one that the run may reach has one run
+pub one_run : (setup : PlainSetup) (r r' : PlainFinished) → setup.limits.seats ≡ 1 → setup.clock ≤ setup.limits.until → IsRun setup r → IsRun setup r' → r ≡ r'
+one_run setup r r' one in_time a b =
+    let same = one_journal setup r.journal r'.journal a.state b.state r.cause r'.cause one in_time a.reached a.ends b.reached b.ends in
     let P : PlainState → Type 0 = λ s. EndsBy setup s r.cause in
     let ends : EndsBy setup b.state r.cause = subst P same.states a.ends in
     let causes : r.cause ≡ r'.cause = one_end setup b.state r.cause r'.cause ends b.ends in

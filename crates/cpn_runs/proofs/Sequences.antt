@@ -1,5 +1,5 @@
 -- Legal sequences and runs of claims, one occurrence longer.
-use Rattle.std.proofs.Common.{◌≡◌, ℕ, ◌≤◌, ◌⊎◌, Bool, true, false, cond, List, [], ◌∷◌, ◌++◌, Some, None, Option, refl, sym, ap, subst, ◌∙◌, inl, arith, ⊎_elim}
+use Rattle.std.proofs.Common.{◌≡◌, ℕ, ◌≤◌, ◌⊎◌, Bool, true, false, cond, List, [], ◌∷◌, ◌++◌, Some, None, Option, refl, sym, ap, subst, ◌∙◌, inl, inr, arith, ⊎_elim}
 use Rattle.std.specs.Option.{option_map}
 use Rattle.std.proofs.lemmas.Bool.{cases_lt}
 use Rattle.cpn_definitions.specs.Marking.{Marking}
@@ -24,6 +24,31 @@ least_from_either n m c d t either second =
     let P : ℕ → Type 0 = λ k. LeastTime n m k t in
     ⊎_elim (λ same. subst P same second) (λ first. least_from_least n m c d t first second) either
 
+-- the end of a legal sequence may be at the least time from its last clock
+pub legal_moved : (n : PlainNet) (m : Marking) (c : ℕ) (os : List TimedElement) (last : Marking) (d t : ℕ) → Legal n m c os last d → LeastTime n last d t → Legal n m c os last t
+legal_moved n m c [] last d t legal least =
+    let P : Marking → Type 0 = λ k. LeastTime n k d t in
+    (legal.0, inr (least_from_either n m c d t legal.1 (subst P legal.0 least)))
+legal_moved n m c (o ∷ os) last d t legal least = (legal.0, legal.1, (legal.2.0, legal.2.1, legal_moved n legal.2.0 o.time os last d t legal.2.2 least))
+
+-- a legal sequence from a clock, or from the least time from it, is one from that clock
+legal_from_either : (n : PlainNet) (m : Marking) (c d : ℕ) (os : List TimedElement) (last : Marking) (end : ℕ) → ((d ≡ c) ⊎ LeastTime n m c d) → Legal n m d os last end → Legal n m c os last end
+legal_from_either n m c d os last end (inl same) legal = let P : ℕ → Type 0 = λ k. Legal n m k os last end in subst P same legal
+legal_from_either n m c d [] last end (inr first) legal =
+    (legal.0, ⊎_elim (λ (same : end ≡ d). let P : ℕ → Type 0 = λ k. LeastTime n m c k in inr (subst P (sym same) first)) (λ least. inr (least_from_least n m c d end first least)) legal.1)
+legal_from_either n m c d (o ∷ os) last end (inr first) legal = (least_from_least n m c d o.time first legal.0, legal.1, legal.2)
+
+-- two legal sequences, the second from where the first ends, are one
+pub legal_joined
+    : (n : PlainNet) (m : Marking) (c : ℕ) (os : List TimedElement) (mid : Marking) (d : ℕ) (more : List TimedElement) (last : Marking) (end : ℕ)
+    → Legal n m c os mid d
+    → Legal n mid d more last end
+    → Legal n m c (os ++ more) last end
+legal_joined n m c [] mid d more last end first second =
+    let P : Marking → Type 0 = λ k. Legal n k d more last end in
+    legal_from_either n m c d more last end first.1 (subst P first.0 second)
+legal_joined n m c (o ∷ os) mid d more last end first second = (first.0, first.1, (first.2.0, first.2.1, legal_joined n first.2.0 o.time os mid d more last end first.2.2 second))
+
 -- a legal sequence goes on by one more occurrence
 pub legal_more
     : (n : PlainNet) (m : Marking) (c : ℕ) (os : List TimedElement) (last : Marking) (d : ℕ) (o : TimedElement) (next : Marking)
@@ -32,13 +57,8 @@ pub legal_more
     → covered n last o.time o.element ≡ true
     → after n last o.time o.element ≡ Some next
     → Legal n m c (os ++ o ∷ []) next o.time
-legal_more n m c [] last d o next legal least is_covered goes =
-    let P : Marking → Type 0 = λ k. LeastTime n k d o.time in
-    let Q : Marking → Type 0 = λ k. covered n k o.time o.element ≡ true in
-    let R : Marking → Type 0 = λ k. after n k o.time o.element ≡ Some next in
-    (least_from_either n m c d o.time legal.1 (subst P legal.0 least), subst Q legal.0 is_covered, (next, subst R legal.0 goes, (refl, inl refl)))
-legal_more n m c (p ∷ os) last d o next legal least is_covered goes =
-    (legal.0, legal.1, (legal.2.0, legal.2.1, legal_more n legal.2.0 p.time os last d o next legal.2.2 least is_covered goes))
+legal_more n m c os last d o next legal least is_covered goes =
+    legal_joined n m c os last d (o ∷ []) next o.time legal (least, is_covered, (next, goes, (refl, inl refl)))
 
 -- the times of occurrences don't go back, from a clock on to a last one
 abbrev pub GoOn : ℕ → List TimedElement → ℕ → Type 0
@@ -111,6 +131,14 @@ left_parts m claim claims last is = passed (are_covered (threshold claim.time) m
 
 pub left_from : (m : Marking) (claim : PlainClaim) (claims : List PlainClaim) (last : Marking) → are_covered (threshold claim.time) m claim.needs ≡ true → marking_left (after_claim claim m) claims ≡ Some last → marking_left m (claim ∷ claims) ≡ Some last
 left_from m claim claims last is rest = left_on m claim claims ∙ ap (λ b. cond b (marking_left (after_claim claim m) claims) None) is ∙ rest
+
+-- of claims that leave a marking the first leave one, and the others leave the last from there
+pub left_split : (m : Marking) (first more : List PlainClaim) (last : Marking) → marking_left m (first ++ more) ≡ Some last → (mid : Marking) × (marking_left m first ≡ Some mid) × (marking_left mid more ≡ Some last)
+left_split m [] more last is = (m, refl, is)
+left_split m (claim ∷ first) more last is =
+    let parts = left_parts m claim (first ++ more) last is in
+    let rest = left_split (after_claim claim m) first more last parts.1 in
+    (rest.0, left_from m claim first rest.0 parts.0 rest.1, rest.2)
 
 -- the marking that claims leave, with one more claim whose needs are covered there
 pub marking_left_more

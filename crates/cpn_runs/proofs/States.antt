@@ -4,18 +4,20 @@ use Rattle.std.proofs.Common.{◌≡◌, ℕ, suc, ◌+◌, ◌<◌, ◌≤◌, 
 use Rattle.std.specs.List.{list_any, AllByRecursion}
 use Rattle.std.specs.Option.{MatchOption}
 use Rattle.std.proofs.Math.Path.{ap₂}
-use Rattle.std.proofs.lemmas.Bool.{and_parts}
+use Rattle.std.proofs.lemmas.Bool.{and_parts, cases_lt}
 use Rattle.std.proofs.lemmas.Option.{same_Some}
 use Rattle.std.proofs.lemmas.List.{take-append-drop}
 use Rattle.std.proofs.lemmas.List.Sums.{sum_by-cons, sum_by-append}
 use Rattle.cpn_definitions.specs.Marking.{Marking}
 use Rattle.cpn_definitions.specs.Outcome.{Fault, Outcome, gives, faults, no_meaning}
-use Rattle.cpn_definitions.specs.Occurrence.{Made, covered, needs_of, outputs_of}
+use Rattle.cpn_definitions.specs.Net.{PlainNet}
+use Rattle.cpn_definitions.specs.Occurrence.{PlainElement, Made, covered, needs_of, outputs_of}
+use Rattle.cpn_definitions.specs.Legal.{LeastTime}
 use Rattle.cpn_definitions.specs.Enabled.{PlainEntry, Enabled, ready}
 use Rattle.cpn_definitions.proofs.RisingLists.{in_filter_from, contains_from_in}
 use Rattle.cpn_definitions.proofs.OneEnabledList.{enabled_is_unique}
 use Rattle.cpn_runs.specs.HoleRun.{PlainClaim, Status, done_with, faulted_with, is_open, done_prefix}
-use Rattle.cpn_runs.specs.State.{PlainSetup, PlainEvent, claim_made, claim_completed, cut_made, PlainEnd, fault_end, PlainCut, PlainState, first_state, owed_cut, is_held_by, given_needs, new_claim, status_after, IsDrawn, MayClaim, MayComplete, MayCut, Happens, Leads, IsState, HasCause, EndsBy}
+use Rattle.cpn_runs.specs.State.{PlainSetup, PlainEvent, claim_made, claim_completed, clock_moved, cut_made, PlainEnd, fault_end, PlainCut, PlainState, first_state, owed_cut, is_held_by, given_needs, new_claim, status_after, IsDrawn, MayClaim, MayComplete, MayMove, MayCut, Happens, Leads, IsState, HasCause, EndsBy}
 use Rattle.cpn_runs.proofs.Items.{IsSplit, split_at, in_from_get, map_more, all_joined, all_parts}
 use Rattle.cpn_runs.proofs.Cuts.{AreDone, committed_are_done, as_many_are_committed, done_owe_none, done_is_not_open, done_at, fewer_first, IsOwed, owed_is}
 
@@ -44,6 +46,26 @@ completion_is_unique setup old seat number new new' a b =
     let statuses : a.status ≡ b.status = same_Some a.status b.status (sym (subst P claims a.status_is) ∙ b.status_is) in
     a.new_is ∙ ap₂ (λ claim status. record old { claims = slice_set old.claims number (record claim { status = status }) }) claims statuses ∙ sym b.new_is
 
+-- the least time is one
+pub least_is_unique : (n : PlainNet) (m : Marking) (clock time time' : ℕ) → LeastTime n m clock time → LeastTime n m clock time' → time ≡ time'
+least_is_unique n m clock time time' a b = by (cases_lt time time') (cases_lt time' time)
+  where
+    clash : (s : ℕ) (e : PlainElement) → covered n m s e ≡ true → covered n m s e ≡ false → ⊥
+    clash s e is is_not = cc
+
+    by : (time < time') ⊎ (time' ≤ time) → (time' < time) ⊎ (time ≤ time') → time ≡ time'
+    by (inl sooner) second = absurd (clash time a.some.0 a.some.1 (b.none_earlier time a.some.0 a.not_before sooner))
+    by (inr upto) (inl sooner) = absurd (clash time' b.some.0 b.some.1 (a.none_earlier time' b.some.0 b.not_before sooner))
+    by (inr upto) (inr from) = omega arith
+
+-- a move leads to one state, at one time
+pub move_is_unique : (setup : PlainSetup) (old : PlainState) (time time' : ℕ) (new new' : PlainState) → MayMove setup old time new → MayMove setup old time' new' → (time ≡ time') × (new ≡ new')
+move_is_unique setup old time time' new new' a b =
+    let markings : a.marking ≡ b.marking = same_Some a.marking b.marking (sym a.marking_is ∙ b.marking_is) in
+    let P : Marking → Type 0 = λ m. LeastTime setup.net m old.clock time in
+    let times : time ≡ time' = least_is_unique setup.net b.marking old.clock time time' (subst P markings a.least) b.least in
+    (times, a.new_is ∙ ap (λ (t : ℕ). record old { clock = t }) times ∙ sym b.new_is)
+
 -- a cut leads to one state
 pub cut_is_unique : (setup : PlainSetup) (old : PlainState) (number : ℕ) (new new' : PlainState) → MayCut setup old number new → MayCut setup old number new' → new ≡ new'
 cut_is_unique setup old number new new' a b =
@@ -53,6 +75,7 @@ cut_is_unique setup old number new new' a b =
 pub event_is_unique : (setup : PlainSetup) (old : PlainState) (event : PlainEvent) (new new' : PlainState) → Happens setup old event new → Happens setup old event new' → new ≡ new'
 event_is_unique setup old (claim_made seat number) new new' a b = claim_is_unique setup old seat number new new' a b
 event_is_unique setup old (claim_completed seat number) new new' a b = completion_is_unique setup old seat number new new' a b
+event_is_unique setup old (clock_moved time) new new' a b = (move_is_unique setup old time time new new' a b).1
 event_is_unique setup old (cut_made number) new new' a b = cut_is_unique setup old number new new' a b
 
 lead_to_one : (setup : PlainSetup) (old : PlainState) (journal : List PlainEvent) (s s' : PlainState) → Leads setup old journal s → Leads setup old journal s' → s ≡ s'
@@ -74,6 +97,7 @@ some_is_not_none o x some none = let e : Some x ≡ None = sym some ∙ none in 
 pub cut_happens_where_owed : (setup : PlainSetup) (old : PlainState) (cut : PlainCut) (event : PlainEvent) (new : PlainState) → owed_cut setup old ≡ Some cut → Happens setup old event new → event ≡ cut_made cut.number
 cut_happens_where_owed setup old cut (claim_made seat number) new owed happens = absurd (some_is_not_none (owed_cut setup old) cut owed happens.none_owed)
 cut_happens_where_owed setup old cut (claim_completed seat number) new owed happens = absurd (some_is_not_none (owed_cut setup old) cut owed happens.none_owed)
+cut_happens_where_owed setup old cut (clock_moved time) new owed happens = absurd (some_is_not_none (owed_cut setup old) cut owed happens.none_owed)
 cut_happens_where_owed setup old cut (cut_made number) new owed happens =
     let same : happens.cut ≡ cut = same_Some happens.cut cut (sym happens.owed ∙ owed) in
     ap cut_made (happens.number_is ∙ ap (λ (c : PlainCut). c.number) same)
@@ -102,6 +126,7 @@ abbrev pub claim_numbers : List PlainEvent → List ℕ
 claim_numbers [] = []
 claim_numbers (claim_made seat number ∷ events) = number ∷ claim_numbers events
 claim_numbers (claim_completed seat number ∷ events) = claim_numbers events
+claim_numbers (clock_moved time ∷ events) = claim_numbers events
 claim_numbers (cut_made number ∷ events) = claim_numbers events
 
 -- the seats of the claims that a journal makes
@@ -109,17 +134,20 @@ abbrev pub claim_seats : List PlainEvent → List ℕ
 claim_seats [] = []
 claim_seats (claim_made seat number ∷ events) = seat ∷ claim_seats events
 claim_seats (claim_completed seat number ∷ events) = claim_seats events
+claim_seats (clock_moved time ∷ events) = claim_seats events
 claim_seats (cut_made number ∷ events) = claim_seats events
 
 -- whether an event is a claim of the seat, and whether it is a completion of the seat
 abbrev pub is_claim_by : ℕ → PlainEvent → Bool
 is_claim_by seat (claim_made by number) = by == seat
 is_claim_by seat (claim_completed by number) = false
+is_claim_by seat (clock_moved time) = false
 is_claim_by seat (cut_made number) = false
 
 abbrev pub is_completion_by : ℕ → PlainEvent → Bool
 is_completion_by seat (claim_made by number) = false
 is_completion_by seat (claim_completed by number) = by == seat
+is_completion_by seat (clock_moved time) = false
 is_completion_by seat (cut_made number) = false
 
 -- the numbers count up from k
@@ -127,11 +155,10 @@ abbrev pub AreCounted : ℕ → List ℕ → Type 0
 AreCounted k [] = Unit {0}
 AreCounted k (x ∷ xs) = (x ≡ k) × AreCounted (suc k) xs
 
--- A claim of a run: its seat is one of the run's, its time is the clock, its needs are those of its element, which was
--- covered in some marking at that time; and it is open, or is done with what its outputs are.
+-- A claim of a run: its seat is one of the run's, its needs are those of its element, which was covered in some marking at its
+-- time; and it is open, or is done with what its outputs are.
 pub record IsClaimOf (setup : PlainSetup) (claim : PlainClaim) : Type 0 where
   pub seat_known : claim.seat < setup.limits.seats
-  pub time_is : claim.time ≡ setup.clock
   pub needs_are : claim.needs ≡ given_needs (needs_of setup.net claim.element)
   pub marking : Marking
   pub was_covered : covered setup.net marking claim.time claim.element ≡ true
@@ -155,10 +182,11 @@ pub record IsCutOff (setup : PlainSetup) (state : PlainState) (cut : PlainCut) :
   pub fault_is : removed.status ≡ faulted_with fault
   pub cause_is : cut.cause ≡ fault_end removed.element fault
 
--- What holds in each state that a journal allows: no event moved the clock; at most as many claims were made as may be,
+-- What holds in each state that a journal allows: the clock did not go back, and is one that the run may reach; at most as many claims were made as may be,
 -- numbered from 0; each that stands is one of the run; no seat has two open claims; and what holds before a cut and after it.
 pub record IsReached (setup : PlainSetup) (journal : List PlainEvent) (state : PlainState) : Type 0 where
-  pub clock_is : state.clock ≡ setup.clock
+  pub clock_goes_on : setup.clock ≤ state.clock
+  pub clock_in_time : setup.clock ≤ setup.limits.until → state.clock ≤ setup.limits.until
   pub few_claims : length (claim_numbers journal) ≤ setup.limits.steps
   pub numbers : AreCounted 0 (claim_numbers journal)
   pub claims_are : AllByRecursion (IsClaimOf setup) state.claims
@@ -199,12 +227,14 @@ numbers_joined : (events more : List PlainEvent) → claim_numbers (events ++ mo
 numbers_joined [] more = refl
 numbers_joined (claim_made seat number ∷ events) more = ap (λ xs. number ∷ xs) (numbers_joined events more)
 numbers_joined (claim_completed seat number ∷ events) more = numbers_joined events more
+numbers_joined (clock_moved time ∷ events) more = numbers_joined events more
 numbers_joined (cut_made number ∷ events) more = numbers_joined events more
 
 seats_joined : (events more : List PlainEvent) → claim_seats (events ++ more) ≡ claim_seats events ++ claim_seats more
 seats_joined [] more = refl
 seats_joined (claim_made seat number ∷ events) more = ap (λ xs. seat ∷ xs) (seats_joined events more)
 seats_joined (claim_completed seat number ∷ events) more = seats_joined events more
+seats_joined (clock_moved time ∷ events) more = seats_joined events more
 seats_joined (cut_made number ∷ events) more = seats_joined events more
 
 no_more : {A : Type 0} (xs : List A) → xs ++ [] ≡ xs
@@ -220,10 +250,9 @@ drawn_now setup old seat number new c =
     let now : c.drawn.earliest ≡ old.clock = eqb-true c.drawn.earliest old.clock kept.1 in
     subst (λ t. covered setup.net c.marking t c.drawn.element ≡ true) now ((c.enabled.exact c.drawn).0 (contains_from_in c.entries c.drawn kept.0)).is_covered
 
-claim_of : (setup : PlainSetup) (old : PlainState) (seat number : ℕ) (new : PlainState) → old.clock ≡ setup.clock → (c : MayClaim setup old seat number new) → IsClaimOf setup (new_claim setup.net seat old.clock c.drawn.element)
-claim_of setup old seat number new clock c = record {
+claim_of : (setup : PlainSetup) (old : PlainState) (seat number : ℕ) (new : PlainState) (c : MayClaim setup old seat number new) → IsClaimOf setup (new_claim setup.net seat old.clock c.drawn.element)
+claim_of setup old seat number new c = record {
   seat_known = c.seat_known;
-  time_is = clock;
   needs_are = refl;
   marking = c.marking;
   was_covered = drawn_now setup old seat number new c;
@@ -246,10 +275,11 @@ claim_reaches setup journal old seat number new r c =
     let made : length (claim_numbers (journal ++ claim_made seat number ∷ [])) ≡ length (claim_numbers journal) + 1 = ap (λ (xs : List ℕ). length xs) numbers_are ∙ length-append (claim_numbers journal) (number ∷ []) in
     let before = r.uncut c.no_cut in
     subst (IsReached setup (journal ++ claim_made seat number ∷ [])) (sym c.new_is) (record {
-      clock_is = r.clock_is;
+      clock_goes_on = r.clock_goes_on;
+      clock_in_time = r.clock_in_time;
       few_claims = few_more _ (length (claim_numbers journal)) (length old.claims) number setup.limits.steps made before.as_many c.next_number c.below_limit;
       numbers = subst (AreCounted 0) (sym numbers_are) (counted_more 0 (claim_numbers journal) number r.numbers (next c.next_number before.as_many));
-      claims_are = all_joined (IsClaimOf setup) old.claims (claim ∷ []) r.claims_are (claim_of setup old seat number new r.clock_is c, tt);
+      claims_are = all_joined (IsClaimOf setup) old.claims (claim ∷ []) r.claims_are (claim_of setup old seat number new c, tt);
       one_each = λ s. one s (seat == s) refl;
       uncut = λ none. record {
         as_many = made ∙ ap (λ (k : ℕ). k + 1) before.as_many ∙ sym joined;
@@ -311,7 +341,8 @@ completion_reaches setup journal old seat number new r c =
     let numbers_are = numbers_joined journal (claim_completed seat number ∷ []) ∙ no_more (claim_numbers journal) in
     let seats_are = seats_joined journal (claim_completed seat number ∷ []) ∙ no_more (claim_seats journal) in
     subst (IsReached setup (journal ++ claim_completed seat number ∷ [])) (sym (c.new_is ∙ ap (λ cs. record old { claims = cs }) (parts.changed completed))) (record {
-      clock_is = r.clock_is;
+      clock_goes_on = r.clock_goes_on;
+      clock_in_time = r.clock_in_time;
       few_claims = subst (λ (xs : List ℕ). length xs ≤ setup.limits.steps) (sym numbers_are) r.few_claims;
       numbers = subst (AreCounted 0) (sym numbers_are) r.numbers;
       claims_are = all_joined (IsClaimOf setup) parts.before (completed ∷ parts.later) each.0 (now, each.1.1);
@@ -351,7 +382,6 @@ completion_reaches setup journal old seat number new r c =
     now : IsClaimOf setup (record c.held_claim { status = c.status })
     now = record {
       seat_known = each.1.0.seat_known;
-      time_is = each.1.0.time_is;
       needs_are = each.1.0.needs_are;
       marking = each.1.0.marking;
       was_covered = each.1.0.was_covered;
@@ -369,13 +399,42 @@ completion_reaches setup journal old seat number new r c =
         let held = and_parts (is_open c.held_claim.status) (c.held_claim.seat == seat) c.held in
         ap (λ b. b && (c.held_claim.seat == s)) held.0 ∙ ap (λ (k : ℕ). k == s) (eqb-true c.held_claim.seat seat held.1)
 
+-- ---- a move
+
+move_reaches : (setup : PlainSetup) (journal : List PlainEvent) (old : PlainState) (time : ℕ) (new : PlainState) → IsReached setup journal old → MayMove setup old time new → IsReached setup (journal ++ clock_moved time ∷ []) new
+move_reaches setup journal old time new r c =
+    let numbers_are = numbers_joined journal (clock_moved time ∷ []) ∙ no_more (claim_numbers journal) in
+    let seats_are = seats_joined journal (clock_moved time ∷ []) ∙ no_more (claim_seats journal) in
+    let before = r.uncut c.no_cut in
+    subst (IsReached setup (journal ++ clock_moved time ∷ [])) (sym c.new_is) (record {
+      clock_goes_on = later r.clock_goes_on c.least.not_before;
+      clock_in_time = λ _. c.in_time;
+      few_claims = subst (λ (xs : List ℕ). length xs ≤ setup.limits.steps) (sym numbers_are) r.few_claims;
+      numbers = subst (AreCounted 0) (sym numbers_are) r.numbers;
+      claims_are = r.claims_are;
+      one_each = r.one_each;
+      uncut = λ none. record {
+        as_many = ap (λ (xs : List ℕ). length xs) numbers_are ∙ before.as_many;
+        claimed_by = before.claimed_by ∙ sym seats_are;
+        balance = λ s. unchanged _ _ _ _ _ (count_last (is_completion_by s) journal (clock_moved time)) (count_last (is_claim_by s) journal (clock_moved time)) (before.balance s);
+      };
+      cut_off = λ cut is. absurd (some_is_not_none old.cut cut is c.no_cut);
+    })
+  where
+    later : {a b d : ℕ} → a ≤ b → b ≤ d → a ≤ d
+    later {a} {b} {d} h k = omega arith
+
+    unchanged : (h c c' k k' : ℕ) → c' ≡ c + 0 → k' ≡ k + 0 → h + c ≡ k → h + c' ≡ k'
+    unchanged h c c' k k' a b d = omega arith
+
 -- ---- a cut
 
 cut_reaches : (setup : PlainSetup) (journal : List PlainEvent) (old : PlainState) (number : ℕ) (new : PlainState) → IsReached setup journal old → MayCut setup old number new → IsReached setup (journal ++ cut_made number ∷ []) new
 cut_reaches setup journal old number new r c =
     let numbers_are = numbers_joined journal (cut_made number ∷ []) ∙ no_more (claim_numbers journal) in
     subst (IsReached setup (journal ++ cut_made number ∷ [])) (sym c.new_is) (record {
-      clock_is = r.clock_is;
+      clock_goes_on = r.clock_goes_on;
+      clock_in_time = r.clock_in_time;
       few_claims = subst (λ (xs : List ℕ). length xs ≤ setup.limits.steps) (sym numbers_are) r.few_claims;
       numbers = subst (AreCounted 0) (sym numbers_are) r.numbers;
       claims_are = (all_parts (IsClaimOf setup) (take number old.claims) (drop number old.claims) whole).0;
@@ -415,6 +474,7 @@ cut_reaches setup journal old number new r c =
 pub event_reaches : (setup : PlainSetup) (journal : List PlainEvent) (old : PlainState) (event : PlainEvent) (new : PlainState) → IsReached setup journal old → Happens setup old event new → IsReached setup (journal ++ event ∷ []) new
 event_reaches setup journal old (claim_made seat number) new r happens = claim_reaches setup journal old seat number new r happens
 event_reaches setup journal old (claim_completed seat number) new r happens = completion_reaches setup journal old seat number new r happens
+event_reaches setup journal old (clock_moved time) new r happens = move_reaches setup journal old time new r happens
 event_reaches setup journal old (cut_made number) new r happens = cut_reaches setup journal old number new r happens
 
 events_reach : (setup : PlainSetup) (journal : List PlainEvent) (old : PlainState) (events : List PlainEvent) (state : PlainState) → IsReached setup journal old → Leads setup old events state → IsReached setup (journal ++ events) state
@@ -427,7 +487,8 @@ events_reach setup journal old (event ∷ events) state r leads =
 pub every_state : (setup : PlainSetup) (journal : List PlainEvent) (state : PlainState) → IsState setup journal state → IsReached setup journal state
 every_state setup journal state reached =
     let first : IsReached setup [] (first_state setup) = record {
-      clock_is = refl;
+      clock_goes_on = omega arith;
+      clock_in_time = λ in_time. in_time;
       few_claims = omega arith;
       numbers = tt;
       claims_are = tt;
@@ -444,5 +505,6 @@ every_state setup journal state reached =
 pub nothing_happens_after_a_cut : (setup : PlainSetup) (journal : List PlainEvent) (old : PlainState) (cut : PlainCut) (event : PlainEvent) (new : PlainState) → IsReached setup journal old → old.cut ≡ Some cut → Happens setup old event new → ⊥
 nothing_happens_after_a_cut setup journal old cut (claim_made seat number) new r stands happens = no_claim_after_a_cut setup old cut seat number new stands happens
 nothing_happens_after_a_cut setup journal old cut (claim_completed seat number) new r stands happens = no_completion_after_a_cut setup journal old seat number new cut r stands happens
+nothing_happens_after_a_cut setup journal old cut (clock_moved time) new r stands happens = some_is_not_none old.cut cut stands happens.no_cut
 nothing_happens_after_a_cut setup journal old cut (cut_made number) new r stands happens =
     some_is_not_none (owed_cut setup old) happens.cut happens.owed (done_owe_none old.claims (r.cut_off cut stands).all_done)

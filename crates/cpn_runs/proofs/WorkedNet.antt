@@ -178,7 +178,7 @@ none_is_enabled m clock is = record {
 abbrev pub at : ℕ → TimedElement
 at time = record { element = move; time = time }
 
-least_is_three : LeastTime worked seven_at_three 0 3
+pub least_is_three : LeastTime worked seven_at_three 0 3
 least_is_three = record { not_before = omega arith; some = (move, covered_at_three); none_earlier = λ s e from below. no_other seven_at_three s e (covered_no_earlier s below) }
 
 -- it occurs at 3, the least time at which it is covered; or the clock alone goes to 3

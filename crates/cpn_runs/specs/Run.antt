@@ -6,7 +6,7 @@ use Rattle.cpn_definitions.specs.Outcome.{faults}
 use Rattle.cpn_definitions.specs.Occurrence.{covered, outputs_of}
 use Rattle.cpn_definitions.specs.Legal.{Legal}
 use Rattle.cpn_definitions.specs.Enabled.{PlainEntry, Enabled, ready, next_time}
-use Rattle.cpn_runs.specs.State.{PlainSetup, PlainEvent, PlainEnd, dead, steps_made, fault_end, PlainState, IsState, EndsBy, PlainOccurrence, timed, committed_occurrences, settled_in}
+use Rattle.cpn_runs.specs.State.{PlainSetup, PlainEvent, PlainEnd, dead, steps_made, until_passed, fault_end, PlainState, IsState, EndsBy, PlainOccurrence, timed, committed_occurrences, settled_in}
 
 -- The number of the ready elements of a marking at a clock, and the next time.
 pub record Outlook : Type 0 where
@@ -36,6 +36,7 @@ pub record PlainFinished : Type 0 where
 abbrev pub IsTrueFault : PlainNet → Marking → ℕ → PlainEnd → Type 0
 IsTrueFault n m clock dead = Unit {0}
 IsTrueFault n m clock steps_made = Unit {0}
+IsTrueFault n m clock (until_passed time) = Unit {0}
 IsTrueFault n m clock (fault_end e fault) = (covered n m clock e ≡ true) × (outputs_of n e clock ≡ faults fault)
 
 -- A run of a setup: the journal leads to a state that ends by the cause; the occurrences are those that are committed

@@ -1,14 +1,14 @@
 -- What a run's journal says: the events that may happen, and the state that they lead to.
 -- Source: own choice. The occurrences of such a run are a legal occurrence sequence of Jensen and
 -- Kristensen, chapter 11, which is a theorem and no part of this definition.
-use Rattle.std.specs.Prelude.{◌≡◌, ◌≢◌, ℕ, suc, ◌<◌, ◌%◌, ◌&&◌, ◌==◌, Bool, true, false, List, [], ◌∷◌, ◌++◌, length, take, Option, Some, None, MatchOption, slice_get, slice_set}
+use Rattle.std.specs.Prelude.{◌≡◌, ◌≢◌, ℕ, suc, ◌<◌, ◌≤◌, ◌%◌, ◌&&◌, ◌==◌, Bool, true, false, List, [], ◌∷◌, ◌++◌, length, take, Option, Some, None, MatchOption, slice_get, slice_set}
 use Rattle.std.specs.List.{list_any}
 use Rattle.cpn_definitions.specs.Marking.{Marking}
 use Rattle.cpn_definitions.specs.Net.{PlainNet}
 use Rattle.cpn_definitions.specs.Outcome.{Fault, Outcome, gives, faults, no_meaning}
-use Rattle.cpn_definitions.specs.Occurrence.{PlainElement, Needed, Made, needs_of, outputs_of}
+use Rattle.cpn_definitions.specs.Occurrence.{PlainElement, Needed, Made, covered, needs_of, outputs_of}
 use Rattle.cpn_definitions.specs.Enabled.{PlainEntry, Enabled, ready, IsDead}
-use Rattle.cpn_definitions.specs.Legal.{TimedElement}
+use Rattle.cpn_definitions.specs.Legal.{LeastTime, TimedElement}
 use Rattle.cpn_draw.specs.Draw.{word}
 use Rattle.cpn_runs.specs.HoleRun.{PlainClaim, Status, open_claim, done_with, faulted_with, unclaimed, settled, is_open, done_prefix}
 
@@ -27,17 +27,19 @@ pub record PlainSetup : Type 0 where
   pub seed : ℕ
 
 -- An event of a run: a seat claims an enabled element, under the next number; a seat completes the
--- claim of a number; the claims from a number on are cut off.
+-- claim of a number; the clock moves to a time; the claims from a number on are cut off.
 pub data PlainEvent : Type 0 where
   claim_made : ℕ → ℕ → PlainEvent
   claim_completed : ℕ → ℕ → PlainEvent
+  clock_moved : ℕ → PlainEvent
   cut_made : ℕ → PlainEvent
 
--- How a run ends: no element is covered at any time, as many claims were made as it may make, or the outputs
--- of an element had a fault.
+-- How a run ends: no element is covered at any time; as many claims were made as it may make; the least time at which an
+-- element is covered is above the last one that it may reach; or the outputs of an element had a fault.
 pub data PlainEnd : Type 0 where
   dead : PlainEnd
   steps_made : PlainEnd
+  until_passed : ℕ → PlainEnd
   fault_end : PlainElement → Fault → PlainEnd
 
 -- A cut: the number from which on claims were removed, and the cause.
@@ -132,6 +134,20 @@ pub record MayComplete (setup : PlainSetup) (old : PlainState) (seat number : �
   pub status_is : status_after (outputs_of setup.net held_claim.element held_claim.time) ≡ Some status
   pub new_is : new ≡ record old { claims = slice_set old.claims number (record held_claim { status = status }) }
 
+-- Move: no cut stands or is owed; fewer claims were made than may be, and none is open; nothing is covered at the clock. The
+-- clock moves to the least time at which an element is covered, which is not above the last that the run may reach.
+pub record MayMove (setup : PlainSetup) (old : PlainState) (time : ℕ) (new : PlainState) : Type 0 where
+  pub no_cut : old.cut ≡ None
+  pub none_owed : owed_cut setup old ≡ None
+  pub below_limit : length old.claims < setup.limits.steps
+  pub none_open : list_any (λ claim. is_open claim.status) old.claims ≡ false
+  pub marking : Marking
+  pub marking_is : unclaimed_in setup old ≡ Some marking
+  pub none_ready : (e : PlainElement) → covered setup.net marking old.clock e ≡ false
+  pub least : LeastTime setup.net marking old.clock time
+  pub in_time : time ≤ setup.limits.until
+  pub new_is : new ≡ record old { clock = time }
+
 -- Cut: it is owed, and has the number. The claims from that number on are removed, and the cut stands; what they took is
 -- back in the marking that the claims leave.
 pub record MayCut (setup : PlainSetup) (old : PlainState) (number : ℕ) (new : PlainState) : Type 0 where
@@ -144,6 +160,7 @@ pub record MayCut (setup : PlainSetup) (old : PlainState) (number : ℕ) (new : 
 abbrev pub Happens : PlainSetup → PlainState → PlainEvent → PlainState → Type 0
 Happens setup old (claim_made seat number) new = MayClaim setup old seat number new
 Happens setup old (claim_completed seat number) new = MayComplete setup old seat number new
+Happens setup old (clock_moved time) new = MayMove setup old time new
 Happens setup old (cut_made number) new = MayCut setup old number new
 
 -- the events may happen one after another from the old state, and lead to the new one
@@ -174,13 +191,17 @@ numbered k (claim ∷ claims) = record { number = k; time = claim.time; element 
 abbrev pub committed_occurrences : PlainSetup → PlainState → List PlainOccurrence
 committed_occurrences setup state = numbered 0 (take (committed setup state) state.claims)
 
--- the cause for which a run with no cut ends, the first that holds: the limit of claims is reached, or
--- nothing is covered at any time
+-- the cause for which a run with no cut ends, the first that holds: the limit of claims is reached; nothing is covered at any
+-- time; or the least time at which something is covered is above the last that the run may reach
 abbrev pub HasCause : PlainSetup → PlainState → PlainEnd → Type 0
 HasCause setup state steps_made = length state.claims ≡ setup.limits.steps
 HasCause setup state dead =
     (length state.claims ≢ setup.limits.steps)
     × ((marking : Marking) × (unclaimed_in setup state ≡ Some marking) × IsDead setup.net marking)
+HasCause setup state (until_passed time) =
+    (length state.claims ≢ setup.limits.steps)
+    × (setup.limits.until < time)
+    × ((marking : Marking) × (unclaimed_in setup state ≡ Some marking) × LeastTime setup.net marking state.clock time)
 HasCause setup state (fault_end e fault) = ⊥
 
 -- End: no claim is open and no cut is owed. The cause is that of the last cut, or else that for which a run

@@ -11,6 +11,8 @@ pub enum Event {
     Claim { seat: u32, number: u64 },
     /// A seat completes the claim of this number, with its outputs or with their fault.
     Done { seat: u32, number: u64 },
+    /// The clock moves to this time: 0 to 2^62.
+    Move { time: u64 },
     /// The claims from this number on are cut off.
     Cut { number: u64 },
 }
@@ -35,4 +37,6 @@ pub enum End {
     Steps,
     /// No binding element is enabled at any time.
     Dead,
+    /// The least time at which a binding element is enabled is this one, which is above the last that the run may reach.
+    Until(u64),
 }

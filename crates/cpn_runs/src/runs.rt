@@ -2,7 +2,8 @@
 
 use crate::events::{End, Event, Limits};
 use crate::occurrences::Occurrence;
-use cpn_core::{Net, PlainMarking};
+use cpn_core::Net;
+use cpn_marking::Marking;
 use std::sync::Arc;
 
 /// What a run starts from.
@@ -13,7 +14,7 @@ pub struct Setup {
     /// The net.
     pub net: Arc<Net>,
     /// The marking, with an entry for each place.
-    pub start: PlainMarking,
+    pub start: Marking,
     /// The clock: 0 to 2^62.
     pub clock: u64,
     /// The limits of the run.
@@ -44,7 +45,7 @@ pub struct Finished {
     /// The occurrences, in the order of their claims.
     pub occurrences: Vec<Occurrence>,
     /// The last marking.
-    pub marking: PlainMarking,
+    pub marking: Marking,
     /// The last clock.
     pub clock: u64,
     /// Why the run ended.

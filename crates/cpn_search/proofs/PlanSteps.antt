@@ -14,7 +14,6 @@ use Rattle.cpn_core.specs.declared.nets.Transition.{Transition}
 use Rattle.cpn_core.specs.Nets.{transition_view, net_view}
 use Rattle.cpn_bindable.specs.Known.{carried_variables}
 use Rattle.cpn_stages.specs.Stages.{Stage, by_term, by_equation, by_size, variables_at, variables_at_each, terms_at, term_stages, is_among, those_without, equations_in, first_solving, IsFirstSmall, Further, none_left, next_equation, next_small, AreStages}
-use Rattle.cpn_stages.specs.Solvable.{IsSolvable, AreSolvable}
 use Rattle.cpn_stages.proofs.Numbers.{in_from_among, from_without}
 use Rattle.cpn_stages.proofs.Guards.{found_is}
 use Rattle.cpn_stages.proofs.OrderlyStages.{flat_both}
@@ -24,7 +23,6 @@ use Rattle.cpn_search.specs.declared.plan.Stage.TheVariants as stages
 use Rattle.cpn_search.specs.StageViews.{stage_view, stages_view, carried_stages, HasAllValues}
 use Rattle.cpn_search.specs.Plans.{AreLeft, HaveColours, IsNext, ArePlanned, AreFurther}
 use Rattle.cpn_search.proofs.KnownTransitions.{length_map, transition_is, in_range}
-use Rattle.cpn_search.proofs.TurnSteps.{solvable_at}
 
 either_way : (x y : ℕ) → (y == x) ≡ (x == y)
 either_way x y = grind (arith, nat_tests)
@@ -79,13 +77,13 @@ colours_of_left n t left sound are = record {
 
 pub not_stuck
     : (n : PlainNet) (t : PlainTransition) (left : List ℕ)
-    → IsSoundTransition n t → IsSolvable n t → AreLeft t left → 0 < length left
+    → IsSoundTransition n t → AreLeft t left → 0 < length left
     → first_solving t left (equations_in t) ≡ None
     → AllByRecursion (λ y. IsSmall (variable_at n y).colour → ⊥) left
     → ⊥
-not_stuck n t [] sound solvable are some unsolved large = omega arith
-not_stuck n t (x ∷ left) sound solvable are some unsolved large =
-    never_stuck n t (x ∷ left) sound solvable (λ y h. in_from_contains t.vars y (are.listed y (contains_from_in (x ∷ left) y h))) (λ y is h. are.in_no_term y is (contains_from_in (x ∷ left) y h)) unsolved large x (inl refl)
+not_stuck n t [] sound are some unsolved large = omega arith
+not_stuck n t (x ∷ left) sound are some unsolved large =
+    never_stuck n t (x ∷ left) sound sound.guard_solvable (λ y h. in_from_contains t.vars y (are.listed y (contains_from_in (x ∷ left) y h))) (λ y is h. are.in_no_term y is (contains_from_in (x ∷ left) y h)) unsolved large x (inl refl)
 
 pub small_is_next
     : (n : PlainNet) (t : PlainTransition) (left : List ℕ) (x : ℕ)
@@ -250,9 +248,6 @@ stages_of n t left before stages sound first left_are further = record {
 
 pub sound_at : (n : Net) (t : ℕ) (tr : Transition) → IsSound (net_view n) → t < length n.transitions.items → tr ≡ get_or n.transitions.items t tr → IsSoundTransition (net_view n) (transition_view tr)
 sound_at n t tr sound lt is = subst (IsSoundTransition (net_view n)) (transition_is n t tr lt is) (sound_transition (net_view n) t sound (in_range n t lt))
-
-pub solvable_transition : (n : Net) (t : ℕ) (tr : Transition) → AreSolvable (net_view n) → t < length n.transitions.items → tr ≡ get_or n.transitions.items t tr → IsSolvable (net_view n) (transition_view tr)
-solvable_transition n t tr solvable lt is = subst (IsSolvable (net_view n)) (transition_is n t tr lt is) (solvable_at n t solvable lt)
 
 pub stages_at : (n : Net) (t : ℕ) (tr : Transition) (stages : List Stage) → t < length n.transitions.items → tr ≡ get_or n.transitions.items t tr → AreStages (net_view n) (transition_view tr) stages → AreStages (net_view n) (transition_at (net_view n) t) stages
 stages_at n t tr stages lt is are = subst (λ (k : PlainTransition). AreStages (net_view n) k stages) (sym (transition_is n t tr lt is)) are

@@ -12,7 +12,7 @@ use Rattle.cpn_definitions.proofs.RisingLists.{IsIn, in_from_contains, contains_
 use Rattle.cpn_stages.specs.Partial.{PlainPartial, variables_in, Extends, bound_in}
 use Rattle.cpn_stages.specs.Stages.{Stage, by_term, by_equation, by_size, variables_at, variables_at_each}
 use Rattle.cpn_stages.specs.Reached.{HasValue}
-use Rattle.cpn_stages.specs.Solvable.{IsSolvable}
+use Rattle.cpn_definitions.specs.Sound.{IsSolvable}
 use Rattle.cpn_stages.specs.Orderly.{IsTimelyStage, AreOrderly}
 use Rattle.cpn_stages.specs.Trials.{Trial, matching, solving, are_admitted, next, ends, made, sum_of, IsTrialOf, AreTrialsOf}
 use Rattle.cpn_stages.proofs.Partials.{extends_variables, value_stays}

@@ -7,7 +7,7 @@ use Rattle.cpn_definitions.specs.Lists.{Rises}
 use Rattle.cpn_definitions.specs.Marking.{Marking}
 use Rattle.cpn_definitions.specs.Net.{PlainTransition, PlainNet, transition_at}
 use Rattle.cpn_definitions.specs.Enabled.{PlainFound}
-use Rattle.cpn_definitions.specs.Sound.{IsSound}
+use Rattle.cpn_definitions.specs.Sound.{IsSound, IsSolvable}
 use Rattle.cpn_definitions.proofs.RisingLists.{of_one_in}
 use Rattle.cpn_definitions.proofs.SoundElements.{transition_in, sound_transition}
 use Rattle.cpn_core.specs.declared.entries.FoundBinding.{FoundBinding}
@@ -15,7 +15,6 @@ use Rattle.cpn_core.specs.declared.nets.Transition.{Transition}
 use Rattle.cpn_core.specs.declared.nets.Net.{Net}
 use Rattle.cpn_core.specs.Nets.{net_view}
 use Rattle.cpn_stages.specs.Partial.{PlainPartial, unbound, variables_in}
-use Rattle.cpn_stages.specs.Solvable.{IsSolvable, AreSolvable}
 use Rattle.cpn_stages.specs.Trials.{Trial, next}
 use Rattle.cpn_search.specs.declared.trials.Trial as program
 use Rattle.cpn_search.specs.declared.extending.UnderWay.{UnderWay}
@@ -47,8 +46,8 @@ trials_go_on (t ∷ ts) (suc k) trial lt is =
 pub vars_listed : (n : Net) (t : ℕ) → IsSound (net_view n) → t < length n.transitions.items → Rises nat_cmp (transition_at (net_view n) t).vars
 vars_listed n t sound lt = (sound_transition (net_view n) t sound (in_range n t lt)).listed
 
-pub solvable_at : (n : Net) (t : ℕ) → AreSolvable (net_view n) → t < length n.transitions.items → IsSolvable (net_view n) (transition_at (net_view n) t)
-solvable_at n t solvable lt = of_one_in (IsSolvable (net_view n)) (net_view n).transitions (transition_at (net_view n) t) solvable (transition_in (net_view n).transitions t (in_range n t lt))
+pub solvable_at : (n : Net) (t : ℕ) → IsSound (net_view n) → t < length n.transitions.items → IsSolvable (net_view n) (transition_at (net_view n) t)
+solvable_at n t sound lt = (sound_transition (net_view n) t sound (in_range n t lt)).guard_solvable
 
 pub declared_at : (n : Net) (t : ℕ) (b : PlainPartial) → IsSound (net_view n) → t < length n.transitions.items → variables_in b ≡ (transition_at (net_view n) t).vars → AreDeclared (length n.variables.items) b
 declared_at n t b sound lt same = record {

@@ -14,7 +14,7 @@ use Rattle.cpn_definitions.specs.Enabled.{PlainFound}
 use Rattle.cpn_definitions.proofs.RisingLists.{IsIn, in_from_contains, contains_from_in, in_append_left, in_append_right, in_append_cases, in_map, in_map_from, each_in, each_appended, of_one_in, each_mapped}
 use Rattle.cpn_stages.specs.Partial.{PlainPartial, unbound, variables_in, Extends, bound_in, as_partial}
 use Rattle.cpn_stages.specs.Stages.{Stage, AreStages}
-use Rattle.cpn_stages.specs.Solvable.{IsSolvable}
+use Rattle.cpn_definitions.specs.Sound.{IsSolvable}
 use Rattle.cpn_stages.specs.Trials.{Trial, matching, solving, are_admitted, next, ends, AreTrialsOf}
 use Rattle.cpn_stages.proofs.Partials.{extends_itself}
 use Rattle.cpn_stages.proofs.OrderlyStages.{stages_are_orderly}

@@ -15,9 +15,9 @@ use Rattle.cpn_definitions.proofs.ViewedLists.{entry, within, up_to}
 use Rattle.cpn_stages.specs.Reached.{StandsOn}
 use Rattle.cpn_stages.specs.Work.{AllDiffer, AreJust}
 use Rattle.cpn_core.specs.declared.values.Value.{Value}
-use Rattle.cpn_core.specs.declared.places.Token.{Token}
+use Rattle.cpn_marking.specs.declared.places.Token.{Token}
 use Rattle.cpn_core.specs.Views.{value_view}
-use Rattle.cpn_core.specs.Tokens.{token_view, tokens_view}
+use Rattle.cpn_marking.specs.Tokens.{token_view, tokens_view}
 use Rattle.cpn_search.specs.Values.{is_last_of, values_of}
 use Rattle.cpn_search.specs.Stretches.{IsEndOf}
 use Rattle.cpn_search.specs.TrialViews.{pointed_view}

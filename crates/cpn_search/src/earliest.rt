@@ -6,9 +6,10 @@ ghost use Rattle.cpn_definitions.specs.Sound.{IsSound, IsMarking};
 ghost use Rattle.cpn_core.specs.Nets.{net_view};
 ghost use Rattle.cpn_search.specs.Found.{element_of, IsNeverCovered, IsLeastTime};
 
-use cpn_core::{Binding, Memory, Net, PlainMarking};
+use cpn_core::{Binding, Memory, Net};
 use cpn_elements::{guard_holds, needs_of};
 use cpn_eval::Refused;
+use cpn_marking::Marking;
 use std::alloc::Global;
 
 /// The least time at which an element of a sound net is covered; `None` where it is covered at no time: its guard is
@@ -16,7 +17,7 @@ use std::alloc::Global;
 pub fn earliest_of(
     alloc: Global,
     net: &Net,
-    marking: &PlainMarking,
+    marking: &Marking,
     t: u32,
     binding: &Binding,
 ) -> Result<Option<u64>, Memory>

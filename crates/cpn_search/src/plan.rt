@@ -9,7 +9,6 @@ ghost use Rattle.cpn_core.specs.Nets.{arc_view, arcs_view, net_view, transition_
 ghost use Rattle.cpn_bindable.specs.Equations.{equation_pair, HasItsSources};
 ghost use Rattle.cpn_bindable.specs.Known.{carried_variables};
 ghost use Rattle.cpn_stages.specs.Stages.{is_among, those_without, equations_in, solves, first_solving, AreStages};
-ghost use Rattle.cpn_stages.specs.Solvable.{IsSolvable, AreSolvable};
 ghost use Rattle.cpn_search.specs.StageViews.{carried_stages, stage_view, stages_view, HasAllValues};
 ghost use Rattle.cpn_search.specs.Plans.{AreLeft, HaveColours, IsFirstWithValues, IsNext, AreFurther};
 
@@ -202,7 +201,6 @@ fn small_stage<'n>(
     left: &[u32],
 ) -> Result<Next<'n>, Memory>
     requires sound { IsSoundTransition (net_view net.now) (transition_view transition.now) }
-    requires solvable { IsSolvable (net_view net.now) (transition_view transition.now) }
     requires left { AreLeft (transition_view transition.now) left.now }
     requires some { 0 < length left.now }
     requires unsolved { first_solving (transition_view transition.now) left.now (equations_in (transition_view transition.now)) ≡ None }
@@ -228,7 +226,6 @@ fn next_stage<'n>(
     left: &[u32],
 ) -> Result<Next<'n>, Memory>
     requires sound { IsSoundTransition (net_view net.now) (transition_view transition.now) }
-    requires solvable { IsSolvable (net_view net.now) (transition_view transition.now) }
     requires equations { map equation_pair equations.now ≡ equations_in (transition_view transition.now) }
     requires sources { AllByRecursion HasItsSources equations.now }
     requires left { AreLeft (transition_view transition.now) left.now }
@@ -258,7 +255,6 @@ fn push_further<'n>(
     stages: &mut Vec<Stage<'n>>,
 ) -> Result<(), Memory>
     requires sound { IsSoundTransition (net_view net.now) (transition_view transition.now) }
-    requires solvable { IsSolvable (net_view net.now) (transition_view transition.now) }
     requires equations { map equation_pair equations.now ≡ equations_in (transition_view transition.now) }
     requires sources { AllByRecursion HasItsSources equations.now }
     requires left { AreLeft (transition_view transition.now) left.items }
@@ -274,7 +270,7 @@ fn push_further<'n>(
 }
 
 impl<'n> Plan<'n> {
-    /// The plan of the transition of a number, in a sound net whose guards are solvable: the stages that the definition gives
+    /// The plan of the transition of a number, in a sound net: the stages that the definition gives
     /// it, where those of small colour sets hold all values.
     ///
     /// # Errors
@@ -282,7 +278,6 @@ impl<'n> Plan<'n> {
     /// [`Memory`]: memory ran out.
     pub fn of(alloc: Global, net: &'n Net, t: u32) -> Result<Plan<'n>, Memory>
         requires sound { IsSound (net_view net.now) }
-        requires solvable { AreSolvable (net_view net.now) }
         requires in_range { t < length net.now.transitions.items }
         ensures stages { IfOk result (λ plan. AreStages (net_view net.now) (transition_at (net_view net.now) t) (stages_view plan.stages.items)) }
         ensures values { IfOk result (λ plan. AllByRecursion (HasAllValues (net_view net.now)) plan.stages.items) }

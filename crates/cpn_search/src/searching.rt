@@ -4,7 +4,6 @@ ghost use Rattle.cpn_definitions.specs.Enabled.{EnabledOf, Enabled};
 ghost use Rattle.cpn_definitions.specs.Sound.{IsSound, IsMarking};
 ghost use Rattle.cpn_core.specs.Nets.{net_view};
 ghost use Rattle.cpn_core.specs.Elements.{entry_view};
-ghost use Rattle.cpn_stages.specs.Solvable.{AreSolvable};
 ghost use Rattle.cpn_search.specs.Found.{entries_at};
 ghost use Rattle.cpn_search.specs.FoundViews.{found_view};
 
@@ -12,7 +11,8 @@ use crate::plan::Plan;
 use crate::sorting::in_order;
 use crate::trials::trials_of;
 use crate::turns::{Searched, all_found};
-use cpn_core::{Element, Entry, Found, Memory, Net, PlainMarking};
+use cpn_core::{Element, Entry, Found, Memory, Net};
+use cpn_marking::Marking;
 use std::alloc::Global;
 
 /// The enabled bindings of a transition of a sound net: each binding with which it is covered at some time, over all
@@ -24,9 +24,8 @@ use std::alloc::Global;
 /// time; a fault in the guard or in an input inscription makes it not enabled. `Memory` comes where memory is wanted, and
 /// leaves nothing behind.
 /// Source: Jensen and Kristensen, chapters 4 and 11; the order, and what a fault means, are our own choice.
-pub fn search(alloc: Global, net: &Net, marking: &PlainMarking, t: u32) -> Result<Searched, Memory>
+pub fn search(alloc: Global, net: &Net, marking: &Marking, t: u32) -> Result<Searched, Memory>
     requires sound { IsSound (net_view net.now) }
-    requires solvable { AreSolvable (net_view net.now) }
     requires marking { IsMarking (net_view net.now).places marking.now }
     requires in_range { t < length net.now.transitions.items }
     ensures enabled { IfOk result (λ searched. EnabledOf (net_view net.now) marking.now t (map found_view searched.found.items)) }
@@ -44,9 +43,8 @@ pub fn search(alloc: Global, net: &Net, marking: &PlainMarking, t: u32) -> Resul
 /// The enabled bindings of a transition of a sound net, as a `search` finds them: each binding with which it is covered at
 /// some time, over all assignments of admitted values, once, in order, with the least such time. `Memory` comes where memory
 /// is wanted, and leaves nothing behind. Source: Jensen and Kristensen, chapters 4 and 11; the order is our own choice.
-pub fn enabled_of(alloc: Global, net: &Net, marking: &PlainMarking, t: u32) -> Result<Found, Memory>
+pub fn enabled_of(alloc: Global, net: &Net, marking: &Marking, t: u32) -> Result<Found, Memory>
     requires sound { IsSound (net_view net.now) }
-    requires solvable { AreSolvable (net_view net.now) }
     requires marking { IsMarking (net_view net.now).places marking.now }
     requires in_range { t < length net.now.transitions.items }
     ensures enabled { IfOk result (λ found. EnabledOf (net_view net.now) marking.now t (map found_view found.items)) }
@@ -82,11 +80,10 @@ fn push_entries(
 pub fn enabled(
     alloc: Global,
     net: &Net,
-    marking: &PlainMarking,
+    marking: &Marking,
     clock: u64,
 ) -> Result<Vec<Entry>, Memory>
     requires sound { IsSound (net_view net.now) }
-    requires solvable { AreSolvable (net_view net.now) }
     requires marking { IsMarking (net_view net.now).places marking.now }
     ensures enabled { IfOk result (λ entries. Enabled (net_view net.now) marking.now clock (map entry_view entries.items)) }
 {

@@ -2,12 +2,13 @@
 ghost use Rattle.std.specs.Prelude.{◌≡◌, ◌≤◌, length, IfOk};
 ghost use Rattle.cpn_definitions.specs.Marking.{AreSorted};
 ghost use Rattle.cpn_core.specs.Views.{value_view};
-ghost use Rattle.cpn_core.specs.Tokens.{tokens_view};
+ghost use Rattle.cpn_marking.specs.Tokens.{tokens_view};
 ghost use Rattle.cpn_search.specs.Values.{values_of};
 ghost use Rattle.cpn_search.specs.Stretches.{is_at_most, IsEndOf};
 ghost use Rattle.cpn_search.specs.TrialViews.{pointed_view};
 
-use cpn_core::{Memory, Token, Value};
+use cpn_core::{Memory, Value};
+use cpn_marking::Token;
 use std::alloc::Global;
 
 /// Whether the token's value does not come after the value.

@@ -7,7 +7,8 @@ ghost use Rattle.cpn_search.specs.TriedStages.{IsPlaced, IsTriedAs, AreTriedAs};
 
 use crate::plan::{Plan, Stage};
 use crate::tokens::values_of;
-use cpn_core::{Expr, Memory, Pat, PlainMarking, Value};
+use cpn_core::{Expr, Memory, Pat, Value};
+use cpn_marking::Marking;
 use std::alloc::Global;
 
 /// What is tried at a stage of a search.
@@ -51,7 +52,7 @@ impl Trial<'_, '_, '_> {
 fn trial_of<'n, 'm, 'p>(
     alloc: Global,
     stage: &'p Stage<'n>,
-    marking: &'m PlainMarking,
+    marking: &'m Marking,
 ) -> Result<Trial<'n, 'm, 'p>, Memory>
     requires placed { IsPlaced (length marking.now) (stage_view stage.now) }
     ensures tried { IfOk result (λ trial. IsTriedAs marking.now stage.now (trial_view trial)) }
@@ -79,7 +80,7 @@ fn trial_of<'n, 'm, 'p>(
 pub fn trials_of<'n, 'm, 'p>(
     alloc: Global,
     plan: &'p Plan<'n>,
-    marking: &'m PlainMarking,
+    marking: &'m Marking,
 ) -> Result<Vec<Trial<'n, 'm, 'p>>, Memory>
     requires placed { AllByRecursion (IsPlaced (length marking.now)) (stages_view plan.now.stages.items) }
     ensures tried { IfOk result (λ trials. AreTriedAs marking.now plan.now.stages.items (trials_view trials.items)) }

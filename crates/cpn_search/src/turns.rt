@@ -5,7 +5,6 @@ ghost use Rattle.cpn_definitions.specs.Occurrence.{binds};
 ghost use Rattle.cpn_definitions.specs.Sound.{IsSound, IsMarking};
 ghost use Rattle.cpn_core.specs.Nets.{net_view};
 ghost use Rattle.cpn_stages.specs.Partial.{bound_in};
-ghost use Rattle.cpn_stages.specs.Solvable.{AreSolvable};
 ghost use Rattle.cpn_search.specs.Found.{found_of};
 ghost use Rattle.cpn_search.specs.FoundViews.{found_view};
 ghost use Rattle.cpn_search.specs.TrialViews.{trials_view, under_way_view, all_under_way};
@@ -14,7 +13,8 @@ ghost use Rattle.cpn_search.specs.Searches.{AreTrials, AddsEnd, IsTurn, SearchSt
 use crate::earliest::earliest_of;
 use crate::extending::{UnderWay, push_next};
 use crate::trials::Trial;
-use cpn_core::{Binding, Found, FoundBinding, Memory, Net, PlainMarking};
+use cpn_core::{Binding, Found, FoundBinding, Memory, Net};
+use cpn_marking::Marking;
 use cpn_match::Partial;
 use std::alloc::Global;
 
@@ -43,7 +43,7 @@ fn push_found(found: &mut Found, binding: Binding, earliest: Option<u64>) -> Res
 fn push_end(
     alloc: Global,
     net: &Net,
-    marking: &PlainMarking,
+    marking: &Marking,
     t: u32,
     partial: &Partial,
     found: &mut Found,
@@ -64,7 +64,7 @@ fn push_end(
 fn turn(
     alloc: Global,
     net: &Net,
-    marking: &PlainMarking,
+    marking: &Marking,
     t: u32,
     trials: &[Trial],
     next: &UnderWay,
@@ -72,7 +72,6 @@ fn turn(
     found: &mut Found,
 ) -> Result<(), Memory>
     requires sound { IsSound (net_view net.now) }
-    requires solvable { AreSolvable (net_view net.now) }
     requires marking { IsMarking (net_view net.now).places marking.now }
     requires in_range { t < length net.now.transitions.items }
     requires state { SearchState (net_view net.now) marking.now t (trials_view trials.now) (all_under_way ahead.now.items ++ under_way_view next.now ∷ []) (map found_view found.now.items) }
@@ -99,12 +98,11 @@ fn tries_of(trials: &[Trial], tried: usize) -> u64 {
 pub fn all_found(
     alloc: Global,
     net: &Net,
-    marking: &PlainMarking,
+    marking: &Marking,
     t: u32,
     trials: &[Trial],
 ) -> Result<Searched, Memory>
     requires sound { IsSound (net_view net.now) }
-    requires solvable { AreSolvable (net_view net.now) }
     requires marking { IsMarking (net_view net.now).places marking.now }
     requires in_range { t < length net.now.transitions.items }
     requires trials { AreTrials (net_view net.now) marking.now t (trials_view trials.now) }

@@ -1,5 +1,5 @@
 -- A document has one report under the words, with one status.
-use Rattle.std.proofs.Common.{◌≡◌, ℕ, ◌≤◌, List, length, Some, None, Option, IfSome, sym, ◌∙◌, ap, subst}
+use Rattle.std.proofs.Common.{◌≡◌, ℕ, ◌≤◌, List, length, Some, None, Option, IfSome, sym, ◌∙◌, ap, subst, arith}
 use Rattle.std.proofs.lemmas.Option.{same_Some}
 use Rattle.cpn_runs.proofs.OneRun.{one_run}
 use Rattle.cpn_file.specs.Loading.{PlainLoaded}
@@ -27,7 +27,8 @@ pub record IsSameReport (status status' : Status) (report other : List ℕ) : Ty
 
 of_one_net : (loaded : PlainLoaded) (options : PlainOptions) (s s' : Status) (report other : List ℕ) → options.workers ≡ 1 → IsReportOf loaded options s report → IsReportOf loaded options s' other → IsSameReport s s' report other
 of_one_net loaded options s s' report other one a b =
-    let same = one_run (setup_from loaded options) a.run b.run one a.is_run b.is_run in
+    let in_time : 0 ≤ options.until = omega arith in
+    let same = one_run (setup_from loaded options) a.run b.run one in_time a.is_run b.is_run in
     record {
       reports = a.text_is ∙ ap (report_text options.trace (setup_from loaded options)) same ∙ sym b.text_is;
       statuses = a.status_is ∙ ap (λ (run : PlainFinished). status_after run.cause) same ∙ sym b.status_is;

@@ -8,7 +8,7 @@ use Rattle.cpn_definitions.specs.Legal.{TimedElement}
 use Rattle.cpn_definitions.specs.Named.{IsNamed}
 use Rattle.cpn_definitions.specs.Sound.{IsSound, IsMarking}
 use Rattle.cpn_definitions.proofs.LegalSequences.{IsBound, covered_is_bound, legal_marking, legal_bound}
-use Rattle.cpn_runs.specs.State.{PlainSetup, PlainEnd, dead, steps_made, fault_end, PlainOccurrence, timed}
+use Rattle.cpn_runs.specs.State.{PlainSetup, PlainEnd, dead, steps_made, until_passed, fault_end, PlainOccurrence, timed}
 use Rattle.cpn_runs.specs.Run.{PlainFinished, IsTrueFault, IsRun}
 use Rattle.cpn_report.specs.Printable.{is_occurrence, IsCause, IsPrintable}
 
@@ -20,6 +20,7 @@ all_bound n (o ∷ os) all = and_from _ _ all.0 (all_bound n os all.1)
 cause_bound : (n : PlainNet) (m : Marking) (clock : ℕ) (cause : PlainEnd) → IsTrueFault n m clock cause → IsCause n cause
 cause_bound n m clock dead is = tt
 cause_bound n m clock steps_made is = tt
+cause_bound n m clock (until_passed time) is = tt
 cause_bound n m clock (fault_end e fault) is = covered_is_bound n m clock e is.0
 
 -- a run of a sound and named net from a marking of its places

@@ -1,5 +1,4 @@
--- Worked options and statuses: what no call of the program shows today, since no net that is served has time, and since memory
--- is there.
+-- Worked options and statuses, among them what no call of the program shows, since memory is there.
 use Rattle.std.proofs.Common.{◌≡◌, [], ◌∷◌, map, Some, None, refl}
 use Rattle.std.specs.Prelude.{codes}
 use Rattle.cpn_report.specs.declared.traces.Trace.TheVariants as traces

@@ -1,6 +1,6 @@
 -- The report that a run of a document gives, and the status that it has. Source: own choice.
 use Rattle.std.specs.Prelude.{◌≡◌, ℕ, ◌⊎◌, List, Some}
-use Rattle.cpn_runs.specs.State.{PlainSetup, PlainEnd, dead, steps_made, fault_end}
+use Rattle.cpn_runs.specs.State.{PlainSetup, PlainEnd, dead, steps_made, until_passed, fault_end}
 use Rattle.cpn_runs.specs.Run.{PlainFinished, IsRun}
 use Rattle.cpn_file.specs.Loading.{PlainLoaded}
 use Rattle.cpn_file.specs.Reading.{read}
@@ -18,6 +18,7 @@ setup_from loaded options = record { net = loaded.net; start = loaded.initial; c
 abbrev pub status_after : PlainEnd → Status
 status_after dead = statuses.Done
 status_after steps_made = statuses.Done
+status_after (until_passed time) = statuses.Done
 status_after (fault_end e fault) = statuses.RunFault
 
 -- the status is that of a report

@@ -98,5 +98,6 @@ fn status_after(cause: &End) -> Status
         End::Fault(_, _) => Status::RunFault,
         End::Steps => Status::Done,
         End::Dead => Status::Done,
+        End::Until(_) => Status::Done,
     }
 }

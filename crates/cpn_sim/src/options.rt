@@ -15,7 +15,7 @@ pub struct Options {
     pub workers: u64,
     /// How many claims the run may make: 1 to 1,000,000.
     pub steps: u64,
-    /// The last time that the run may reach: 0 to 2^62. No net that is served has time, so no run gets there.
+    /// The last time that the run may reach: 0 to 2^62.
     pub until: u64,
     /// Whether the report has the trace of the run.
     pub trace: Trace,

@@ -25,7 +25,7 @@ use Rattle.cpn_typing.proofs.Acceptance.{accepted_has_meaning}
 use Rattle.cpn_typing.proofs.TermsOfForms.{there_is_meaning}
 use Rattle.cpn_typing.proofs.Consistent.{accepted_parts, same_accepted, declarations_consistent}
 use Rattle.cpn_typing.proofs.MeaningsInNets.{world_of, are_bound}
-use Rattle.cpn_stages.specs.Solvable.{IsSolvable, AreSolvable}
+use Rattle.cpn_definitions.specs.Sound.{IsSolvable}
 use Rattle.cpn_solvable.specs.Sides.{SidesHave}
 use Rattle.cpn_solvable.proofs.AcceptedSides.{sides_have, sides_at}
 
@@ -91,9 +91,9 @@ module _ (ds : Declared) (good : IsConsistent ds) (n : PlainNet) (of : IsNetOf d
   each_solvable (t ∷ ts) h = (accepted_is_solvable t h.0, each_solvable ts h.1)
 
   -- The same of a net of such transitions.
-  pub accepted_are_solvable : AllByRecursion (IsAcceptedTransition ds) n.transitions → AreSolvable n
+  pub accepted_are_solvable : AllByRecursion (IsAcceptedTransition ds) n.transitions → AllByRecursion (IsSolvable n) n.transitions
   accepted_are_solvable h = each_solvable n.transitions h
 
 -- The same after any declarations that are accepted.
-pub solvable_after_declarations : (decls : List PlainDecl) (ds : Declared) → all_declared nothing_declared decls ≡ ok ds → (n : PlainNet) → IsNetOf ds n → AllByRecursion (IsAcceptedTransition ds) n.transitions → AreSolvable n
+pub solvable_after_declarations : (decls : List PlainDecl) (ds : Declared) → all_declared nothing_declared decls ≡ ok ds → (n : PlainNet) → IsNetOf ds n → AllByRecursion (IsAcceptedTransition ds) n.transitions → AllByRecursion (IsSolvable n) n.transitions
 solvable_after_declarations decls ds are n of h = accepted_are_solvable ds (declarations_consistent decls ds are) n of h

@@ -8,7 +8,7 @@ use Rattle.cpn_definitions.specs.Bindable.{variables_of, IsInTerm, IsEquated, Is
 use Rattle.cpn_definitions.proofs.RisingLists.{IsIn, in_from_contains, contains_from_in, in_flat_map}
 use Rattle.cpn_stages.specs.Stages.{is_among, is_bound, equations_in, first_solving}
 use Rattle.cpn_stages.specs.Stages as stages
-use Rattle.cpn_stages.specs.Solvable.{IsSolvable}
+use Rattle.cpn_definitions.specs.Sound.{IsSolvable}
 use Rattle.cpn_stages.proofs.Numbers.{among_from_in, in_from_among}
 use Rattle.cpn_stages.proofs.Guards.{not_bound}
 

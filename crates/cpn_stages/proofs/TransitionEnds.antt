@@ -17,7 +17,7 @@ use Rattle.cpn_definitions.proofs.RisingLists.{IsIn, in_from_contains, contains_
 use Rattle.cpn_stages.specs.Partial.{PlainPartial, unbound, variables_in, value_in, Extends, bound_in, as_partial}
 use Rattle.cpn_stages.specs.Stages.{Stage, variables_at_each, AreStages}
 use Rattle.cpn_stages.specs.Reached.{HasValue, IsReached}
-use Rattle.cpn_stages.specs.Solvable.{IsSolvable}
+use Rattle.cpn_definitions.specs.Sound.{IsSolvable}
 use Rattle.cpn_stages.specs.Orderly.{IsTimely, AreOrderly}
 use Rattle.cpn_stages.specs.Trials.{Trial, admits_if, are_admitted, ends, AreTrialsOf}
 use Rattle.cpn_stages.proofs.Partials.{extends_variables}

@@ -3,7 +3,6 @@ pub mod Instances
 pub mod Stages
 pub mod Reached
 pub mod Work
-pub mod Solvable
 pub mod Fitting
 pub mod Trials
 pub mod Orderly

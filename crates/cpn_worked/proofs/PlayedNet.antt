@@ -1,8 +1,7 @@
--- The net of the worked runs is sound, untimed and solvable, and a run of one seat may start from its markings.
+-- The net of the worked runs is sound, and a run of one seat may start from its markings.
 use Rattle.std.proofs.Common.{◌≡◌, ℕ, zero, suc, ◌≤◌, Bool, true, false, List, refl, sym, subst, arith}
 use Rattle.cpn_definitions.specs.Net.{PlainNet}
-use Rattle.cpn_definitions.specs.Sound.{IsSound, IsSoundTransition, IsUntimed, IsMarking}
-use Rattle.cpn_stages.specs.Solvable.{AreSolvable}
+use Rattle.cpn_definitions.specs.Sound.{IsSound, IsSoundTransition, IsMarking}
 use Rattle.cpn_runs.specs.Bounds.{most_steps}
 use Rattle.cpn_runs.specs.State.{PlainSetup}
 use Rattle.cpn_book.specs.Playable.{IsPlayable}
@@ -15,6 +14,7 @@ move_sound name = record {
   declared = refl;
   bindable = λ x there. absurd (none_there x there);
   guard_means = λ b bound. tt;
+  guard_solvable = without_variables _ _ refl refl;
   delay_means = λ b time bound soon e. cc;
   few_arcs = omega arith;
   inputs_sound = (record { sound = record { place_known = omega arith; colour_is = refl; means = λ b time bound soon e. cc }; terms_are = refl }, tt);
@@ -27,6 +27,7 @@ burst_sound name = record {
   declared = refl;
   bindable = λ x there. absurd (none_there x there);
   guard_means = λ b bound. tt;
+  guard_solvable = without_variables _ _ refl refl;
   delay_means = λ b time bound soon e. cc;
   few_arcs = omega arith;
   inputs_sound = (record { sound = record { place_known = omega arith; colour_is = refl; means = λ b time bound soon e. cc }; terms_are = refl }, tt);
@@ -42,15 +43,6 @@ is_sound = record {
   few_variables = omega arith;
 }
 
-is_untimed : IsUntimed worked
-is_untimed zero = refl
-is_untimed (suc zero) = refl
-is_untimed (suc (suc zero)) = refl
-is_untimed (suc (suc (suc p))) = refl
-
-is_solvable : AreSolvable worked
-is_solvable = (without_variables _ _ refl refl, (without_variables _ _ refl refl, tt))
-
 is_marking : (second : Bool) → IsMarking worked.places (start_of second)
 is_marking true = (tt, refl, ((tt, tt), refl, (tt, refl, tt)))
 is_marking false = ((tt, tt), refl, (tt, refl, (tt, refl, tt)))
@@ -59,8 +51,6 @@ is_marking false = ((tt, tt), refl, (tt, refl, (tt, refl, tt)))
 pub may_start : (setup : PlainSetup) (second : Bool) → setup.net ≡ worked → setup.start ≡ start_of second → setup.clock ≡ 0 → setup.limits.until ≡ 0 → setup.limits.steps ≤ most_steps → setup.limits.seats ≡ 1 → IsPlayable setup
 may_start setup second net start clock until steps seat = record {
   sound = subst IsSound (sym net) is_sound;
-  untimed = subst IsUntimed (sym net) is_untimed;
-  solvable = subst AreSolvable (sym net) is_solvable;
   marking = subst (λ (n : PlainNet). IsMarking n.places setup.start) (sym net) (subst (IsMarking worked.places) (sym start) (is_marking second));
   clock = omega arith;
   until = omega arith;

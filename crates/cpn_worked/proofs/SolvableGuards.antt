@@ -4,7 +4,7 @@ use Rattle.std.specs.List.{flat_map}
 use Rattle.cpn_definitions.specs.Net.{PlainTransition, PlainNet}
 use Rattle.cpn_definitions.specs.Bindable.{variables_of}
 use Rattle.cpn_definitions.proofs.RisingLists.{IsIn}
-use Rattle.cpn_stages.specs.Solvable.{IsSolvable}
+use Rattle.cpn_definitions.specs.Sound.{IsSolvable}
 use Rattle.cpn_stages.specs.Stages.{Equation, equations_in}
 use Rattle.cpn_stages.proofs.Guards.{equation_listed}
 

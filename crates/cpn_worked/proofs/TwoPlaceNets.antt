@@ -11,19 +11,17 @@ use Rattle.cpn_definitions.specs.Marking.{Marking, token_at, add_token}
 use Rattle.cpn_definitions.specs.Inscription.{PlainExpr, literal, variable, variable_pattern, literal_pattern, Functions, one}
 use Rattle.cpn_definitions.specs.Net.{PlainArc, PlainTransition, Coloured, PlainNet, no_transition, nothing, place_at, transition_at, variable_at}
 use Rattle.cpn_definitions.specs.Bindable.{binding_terms, variables_of, conjuncts_of, AreClosed}
-use Rattle.cpn_definitions.specs.Lone.{is_variable, stands_alone}
 use Rattle.cpn_definitions.specs.Outcome.{gives, faults, not_in_colour, HasMeaning, given, ◌>>=◌}
 use Rattle.cpn_definitions.specs.Meaning.{PlainBinding, bound_value, meaning}
 use Rattle.cpn_definitions.specs.Terms.{PlainTerm, in_colour, terms_of}
 use Rattle.cpn_definitions.specs.Occurrence.{binds, transition_delay}
 use Rattle.cpn_definitions.specs.Sound.{IsSound, IsSoundTransition, IsSoundInput, IsSoundArc, may_hold, IsMarking}
 use Rattle.cpn_definitions.proofs.RisingLists.{IsIn, in_map, of_one_in, each_implied, passes_at, one_that_passes, some_passes, all_pass, each_in, each_mapped}
-use Rattle.cpn_definitions.proofs.Lone.{are_bindable_alone}
 use Rattle.cpn_definitions.proofs.Terms.{one_token}
 use Rattle.cpn_definitions.proofs.Markings.{added_marking}
-use Rattle.cpn_stages.specs.Solvable.{IsSolvable, AreSolvable}
 use Rattle.cpn_stages.specs.Stages.{equations_at}
 use Rattle.cpn_worked.specs.TwoPlaces.{numbers, inscription_of, arc_of, has_arc, are_fit, two_places, IsWorked}
+use Rattle.cpn_worked.proofs.LoneVariables.{is_variable, stands_alone, are_bindable_alone}
 use Rattle.cpn_worked.proofs.SolvableGuards.{without_variables}
 
 number_same : (x y : ℕ) → (x == y) ≡ true → x ≡ y
@@ -182,6 +180,7 @@ module _ (timed guard : Bool) (vars : ℕ) (arcs : List (ℕ × ℕ)) (n : Plain
     declared = ap₂ (λ (k : ℕ) (xs : List ℕ). list_all (λ x. nat_lt x k) xs) counted is.worked.listed ∙ range_below vars;
     bindable = are_bindable_alone n t each_alone;
     guard_means = λ b bound. subst (AllByRecursion (λ e. HasMeaning (meaning n.functions e b 0))) (sym is.worked.guarded) ((λ e. cc), tt);
+    guard_solvable = without_variables n t (ap (λ (es : List PlainExpr). flat_map variables_of es) is.worked.guarded) (ap (λ (es : List PlainExpr). flat_map equations_at (flat_map conjuncts_of es)) is.worked.guarded);
     delay_means = λ b time bound le. subst (λ (d : Option PlainExpr). HasMeaning (transition_delay n.functions d b time)) (sym is.worked.undelayed) (λ e. cc);
     few_arcs = omega (arith, ap length is.worked.inputs, ap length is.worked.outputs, length-map arcs (arc_of timed vars));
     inputs_sound = each_sound;
@@ -197,12 +196,6 @@ module _ (timed guard : Bool) (vars : ℕ) (arcs : List (ℕ × ℕ)) (n : Plain
     few_transitions = omega (arith, is.transitions);
     few_variables = omega (arith, counted);
   }
-
--- and solvable, by its guard alone
-pub worked_is_solvable : (timed guard : Bool) (vars : ℕ) (arcs : List (ℕ × ℕ)) (n : PlainNet) → IsWorked timed guard vars arcs n → AreSolvable n
-worked_is_solvable timed guard vars arcs n is =
-    only_one (IsSolvable n) n.transitions is.transitions
-    (without_variables n (transition_at n 0) (ap (λ (es : List PlainExpr). flat_map variables_of es) is.worked.guarded) (ap (λ (es : List PlainExpr). flat_map equations_at (flat_map conjuncts_of es)) is.worked.guarded))
 
 -- ---- markings
 

@@ -5,10 +5,12 @@ mod comparing;
 mod markings;
 mod small;
 mod stamps;
+mod tmsets;
 mod values;
 
 use crate::rows::{number_of, push_count, push_number};
-use cpn_core::{Memory, PlainMarking, Shape, Text, Value, Values};
+use cpn_core::{Memory, Shape, Text, Value, Values};
+use cpn_marking::Marking;
 use std::alloc::Global;
 
 /// The string of these bytes.
@@ -42,7 +44,7 @@ fn range(text: &str) -> Shape {
 }
 
 /// Writes the tokens of a place, each as its number and its stamp behind a blank.
-fn push_tokens(text: &mut String, marking: &PlainMarking, place: usize) -> Result<(), Memory> {
+fn push_tokens(text: &mut String, marking: &Marking, place: usize) -> Result<(), Memory> {
     if let Some(tokens) = marking.get(place) {
         for token in tokens {
             text.push_str(" ")?;
@@ -54,7 +56,7 @@ fn push_tokens(text: &mut String, marking: &PlainMarking, place: usize) -> Resul
 }
 
 /// How many tokens a place has, or 7 where there is no such place.
-fn count_on(marking: &PlainMarking, place: usize) -> usize {
+fn count_on(marking: &Marking, place: usize) -> usize {
     match marking.get(place) {
         Some(tokens) => tokens.len(),
         None => 7,

@@ -2,7 +2,6 @@
 ghost use Rattle.std.specs.Prelude.{◌≡◌, [], IfOk};
 ghost use Rattle.cpn_definitions.specs.Sound.{IsSound};
 ghost use Rattle.cpn_core.specs.Nets.{net_view};
-ghost use Rattle.cpn_stages.specs.Solvable.{AreSolvable};
 
 use cpn_core::{Funs, Memory, Net};
 use std::alloc::Global;
@@ -11,7 +10,6 @@ use std::sync::Arc;
 /// The net without places, transitions, variables, names and functions.
 pub fn empty_net(alloc: Global) -> Result<Net, Memory>
     ensures sound { IfOk result (λ net. IsSound (net_view net)) }
-    ensures solvable { IfOk result (λ net. AreSolvable (net_view net)) }
     ensures empty { IfOk result (λ net. net_view net ≡ record { places = []; transitions = []; variables = []; constants = []; constructors = []; functions = [] }) }
 {
     let functions = Vec::new(alloc);

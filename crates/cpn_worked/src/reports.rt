@@ -19,9 +19,8 @@ use crate::data::{applied, integers, text};
 use crate::nets::empty_net;
 use crate::rows::{answered, pairs_in, parted};
 use crate::two_places::{marking_of, net_of, numbers};
-use cpn_core::{
-    Binding, Colour, Element, EvalFault, Guard, Memory, Net, PlainMarking, Shape, Transition, Value,
-};
+use cpn_core::{Binding, Colour, Element, EvalFault, Guard, Memory, Net, Shape, Transition, Value};
+use cpn_marking::Marking;
 use cpn_report::{Trace, has_names, report, value_text};
 use cpn_runs::{End, Event, Finished, Limits, Occurrence, Outlook, Setup};
 use std::alloc::Global;
@@ -207,7 +206,7 @@ fn end_with(alloc: Global, fault: Option<EvalFault>) -> End
 fn setup_of(alloc: Global, net: Net) -> Result<Setup, Memory>
     ensures { IfOk result (λ setup. setup.net.value ≡ net) }
 {
-    let start = PlainMarking::new(alloc, net.places.len())?;
+    let start = Marking::new(alloc, net.places.len())?;
     Ok(Setup {
         net: Arc::new(alloc, net)?,
         start,
@@ -224,7 +223,7 @@ fn setup_of(alloc: Global, net: Net) -> Result<Setup, Memory>
 // A run, with the marking, the journal, the occurrences, the next time and the cause of its end.
 fn finished(
     setup: Setup,
-    marking: PlainMarking,
+    marking: Marking,
     journal: Vec<Event>,
     occurrences: Vec<Occurrence>,
     next: Option<u64>,
@@ -261,7 +260,7 @@ fn run_with(
     ensures printable { IfOk result (λ run. IsPrintable (net_view run.setup.net.value) (finished_view run)) }
 {
     let journal = journal.to_vec(alloc)?;
-    let marking = PlainMarking::new(alloc, 0)?;
+    let marking = Marking::new(alloc, 0)?;
     let net = bare_net(alloc)?;
     let setup = setup_of(alloc, net)?;
     let cause = end_with(alloc, fault);

@@ -9,8 +9,9 @@ use crate::rows::{number_of, push_count, push_number};
 use cpn_book::Book;
 use cpn_core::{
     ArcExpr, BindingTerm, Colour, EvalFault, Expr, Funs, Guard, MExpr, Memory, Net, Pat, Place,
-    PlaceArc, PlainMarking, Shape, Transition, Value,
+    PlaceArc, Shape, Transition, Value,
 };
+use cpn_marking::Marking;
 use cpn_runs::{End, Event, Finished, Limits, Setup};
 use std::alloc::Global;
 use std::sync::Arc;
@@ -117,10 +118,10 @@ fn net(alloc: Global) -> Result<Net, Memory>
     })
 }
 
-fn marking(alloc: Global, second: bool) -> Result<PlainMarking, Memory>
+fn marking(alloc: Global, second: bool) -> Result<Marking, Memory>
     ensures { IfOk result (λ marking. marking ≡ start_of second) }
 {
-    let mut marking = PlainMarking::new(alloc, 3)?;
+    let mut marking = Marking::new(alloc, 3)?;
     if second {
         marking.add(1, Value::Int(2), 0)?;
     } else {
@@ -162,6 +163,7 @@ fn push_events(text: &mut String, journal: &[Event]) -> Result<(), Memory> {
         match event {
             Event::Claim { seat: _, number } => push_count(text, "c", *number)?,
             Event::Done { seat: _, number } => push_count(text, "d", *number)?,
+            Event::Move { time } => push_count(text, "m", *time)?,
             Event::Cut { number } => push_count(text, "x", *number)?,
         }
         text.push_str(" ")?;
@@ -174,12 +176,12 @@ fn is_burst(cause: &End) -> bool {
     match cause {
         End::Fault(element, fault) => element.transition == 1 && *fault == EvalFault::NotInColour,
         End::Steps => false,
-        End::Dead => false,
+        End::Dead | End::Until(_) => false,
     }
 }
 
 /// The number of the one token on a place, or 0.
-fn number_on(marking: &PlainMarking, place: usize) -> i64 {
+fn number_on(marking: &Marking, place: usize) -> i64 {
     match marking.get(place) {
         Some([token]) => number_of(&token.value),
         _ => 0,

@@ -3,13 +3,13 @@
 ghost use Rattle.std.specs.Prelude.{◌≡◌, ◌<◌, ◌≤◌, true, length, IfOk};
 ghost use Rattle.cpn_definitions.specs.Sound.{IsSound, IsMarking};
 ghost use Rattle.cpn_core.specs.Nets.{net_view};
-ghost use Rattle.cpn_stages.specs.Solvable.{AreSolvable};
 ghost use Rattle.cpn_worked.specs.TwoPlaces.{two_places};
 
 use crate::nets::empty_net;
 use crate::rows::{number_of, pairs_in, parted, push_count, push_number};
 use crate::two_places::{are_placed, are_used, marking_of, sound_net};
-use cpn_core::{Binding, Memory, Net, PlainMarking};
+use cpn_core::{Binding, Memory, Net};
+use cpn_marking::Marking;
 use cpn_search::{enabled, enabled_of};
 use std::alloc::Global;
 use std::test::Fail;
@@ -23,14 +23,8 @@ fn number_at(binding: &Binding, variable: usize) -> i64 {
 }
 
 /// Writes the bindings of the transition that are enabled, each by the values of x and y, or 0, and its least time.
-fn push_found(
-    text: &mut String,
-    alloc: Global,
-    net: &Net,
-    marking: &PlainMarking,
-) -> Result<(), Memory>
+fn push_found(text: &mut String, alloc: Global, net: &Net, marking: &Marking) -> Result<(), Memory>
     requires sound { IsSound (net_view net.now) }
-    requires solvable { AreSolvable (net_view net.now) }
     requires marking { IsMarking (net_view net.now).places marking.now }
     requires some { length net.now.transitions.items ≡ 1 }
 {
@@ -46,14 +40,8 @@ fn push_found(
 }
 
 /// Writes the times of the elements that are enabled at the clock 3.
-fn push_times(
-    text: &mut String,
-    alloc: Global,
-    net: &Net,
-    marking: &PlainMarking,
-) -> Result<(), Memory>
+fn push_times(text: &mut String, alloc: Global, net: &Net, marking: &Marking) -> Result<(), Memory>
     requires sound { IsSound (net_view net.now) }
-    requires solvable { AreSolvable (net_view net.now) }
     requires marking { IsMarking (net_view net.now).places marking.now }
 {
     let entries = enabled(alloc, net, marking, 3)?;
@@ -64,9 +52,8 @@ fn push_times(
 }
 
 /// What is found in the marking: the bindings, and behind a bar the times of the elements.
-fn told(alloc: Global, net: &Net, marking: &PlainMarking) -> Result<String, Memory>
+fn told(alloc: Global, net: &Net, marking: &Marking) -> Result<String, Memory>
     requires sound { IsSound (net_view net.now) }
-    requires solvable { AreSolvable (net_view net.now) }
     requires marking { IsMarking (net_view net.now).places marking.now }
     requires some { length net.now.transitions.items ≡ 1 }
 {
@@ -85,7 +72,7 @@ fn found_with(
     guard: bool,
     vars: u32,
     arcs: &[(u32, u32)],
-    marking: &PlainMarking,
+    marking: &Marking,
 ) -> Result<String, Memory>
     requires { IsMarking (two_places timed) marking.now }
 {
@@ -118,7 +105,7 @@ fn vars_in(kind: &str) -> u32 {
 }
 
 /// The marking of a row, by the tokens on A, and on B.
-fn marking_in(alloc: Global, timed: bool, first: &str, second: &str) -> Result<PlainMarking, Memory>
+fn marking_in(alloc: Global, timed: bool, first: &str, second: &str) -> Result<Marking, Memory>
     ensures { IfOk result (λ marking. IsMarking (two_places timed) marking) }
 {
     let first = pairs_in(alloc, first, '@')?;
@@ -173,7 +160,7 @@ fn the_enabled_bindings_are_those_of_the_table(rt: HostRuntime) -> Result<(), Fa
 /// Whether nothing is enabled in the net of nothing.
 fn is_nothing_enabled(alloc: Global) -> Result<bool, Memory> {
     let net = empty_net(alloc)?;
-    let marking = PlainMarking::new(alloc, 0)?;
+    let marking = Marking::new(alloc, 0)?;
     Ok(enabled(alloc, &net, &marking, 0)?.is_empty())
 }
 
@@ -196,12 +183,7 @@ fn tokens(alloc: Global, count: u64, values: u64) -> Result<Vec<(i64, u64)>, Mem
 }
 
 /// So many tokens of so many values on A, and so many on B.
-fn large_marking(
-    alloc: Global,
-    count: u64,
-    values: u64,
-    others: u64,
-) -> Result<PlainMarking, Memory>
+fn large_marking(alloc: Global, count: u64, values: u64, others: u64) -> Result<Marking, Memory>
     requires some { 0 < values }
     requires few { values ≤ 1000000 }
     ensures { IfOk result (λ marking. IsMarking (two_places true) marking) }
@@ -216,7 +198,7 @@ fn count_found(
     alloc: Global,
     vars: u32,
     arcs: &[(u32, u32)],
-    marking: &PlainMarking,
+    marking: &Marking,
 ) -> Result<usize, Memory>
     requires { IsMarking (two_places true) marking.now }
 {

@@ -6,13 +6,13 @@ ghost use Rattle.cpn_definitions.specs.Sound.{IsSound, IsMarking};
 ghost use Rattle.cpn_core.specs.Colours.{colour_view};
 ghost use Rattle.cpn_core.specs.Inscriptions.{expr_view, pattern_view};
 ghost use Rattle.cpn_core.specs.Nets.{arc_view, transition_view, variable_view, net_view};
-ghost use Rattle.cpn_stages.specs.Solvable.{AreSolvable};
 ghost use Rattle.cpn_worked.specs.TwoPlaces.{numbers as numbers_colour, inscription_of, pattern_of, arc_of, has_arc as some_arc, two_places, IsWorkedTransition, IsWorked};
 
 use cpn_core::{
     ArcExpr, BindingTerm, Colour, Expr, Funs, Guard, MExpr, Memory, Net, Pat, Place, PlaceArc,
-    PlainMarking, Shape, Transition, Value, Variable,
+    Shape, Transition, Value, Variable,
 };
+use cpn_marking::Marking;
 use std::alloc::Global;
 use std::sync::Arc;
 
@@ -212,7 +212,6 @@ pub fn sound_net(
     requires used { list_all (λ x. some_arc x arcs.now) (range_with_len 0 vars) ≡ true }
     requires few { length arcs.now ≤ 64 }
     ensures sound { IfOk result (λ net. IsSound (net_view net)) }
-    ensures solvable { IfOk result (λ net. AreSolvable (net_view net)) }
     ensures places { IfOk result (λ net. (m : Marking) → IsMarking (two_places timed) m → IsMarking (net_view net).places m) }
     ensures transitions { IfOk result (λ net. length net.transitions.items ≡ 1) }
 {
@@ -222,7 +221,7 @@ pub fn sound_net(
 
 /// Adds a token that the place may hold, and else none; on an untimed place it has no stamp.
 fn add_token(
-    marking: &mut PlainMarking,
+    marking: &mut Marking,
     timed: bool,
     place: u32,
     value: Value,
@@ -244,7 +243,7 @@ fn add_token(
 }
 
 fn add_tokens(
-    marking: &mut PlainMarking,
+    marking: &mut Marking,
     timed: bool,
     place: u32,
     tokens: &[(i64, u64)],
@@ -265,10 +264,10 @@ pub fn marking_of(
     timed: bool,
     first: &[(i64, u64)],
     second: &[(i64, u64)],
-) -> Result<PlainMarking, Memory>
+) -> Result<Marking, Memory>
     ensures { IfOk result (λ marking. IsMarking (two_places timed) marking) }
 {
-    let mut marking = PlainMarking::new(alloc, 2)?;
+    let mut marking = Marking::new(alloc, 2)?;
     add_tokens(&mut marking, timed, 0, first)?;
     add_tokens(&mut marking, timed, 1, second)?;
     Ok(marking)

@@ -2,15 +2,16 @@
 ghost use Rattle.std.specs.Prelude.{◌≡◌, length, IfOk};
 
 use super::push_tokens;
-use cpn_core::{Memory, PlainMarking, Value};
+use cpn_core::{Memory, Value};
+use cpn_marking::Marking;
 use std::alloc::Global;
 use std::test::Fail;
 
 // A marking of two places, with four tokens on the second.
-fn marking(alloc: Global) -> Result<PlainMarking, Memory>
+fn marking(alloc: Global) -> Result<Marking, Memory>
     ensures { IfOk result (λ marking. length marking ≡ 2) }
 {
-    let mut marking = PlainMarking::new(alloc, 2)?;
+    let mut marking = Marking::new(alloc, 2)?;
     marking.add(1, Value::Int(7), 4)?;
     marking.add(1, Value::Int(8), 2)?;
     marking.add(1, Value::Int(7), 1)?;
@@ -19,14 +20,14 @@ fn marking(alloc: Global) -> Result<PlainMarking, Memory>
 }
 
 // Whether just these tokens stand on a place.
-fn has(alloc: Global, marking: &PlainMarking, place: usize, tokens: &str) -> Result<bool, Memory> {
+fn has(alloc: Global, marking: &Marking, place: usize, tokens: &str) -> Result<bool, Memory> {
     let mut text = String::new(alloc);
     push_tokens(&mut text, marking, place)?;
     Ok(text.as_str() == tokens)
 }
 
 // Takes a token of a value by two stamps, and says whether the latest one is gone, but not from a copy.
-fn is_taken(alloc: Global, marking: &mut PlainMarking) -> Result<bool, Memory>
+fn is_taken(alloc: Global, marking: &mut Marking) -> Result<bool, Memory>
     requires { length marking.old ≡ 2 }
 {
     let copy = marking.copy()?;

@@ -2,7 +2,8 @@
 
 use super::{count_on, push_tokens};
 use crate::rows::{answered, pairs_in, parted, push_count};
-use cpn_core::{Made, Memory, Needed, Needs, Outputs, PlainMarking, Value};
+use cpn_core::{Made, Memory, Needed, Needs, Outputs, Value};
+use cpn_marking::Marking;
 use std::alloc::Global;
 use std::test::Fail;
 
@@ -32,14 +33,14 @@ fn needs_of(alloc: Global, needed: &[(i64, u64)]) -> Result<Needs, Memory> {
     Ok(needs)
 }
 
-fn marking_of(alloc: Global, tokens: &[(i64, u64)]) -> Result<PlainMarking, Memory> {
-    let mut marking = PlainMarking::new(alloc, 2)?;
+fn marking_of(alloc: Global, tokens: &[(i64, u64)]) -> Result<Marking, Memory> {
+    let mut marking = Marking::new(alloc, 2)?;
     marking.add_made(made(alloc, tokens)?)?;
     Ok(marking)
 }
 
 // Whether a 7 stands there, and from when on the tokens cover the needs.
-fn tell_time(text: &mut String, marking: &PlainMarking, needs: &Needs) -> Result<(), Memory> {
+fn tell_time(text: &mut String, marking: &Marking, needs: &Needs) -> Result<(), Memory> {
     if marking.holds(1, &Value::Int(7)) {
         text.push_str("held ")?;
     }
@@ -50,7 +51,7 @@ fn tell_time(text: &mut String, marking: &PlainMarking, needs: &Needs) -> Result
 }
 
 // What is told of the tokens and the needs; and what stands there when the needs are taken at the time 10 and 7@20 is put in.
-fn told(alloc: Global, marking: &mut PlainMarking, needs: &Needs) -> Result<String, Memory> {
+fn told(alloc: Global, marking: &mut Marking, needs: &Needs) -> Result<String, Memory> {
     let mut text = String::new(alloc);
     tell_time(&mut text, marking, needs)?;
     marking.subtract(needs, 10);
@@ -112,14 +113,14 @@ fn many_made(alloc: Global) -> Result<Outputs, Memory> {
     Ok(outputs)
 }
 
-fn many_tokens(alloc: Global) -> Result<PlainMarking, Memory> {
-    let mut marking = PlainMarking::new(alloc, 1)?;
+fn many_tokens(alloc: Global) -> Result<Marking, Memory> {
+    let mut marking = Marking::new(alloc, 1)?;
     marking.add_made(many_made(alloc)?)?;
     Ok(marking)
 }
 
 // Whether the tokens of a marking cover the needs from 3 on, and none is left when they are taken, but in a copy all.
-fn are_covered(marking: &mut PlainMarking, needs: &Needs) -> Result<bool, Memory> {
+fn are_covered(marking: &mut Marking, needs: &Needs) -> Result<bool, Memory> {
     let copy = marking.copy()?;
     let is_covered = marking.earliest(needs) == Some(3);
     marking.subtract(needs, 10);

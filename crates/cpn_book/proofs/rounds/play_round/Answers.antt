@@ -15,36 +15,33 @@ use Rattle.cpn_draw.specs.Draw.{generator, word}
 use Rattle.cpn_runs.specs.declared.events.End.TheVariants as ends
 use Rattle.cpn_runs.specs.FinishedViews.{setup_view}
 use Rattle.cpn_book.specs.declared.run_progress.Progress.{Progress}
-use Rattle.cpn_book.proofs.PlayedRounds.{some_are_ready, drawn_covered, covered_needs_given, HasClaimed, HasPlayed, HasFaulted, played, kept_marking, faulted}
+use Rattle.cpn_book.proofs.PlayedRounds.{drawn_covered, covered_needs_given, HasClaimed, HasPlayed, HasFaulted, played, kept_marking, faulted}
 use Rattle.cpn_book.proofs.rounds.play_round.Goals as goal
 
 pub pick-position-requires : goal.pick-position-requires
-pick-position-requires c =
-    let s = setup_view c.args.setup.now in
-    let some : 0 < length (ready s.clock (map entry_view c.args.entries.now)) = some_are_ready s.net c.args.progress.now.marking s.clock c.args.entries.now c.requires.playable.untimed c.requires.enabled c.requires.some in
-    rw c.ready_count.ensures some
+pick-position-requires c = rw c.ready_count.ensures c.requires.some
 
 pub needs_taken-requires : goal.needs_taken-requires
 needs_taken-requires c =
     let s = setup_view c.args.setup.now in
     let e = (entry_view c.ready_entry-drawn.result.now).element in
-    let is : covered s.net c.args.progress.now.marking s.clock e ≡ true = drawn_covered s.net c.args.progress.now.marking s.clock (map entry_view c.args.entries.now) c.pick-position.result (entry_view c.ready_entry-drawn.result.now) c.requires.enabled c.ready_entry-drawn.ensures.entry in
+    let is : covered s.net c.args.progress.now.marking c.args.progress.now.clock e ≡ true = drawn_covered s.net c.args.progress.now.marking c.args.progress.now.clock (map entry_view c.args.entries.now) c.pick-position.result (entry_view c.ready_entry-drawn.result.now) c.requires.enabled c.ready_entry-drawn.ensures.entry in
     let same : element_view c.in_ok-element.element ≡ e = ap₂ (λ t b. record { transition = t; binding = b }) c.in_ok-element.ensures.transition c.in_ok-element.ensures.binding in
     let net : net_view c.deref.result.now ≡ s.net = ap net_view c.deref.ensures in
     let P : PlainNet → Type 0 = λ n. Gives (needs_of n (element_view c.in_ok-element.element)) in
     let Q : PlainElement → Type 0 = λ f. Gives (needs_of s.net f) in
-    record { given = subst P (sym net) (subst Q (sym same) (covered_needs_given s.net c.args.progress.now.marking s.clock e is)) }
+    record { given = subst P (sym net) (subst Q (sym same) (covered_needs_given s.net c.args.progress.now.marking c.args.progress.now.clock e is)) }
 
 pub outputs_of-outputs-requires-clause-meaning : goal.outputs_of-outputs-requires-clause-meaning
 outputs_of-outputs-requires-clause-meaning c =
     let s = setup_view c.args.setup.now in
     let e = (entry_view c.ready_entry-drawn.result.now).element in
-    let is : covered s.net c.args.progress.now.marking s.clock e ≡ true = drawn_covered s.net c.args.progress.now.marking s.clock (map entry_view c.args.entries.now) c.pick-position.result (entry_view c.ready_entry-drawn.result.now) c.requires.enabled c.ready_entry-drawn.ensures.entry in
+    let is : covered s.net c.args.progress.now.marking c.args.progress.now.clock e ≡ true = drawn_covered s.net c.args.progress.now.marking c.args.progress.now.clock (map entry_view c.args.entries.now) c.pick-position.result (entry_view c.ready_entry-drawn.result.now) c.requires.enabled c.ready_entry-drawn.ensures.entry in
     let same : element_view c.in_ok-element.element ≡ e = ap₂ (λ t b. record { transition = t; binding = b }) c.in_ok-element.ensures.transition c.in_ok-element.ensures.binding in
     let net : net_view c.deref-2.result.now ≡ s.net = ap net_view c.deref-2.ensures in
-    let P : PlainNet → Type 0 = λ n. HasMeaning (outputs_of n (element_view c.in_ok-element.element) s.clock) in
-    let Q : PlainElement → Type 0 = λ f. HasMeaning (outputs_of s.net f s.clock) in
-    subst P (sym net) (subst Q (sym same) (outputs_mean s.net e s.clock c.requires.playable.sound (covered_is_bound s.net c.args.progress.now.marking s.clock e is) (let early = c.requires.playable.clock in let late = c.requires.playable.until in omega arith)))
+    let P : PlainNet → Type 0 = λ n. HasMeaning (outputs_of n (element_view c.in_ok-element.element) c.args.progress.now.clock) in
+    let Q : PlainElement → Type 0 = λ f. HasMeaning (outputs_of s.net f c.args.progress.now.clock) in
+    subst P (sym net) (subst Q (sym same) (outputs_mean s.net e c.args.progress.now.clock c.requires.playable.sound (covered_is_bound s.net c.args.progress.now.marking c.args.progress.now.clock e is) (let early = c.requires.running.way.in_time in let late = c.requires.playable.until in omega arith)))
 
 pub returns-in_ok-push-in-Ok-clause-running : goal.returns-in_ok-push-in-Ok-clause-running
 returns-in_ok-push-in-Ok-clause-running c = λ none.
@@ -52,10 +49,10 @@ returns-in_ok-push-in-Ok-clause-running c = λ none.
     let old = c.args.progress.now in
     let same : element_view c.in_ok-element.element ≡ (entry_view c.ready_entry-drawn.result.now).element = ap₂ (λ t b. record { transition = t; binding = b }) c.in_ok-element.ensures.transition c.in_ok-element.ensures.binding in
     let needs : needs_of s.net (element_view c.in_ok-element.element) ≡ gives c.in_ok-needs.needs = ap (λ n. needs_of (net_view n) (element_view c.in_ok-element.element)) (sym c.deref.ensures) ∙ c.in_ok-needs.ensures.needs in
-    let outputs : outputs_of s.net (element_view c.in_ok-element.element) s.clock ≡ gives c.in-Ok.outputs = ap (λ n. outputs_of (net_view n) (element_view c.in_ok-element.element) s.clock) (sym c.deref-2.ensures) ∙ c.in-Ok.ensures.outputs in
+    let outputs : outputs_of s.net (element_view c.in_ok-element.element) c.args.progress.now.clock ≡ gives c.in-Ok.outputs = ap (λ n. outputs_of (net_view n) (element_view c.in_ok-element.element) c.args.progress.now.clock) (sym c.deref-2.ensures) ∙ c.in-Ok.ensures.outputs in
     let drawn = c.pick-position.ensures.drawn c.args.setup.now.seed (length old.occurrences.items) c.requires.running.draw in
     let next = c.pick-position.ensures.next c.args.setup.now.seed (length old.occurrences.items) c.requires.running.draw in
-    let claimed : HasClaimed s old.occurrences.items old.marking = record {
+    let claimed : HasClaimed s old.clock old.occurrences.items old.marking = record {
       entries = c.args.entries.now;
       position = c.pick-position.result;
       entry = c.ready_entry-drawn.result.now;
@@ -68,7 +65,7 @@ returns-in_ok-push-in-Ok-clause-running c = λ none.
       entry_is = c.ready_entry-drawn.ensures.entry;
       element_is = same;
     } in
-    let did : HasPlayed s old.journal.items c.push-2.new.self.items old.occurrences.items c.push-in-Ok.new.self.items old.marking c.add_made.new.self = record {
+    let did : HasPlayed s old.clock old.journal.items c.push-2.new.self.items old.occurrences.items c.push-in-Ok.new.self.items old.marking c.add_made.new.self = record {
       claimed = claimed;
       needs = c.in_ok-needs.needs;
       outputs = c.in-Ok.outputs;
@@ -79,8 +76,8 @@ returns-in_ok-push-in-Ok-clause-running c = λ none.
       marking_is = search rules;
     } in
     record {
-      way = played s old.journal.items c.push-2.new.self.items old.occurrences.items c.push-in-Ok.new.self.items old.marking c.add_made.new.self c.requires.playable did c.requires.running.way;
-      marking = kept_marking s old.journal.items c.push-2.new.self.items old.occurrences.items c.push-in-Ok.new.self.items old.marking c.add_made.new.self c.requires.playable did c.requires.running.marking;
+      way = played s old.clock old.journal.items c.push-2.new.self.items old.occurrences.items c.push-in-Ok.new.self.items old.marking c.add_made.new.self c.requires.playable did c.requires.running.way;
+      marking = kept_marking s old.clock old.journal.items c.push-2.new.self.items old.occurrences.items c.push-in-Ok.new.self.items old.marking c.add_made.new.self c.requires.playable did c.requires.running.marking;
       draw = next ∙ ap (generator c.args.setup.now.seed) (search rules);
     }
 
@@ -89,10 +86,10 @@ returns-in_ok-push-in-Err-Fault-clause-ended c =
     let s = setup_view c.args.setup.now in
     let old = c.args.progress.now in
     let same : element_view c.in_ok-element.element ≡ (entry_view c.ready_entry-drawn.result.now).element = ap₂ (λ t b. record { transition = t; binding = b }) c.in_ok-element.ensures.transition c.in_ok-element.ensures.binding in
-    let told : outputs_of (net_view c.deref-2.result.now) (element_view c.in_ok-element.element) s.clock ≡ faults (fault_view c.in-Err-Fault.fault) = search rules in
-    let fault : outputs_of s.net (element_view c.in_ok-element.element) s.clock ≡ faults (fault_view c.in-Err-Fault.fault) = ap (λ n. outputs_of (net_view n) (element_view c.in_ok-element.element) s.clock) (sym c.deref-2.ensures) ∙ told in
+    let told : outputs_of (net_view c.deref-2.result.now) (element_view c.in_ok-element.element) c.args.progress.now.clock ≡ faults (fault_view c.in-Err-Fault.fault) = search rules in
+    let fault : outputs_of s.net (element_view c.in_ok-element.element) c.args.progress.now.clock ≡ faults (fault_view c.in-Err-Fault.fault) = ap (λ n. outputs_of (net_view n) (element_view c.in_ok-element.element) c.args.progress.now.clock) (sym c.deref-2.ensures) ∙ told in
     let drawn = c.pick-position.ensures.drawn c.args.setup.now.seed (length old.occurrences.items) c.requires.running.draw in
-    let claimed : HasClaimed s old.occurrences.items old.marking = record {
+    let claimed : HasClaimed s old.clock old.occurrences.items old.marking = record {
       entries = c.args.entries.now;
       position = c.pick-position.result;
       entry = c.ready_entry-drawn.result.now;
@@ -105,12 +102,12 @@ returns-in_ok-push-in-Err-Fault-clause-ended c =
       entry_is = c.ready_entry-drawn.ensures.entry;
       element_is = same;
     } in
-    let did : HasFaulted s old.journal.items c.push-in-Err-Fault.new.self.items old.occurrences.items old.marking (ends.Fault c.in_ok-element.element c.in-Err-Fault.fault) = record {
+    let did : HasFaulted s old.clock old.journal.items c.push-in-Err-Fault.new.self.items old.occurrences.items old.marking (ends.Fault c.in_ok-element.element c.in-Err-Fault.fault) = record {
       claimed = claimed;
       fault = c.in-Err-Fault.fault;
       fault_is = fault;
       journal_is = search rules;
       cause_is = refl;
     } in
-    let after : Progress = record { marking = old.marking; occurrences = old.occurrences; journal = c.push-in-Err-Fault.new.self; draw = c.pick-position.new.self } in
-    faulted s old.journal.items old.occurrences.items old.marking after (ends.Fault c.in_ok-element.element c.in-Err-Fault.fault) c.requires.playable did refl refl c.requires.running.way
+    let after : Progress = record { clock = old.clock; marking = old.marking; occurrences = old.occurrences; journal = c.push-in-Err-Fault.new.self; draw = c.pick-position.new.self } in
+    faulted s old.clock old.journal.items old.occurrences.items old.marking after (ends.Fault c.in_ok-element.element c.in-Err-Fault.fault) c.requires.playable did refl refl refl c.requires.running.way

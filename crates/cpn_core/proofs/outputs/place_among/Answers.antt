@@ -4,7 +4,7 @@ use Rattle.std.proofs.lemmas.List.Sorted.{IsPartitionPoint-from_clause}
 use Rattle.cpn_definitions.specs.Occurrence.{made_cmp}
 use Rattle.cpn_definitions.proofs.TokenOrder.{made_cmp_total}
 use Rattle.cpn_core.specs.OutputsViews.{made_view}
-use Rattle.cpn_core.proofs.InsertPlaces.{divided_by_item, item_place}
+use Rattle.cpn_definitions.proofs.InsertPlaces.{divided_by_item, item_place}
 use Rattle.cpn_core.proofs.outputs.place_among.Goals as goal
 
 pub returns-clause-place : goal.returns-clause-place

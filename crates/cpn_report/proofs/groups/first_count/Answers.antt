@@ -1,7 +1,7 @@
 -- The group ends at the first token that is another, or with the last token.
 use Rattle.std.proofs.Common.{◌≡◌, ◌<◌, ◌≤◌, ◌∙◌, ap₂, false, true, length, rules, arith}
 use Rattle.std.proofs.lemmas.List.{length-map}
-use Rattle.cpn_core.specs.Tokens.{token_view, tokens_view}
+use Rattle.cpn_marking.specs.Tokens.{token_view, tokens_view}
 use Rattle.cpn_report.specs.Report.{same_token}
 use Rattle.cpn_report.proofs.EqualTokens.{next_run, ended_run, whole_run, seen_at}
 use Rattle.cpn_report.proofs.groups.first_count.Goals as goal

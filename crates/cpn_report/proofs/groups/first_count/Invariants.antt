@@ -1,7 +1,7 @@
 -- The tokens so far are of the first one's group.
 use Rattle.std.proofs.Common.{◌≡◌, get_or, drop}
 use Rattle.cpn_definitions.specs.Marking.{PlainToken}
-use Rattle.cpn_core.specs.Tokens.{tokens_view}
+use Rattle.cpn_marking.specs.Tokens.{tokens_view}
 use Rattle.cpn_report.specs.Report.{groups}
 use Rattle.cpn_report.proofs.EqualTokens.{run}
 use Rattle.cpn_report.proofs.groups.first_count.Given as goal

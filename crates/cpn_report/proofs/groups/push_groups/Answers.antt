@@ -6,7 +6,7 @@ use Rattle.std.specs.String.{string_bytes}
 use Rattle.cpn_definitions.specs.Sound.{may_hold}
 use Rattle.cpn_core.specs.Colours.{colour_view}
 use Rattle.cpn_core.specs.Nets.{net_view}
-use Rattle.cpn_core.specs.Tokens.{token_view}
+use Rattle.cpn_marking.specs.Tokens.{token_view}
 use Rattle.cpn_report.specs.Report.{group_text}
 use Rattle.cpn_report.proofs.PrintableNets.{passes_seen}
 use Rattle.cpn_report.proofs.EqualTokens.{group_more, group_last}

@@ -4,7 +4,7 @@ use Rattle.std.specs.Prelude.{codes}
 use Rattle.std.specs.String.{string_bytes}
 use Rattle.cpn_core.specs.Colours.{colour_view}
 use Rattle.cpn_core.specs.Nets.{net_view}
-use Rattle.cpn_core.specs.Tokens.{tokens_view}
+use Rattle.cpn_marking.specs.Tokens.{tokens_view}
 use Rattle.cpn_report.specs.Report.{groups, group_text}
 use Rattle.cpn_report.specs.ValueText.{joined}
 use Rattle.cpn_report.proofs.groups.push_groups.Given as goal

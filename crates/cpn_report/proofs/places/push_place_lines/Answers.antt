@@ -5,7 +5,7 @@ use Rattle.std.specs.List.{list_all}
 use Rattle.cpn_definitions.specs.Sound.{may_hold}
 use Rattle.cpn_definitions.specs.Named.{is_named}
 use Rattle.cpn_core.specs.Nets.{net_view, place_view}
-use Rattle.cpn_core.specs.Tokens.{tokens_view}
+use Rattle.cpn_marking.specs.Tokens.{tokens_view}
 use Rattle.cpn_report.proofs.PrintableNets.{passes_seen, held_at, entries_count}
 use Rattle.cpn_report.proofs.EqualTokens.{seen_at}
 use Rattle.cpn_report.proofs.places.push_place_lines.Goals as goal

@@ -3,7 +3,7 @@ use Rattle.std.proofs.Common.{rules}
 use Rattle.std.proofs.lemmas.List.Sorted.{IsPartitionPoint-from_clause}
 use Rattle.cpn_definitions.proofs.DividedLists.{divided_views}
 use Rattle.cpn_definitions.proofs.SortedTokens.{divided_tokens}
-use Rattle.cpn_core.specs.Tokens.{token_view}
+use Rattle.cpn_marking.specs.Tokens.{token_view}
 use Rattle.cpn_search.specs.Stretches.{is_at_most}
 use Rattle.cpn_search.proofs.Stretches.{at_most_too}
 use Rattle.cpn_core.specs.Views.{value_view}

@@ -1,6 +1,6 @@
 -- The values so far, and those of the tokens that are left, are those of all.
 use Rattle.std.proofs.Common.{◌≡◌, ◌++◌, ◌-◌, drop, length}
-use Rattle.cpn_core.specs.Tokens.{tokens_view}
+use Rattle.cpn_marking.specs.Tokens.{tokens_view}
 use Rattle.cpn_search.specs.Values.{values_of}
 use Rattle.cpn_search.specs.TrialViews.{pointed_view}
 use Rattle.cpn_search.proofs.tokens.values_of.Given as goal

@@ -20,7 +20,7 @@ push_next-requires-clause-declared c =
 pub push_next-requires-clause-meaning : goal.push_next-requires-clause-meaning
 push_next-requires-clause-meaning c =
     next_means (net_view c.args.net.now) c.args.marking.now c.args.t (trials_view c.args.trials.now) (all_under_way c.args.ahead.now.items) (under_way_view c.args.next.now) (map found_view c.args.found.now.items) c.requires.state
-    (solvable_at c.args.net.now c.args.t c.requires.solvable c.requires.in_range) (trial_view c.index-trials-next.result) _ (trials_go_on c.args.trials.now c.args.next.now.tried c.index-trials-next.result (omega arith) c.index-trials-next.is)
+    (solvable_at c.args.net.now c.args.t c.requires.sound c.requires.in_range) (trial_view c.index-trials-next.result) _ (trials_go_on c.args.trials.now c.args.next.now.tried c.index-trials-next.result (omega arith) c.index-trials-next.is)
 
 pub returns : goal.returns
 returns c = record {

@@ -10,6 +10,6 @@ use Rattle.cpn_book.proofs.books.Book.run_alone.Given as goal
 abbrev pub invariant-rounds : goal.invariant-rounds
 invariant-rounds l = record {
   running : IsRunning (setup_view l.setup) l.progress;
-  enabled : Enabled (net_view l.setup.net.value) l.progress.marking l.setup.clock (map entry_view l.entries.items);
+  enabled : Enabled (net_view l.setup.net.value) l.progress.marking l.progress.clock (map entry_view l.entries.items);
   count : length l.progress.occurrences.items ≡ l._number;
 }

@@ -2,7 +2,7 @@
 use Rattle.cpn_definitions.specs.Occurrence.{needed_cmp}
 use Rattle.cpn_definitions.proofs.TokenOrder.{needed_cmp_total}
 use Rattle.cpn_core.specs.NeedsViews.{needed_view}
-use Rattle.cpn_core.proofs.InsertPlaces.{inserted_views, inserted_in_order}
+use Rattle.cpn_definitions.proofs.InsertPlaces.{inserted_views, inserted_in_order}
 use Rattle.cpn_core.proofs.needs.Needs.add.Goals as goal
 
 pub returns-clause-added : goal.returns-clause-added

@@ -2,7 +2,7 @@
 use Rattle.cpn_definitions.specs.Occurrence.{made_cmp}
 use Rattle.cpn_definitions.proofs.TokenOrder.{made_cmp_total}
 use Rattle.cpn_core.specs.OutputsViews.{made_view}
-use Rattle.cpn_core.proofs.InsertPlaces.{inserted_views, inserted_in_order}
+use Rattle.cpn_definitions.proofs.InsertPlaces.{inserted_views, inserted_in_order}
 use Rattle.cpn_core.proofs.outputs.Outputs.add.Goals as goal
 
 pub returns-clause-added : goal.returns-clause-added

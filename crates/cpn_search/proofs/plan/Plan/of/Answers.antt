@@ -3,14 +3,11 @@ use Rattle.std.proofs.Common.{ap, ◌∙◌}
 use Rattle.std.specs.List.{flat_map}
 use Rattle.cpn_core.specs.Nets.{arcs_view, net_view, transition_view}
 use Rattle.cpn_search.specs.StageViews.{carried_stages, stages_view}
-use Rattle.cpn_search.proofs.PlanSteps.{sound_at, solvable_transition, left_at_first, stages_of, stages_at, carried_have_all}
+use Rattle.cpn_search.proofs.PlanSteps.{sound_at, left_at_first, stages_of, stages_at, carried_have_all}
 use Rattle.cpn_search.proofs.plan.Plan.of.Goals as goal
 
 pub push_further-requires-clause-sound : goal.push_further-requires-clause-sound
 push_further-requires-clause-sound c = sound_at c.args.net.now c.args.t c.index-transition.result.now c.requires.sound c.requires.in_range c.index-transition.ensures
-
-pub push_further-requires-clause-solvable : goal.push_further-requires-clause-solvable
-push_further-requires-clause-solvable c = solvable_transition c.args.net.now c.args.t c.index-transition.result.now c.requires.solvable c.requires.in_range c.index-transition.ensures
 
 pub push_further-requires-clause-left : goal.push_further-requires-clause-left
 push_further-requires-clause-left c =

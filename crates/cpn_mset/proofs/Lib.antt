@@ -1,0 +1,4 @@
+pub mod KeyedEntries
+pub mod Appearances
+pub mod CoveredMSets
+pub mod Rows

@@ -1,0 +1,3 @@
+pub mod MSets
+pub mod SameMSets
+pub mod Views

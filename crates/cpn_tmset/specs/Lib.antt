@@ -1,0 +1,12 @@
+pub mod Limits
+pub mod Stamps
+pub mod StampCounts
+pub mod Codes
+pub mod TMSets
+pub mod Views
+pub mod Covering
+pub mod Listed
+pub mod Picks
+pub mod PicksViews
+pub mod NeedPositions
+pub mod ListedViews
