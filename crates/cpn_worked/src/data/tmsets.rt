@@ -111,7 +111,64 @@ const TABLE: &str =
 7@3 | 7x1 7x1 -> 7@3x1 = 1 of 1 never took left 7@3x1 = 1 of 1
 7@3 7@3 7@3 | 7x0 8x0 -> 7@3x3 = 3 of 1 from 0 took left 7@3x3 = 3 of 1
 7@10 7@11 6@0 | 7x1 6x1 -> 6@0x1 7@10x1 7@11x1 = 3 of 2 from 10 took 6@0 7@10 left 7@11x1 = 1 of 1
- | -> = 0 of 0 from 0 took left = 0 of 0";
+ | -> = 0 of 0 from 0 took left = 0 of 0
+7@3 | 7x1 -> 7@3x1 = 1 of 1 from 3 took 7@3 left = 0 of 0
+7@3 | 7x2 -> 7@3x1 = 1 of 1 never took left 7@3x1 = 1 of 1
+7@3 | 7x3 -> 7@3x1 = 1 of 1 never took left 7@3x1 = 1 of 1
+7@10 | 7x1 -> 7@10x1 = 1 of 1 from 10 took 7@10 left = 0 of 0
+7@10 | 7x2 -> 7@10x1 = 1 of 1 never took left 7@10x1 = 1 of 1
+7@11 | 7x1 -> 7@11x1 = 1 of 1 from 11 took left 7@11x1 = 1 of 1
+7@11 | 7x2 -> 7@11x1 = 1 of 1 never took left 7@11x1 = 1 of 1
+7@3 7@3 | 7x1 -> 7@3x2 = 2 of 1 from 3 took 7@3 left 7@3x1 = 1 of 1
+7@3 7@3 | 7x2 -> 7@3x2 = 2 of 1 from 3 took 7@3 7@3 left = 0 of 0
+7@3 7@3 | 7x3 -> 7@3x2 = 2 of 1 never took left 7@3x2 = 2 of 1
+7@10 7@3 | 7x1 -> 7@3x1 7@10x1 = 2 of 1 from 3 took 7@10 left 7@3x1 = 1 of 1
+7@10 7@3 | 7x2 -> 7@3x1 7@10x1 = 2 of 1 from 10 took 7@10 7@3 left = 0 of 0
+7@10 7@3 | 7x3 -> 7@3x1 7@10x1 = 2 of 1 never took left 7@3x1 7@10x1 = 2 of 1
+7@3 7@11 | 7x1 -> 7@3x1 7@11x1 = 2 of 1 from 3 took 7@3 left 7@11x1 = 1 of 1
+7@3 7@11 | 7x2 -> 7@3x1 7@11x1 = 2 of 1 from 11 took left 7@3x1 7@11x1 = 2 of 1
+7@3 7@11 | 7x3 -> 7@3x1 7@11x1 = 2 of 1 never took left 7@3x1 7@11x1 = 2 of 1
+7@10 7@10 | 7x1 -> 7@10x2 = 2 of 1 from 10 took 7@10 left 7@10x1 = 1 of 1
+7@10 7@10 | 7x2 -> 7@10x2 = 2 of 1 from 10 took 7@10 7@10 left = 0 of 0
+7@10 7@10 | 7x3 -> 7@10x2 = 2 of 1 never took left 7@10x2 = 2 of 1
+7@11 7@10 | 7x1 -> 7@10x1 7@11x1 = 2 of 1 from 10 took 7@10 left 7@11x1 = 1 of 1
+7@11 7@10 | 7x2 -> 7@10x1 7@11x1 = 2 of 1 from 11 took left 7@10x1 7@11x1 = 2 of 1
+7@11 7@10 | 7x3 -> 7@10x1 7@11x1 = 2 of 1 never took left 7@10x1 7@11x1 = 2 of 1
+7@11 7@11 | 7x1 -> 7@11x2 = 2 of 1 from 11 took left 7@11x2 = 2 of 1
+7@11 7@11 | 7x2 -> 7@11x2 = 2 of 1 from 11 took left 7@11x2 = 2 of 1
+7@11 7@11 | 7x3 -> 7@11x2 = 2 of 1 never took left 7@11x2 = 2 of 1
+7@9 7@0 7@3 | 7x1 -> 7@0x1 7@3x1 7@9x1 = 3 of 1 from 0 took 7@9 left 7@0x1 7@3x1 = 2 of 1
+7@9 7@0 7@3 | 7x2 -> 7@0x1 7@3x1 7@9x1 = 3 of 1 from 3 took 7@9 7@3 left 7@0x1 = 1 of 1
+7@9 7@0 7@3 | 7x3 -> 7@0x1 7@3x1 7@9x1 = 3 of 1 from 9 took 7@9 7@3 7@0 left = 0 of 0
+7@3 7@10 7@9 | 7x1 -> 7@3x1 7@9x1 7@10x1 = 3 of 1 from 3 took 7@10 left 7@3x1 7@9x1 = 2 of 1
+7@3 7@10 7@9 | 7x2 -> 7@3x1 7@9x1 7@10x1 = 3 of 1 from 9 took 7@10 7@9 left 7@3x1 = 1 of 1
+7@3 7@10 7@9 | 7x3 -> 7@3x1 7@9x1 7@10x1 = 3 of 1 from 10 took 7@10 7@9 7@3 left = 0 of 0
+7@11 7@9 7@10 | 7x1 -> 7@9x1 7@10x1 7@11x1 = 3 of 1 from 9 took 7@10 left 7@9x1 7@11x1 = 2 of 1
+7@11 7@9 7@10 | 7x2 -> 7@9x1 7@10x1 7@11x1 = 3 of 1 from 10 took 7@10 7@9 left 7@11x1 = 1 of 1
+7@11 7@9 7@10 | 7x3 -> 7@9x1 7@10x1 7@11x1 = 3 of 1 from 11 took left 7@9x1 7@10x1 7@11x1 = 3 of 1
+7@3 7@10 7@3 7@10 | 7x1 -> 7@3x2 7@10x2 = 4 of 1 from 3 took 7@10 left 7@3x2 7@10x1 = 3 of 1
+7@3 7@10 7@3 7@10 | 7x2 -> 7@3x2 7@10x2 = 4 of 1 from 3 took 7@10 7@10 left 7@3x2 = 2 of 1
+7@3 7@10 7@3 7@10 | 7x3 -> 7@3x2 7@10x2 = 4 of 1 from 10 took 7@10 7@10 7@3 left 7@3x1 = 1 of 1
+7@20 7@0 7@11 | 7x1 -> 7@0x1 7@11x1 7@20x1 = 3 of 1 from 0 took 7@0 left 7@11x1 7@20x1 = 2 of 1
+7@20 7@0 7@11 | 7x2 -> 7@0x1 7@11x1 7@20x1 = 3 of 1 from 11 took left 7@0x1 7@11x1 7@20x1 = 3 of 1
+7@20 7@0 7@11 | 7x3 -> 7@0x1 7@11x1 7@20x1 = 3 of 1 from 20 took left 7@0x1 7@11x1 7@20x1 = 3 of 1
+7@3 8@3 | 7x1 8x1 -> 7@3x1 8@3x1 = 2 of 2 from 3 took 7@3 8@3 left = 0 of 0
+8@11 7@3 | 7x1 8x1 -> 7@3x1 8@11x1 = 2 of 2 from 11 took left 7@3x1 8@11x1 = 2 of 2
+7@11 8@3 | 8x1 -> 7@11x1 8@3x1 = 2 of 2 from 3 took 8@3 left 7@11x1 = 1 of 1
+7@10 8@10 7@3 8@9 8@11 | 7x2 8x1 -> 7@3x1 7@10x1 8@9x1 8@10x1 8@11x1 = 5 of 2 from 10 took 7@10 7@3 8@10 left 8@9x1 8@11x1 = 2 of 1
+7@10 8@10 7@3 8@9 8@11 | 7x1 8x3 -> 7@3x1 7@10x1 8@9x1 8@10x1 8@11x1 = 5 of 2 from 11 took left 7@3x1 7@10x1 8@9x1 8@10x1 8@11x1 = 5 of 2
+7@10 8@10 7@3 8@9 8@11 | 8x2 7x1 -> 7@3x1 7@10x1 8@9x1 8@10x1 8@11x1 = 5 of 2 from 10 took 7@10 8@10 8@9 left 7@3x1 8@11x1 = 2 of 2
+7@4 8@5 | 7x0 8x1 -> 7@4x1 8@5x1 = 2 of 2 from 5 took 8@5 left 7@4x1 = 1 of 1
+7@4 8@5 | 6x1 7x1 -> 7@4x1 8@5x1 = 2 of 2 never took left 7@4x1 8@5x1 = 2 of 2
+7@4 8@5 | -> 7@4x1 8@5x1 = 2 of 2 from 0 took left 7@4x1 8@5x1 = 2 of 2
+9@1 8@1 7@1 | 9x1 7x1 -> 7@1x1 8@1x1 9@1x1 = 3 of 3 from 1 took 7@1 9@1 left 8@1x1 = 1 of 1
+-1@5 7@5 -1@2 | -1x2 -> -1@2x1 -1@5x1 7@5x1 = 3 of 2 from 5 took -1@5 -1@2 left 7@5x1 = 1 of 1
+-1@5 7@5 -1@2 | -1x1 7x1 -> -1@2x1 -1@5x1 7@5x1 = 3 of 2 from 5 took -1@5 7@5 left -1@2x1 = 1 of 1
+7@4611686018427387904 | 7x1 -> 7@4611686018427387904x1 = 1 of 1 from 4611686018427387904 took left 7@4611686018427387904x1 = 1 of 1
+7@18446744073709551615 7@0 | 7x1 -> 7@0x1 7@18446744073709551615x1 = 2 of 1 from 0 took 7@0 left 7@18446744073709551615x1 = 1 of 1
+7@18446744073709551615 7@0 | 7x2 -> 7@0x1 7@18446744073709551615x1 = 2 of 1 from 18446744073709551615 took left 7@0x1 7@18446744073709551615x1 = 2 of 1
+7@2 7@2 7@2 7@9 7@9 | 7x4 -> 7@2x3 7@9x2 = 5 of 1 from 9 took 7@9 7@9 7@2 7@2 left 7@2x1 = 1 of 1
+7@2 7@2 7@2 7@9 7@9 | 7x1 7x2 -> 7@2x3 7@9x2 = 5 of 1 from 2 took 7@9 7@9 7@2 left 7@2x2 = 2 of 1";
 
 #[test]
 fn a_place_covers_a_multiset_as_the_table_says(rt: HostRuntime) -> Result<(), Fail> {
@@ -141,5 +198,24 @@ fn many_tokens_are_taken(rt: HostRuntime) -> Result<(), Fail> {
     assert!(rt; text.as_str().starts_with(" from 5 7@5 7@3 7@3"));
     assert!(rt; text.as_str().ends_with(" 7@3 7@3 1000@5"));
     assert!(rt; place.total() == 999 && !place.holds(&Value::Int(7)));
+    Ok(())
+}
+
+// Takes the other from the multiset, if that covers it.
+fn is_less(need: &mut MSet, other: &MSet) -> bool {
+    if need.covers(other) {
+        need.subtract(other);
+        return true;
+    }
+    false
+}
+
+#[test]
+fn a_multiset_is_taken_from_one_that_covers_it(rt: HostRuntime) -> Result<(), Fail> {
+    let mut need = need_of(rt.alloc(), &[(7, 3), (8, 1)])?;
+    let mut other = need_of(rt.alloc(), &[(7, 2), (8, 1)])?;
+    assert!(rt; !is_less(&mut other, &need) && is_less(&mut need, &other));
+    assert!(rt; need.count(&Value::Int(7)) == 1 && need.count(&Value::Int(8)) == 0);
+    assert!(rt; other.count(&Value::Int(7)) == 2 && !need.covers(&other));
     Ok(())
 }
