@@ -1,14 +1,16 @@
 -- A run of one seat from its start to its end: the clock moves, and the run ends by its limit where all rounds were played, dead
 -- where nothing is enabled at any time, and past its time where nothing is enabled up to the last that it may reach.
-use Rattle.std.proofs.Common.{◌≡◌, ℕ, ◌<◌, ◌≤◌, List, [], ◌∷◌, ◌++◌, length, map, Some, None, refl, sym, ap, ◌∙◌, subst, arith}
+use Rattle.std.proofs.Common.{◌≡◌, ℕ, ◌-◌, ◌^◌, ◌<◌, ◌≤◌, List, [], ◌∷◌, ◌++◌, length, map, Some, None, refl, sym, ap, ◌∙◌, subst, arith}
 use Rattle.std.proofs.lemmas.List.{length-map}
+use Rattle.cpn_definitions.specs.Bounds.{IsBounded}
 use Rattle.cpn_definitions.specs.Marking.{Marking}
 use Rattle.cpn_definitions.specs.Enabled.{PlainEntry, Enabled, next_time}
+use Rattle.cpn_definitions.proofs.BoundedMarkings.{bounded_by}
 use Rattle.cpn_definitions.proofs.UntimedPlaces.{marking_stamped}
 use Rattle.cpn_draw.specs.Draw.{generator}
 use Rattle.cpn_runs.specs.declared.events.Event.{Event}
 use Rattle.cpn_runs.specs.declared.events.Event.TheVariants as events
-use Rattle.cpn_runs.specs.State.{PlainSetup, PlainEvent, clock_moved, PlainEnd, dead, steps_made, until_passed}
+use Rattle.cpn_runs.specs.State.{PlainSetup, PlainEvent, PlainEnd, dead, steps_made, until_passed}
 use Rattle.cpn_runs.specs.Run.{HasOutlook, PlainFinished, IsRun}
 use Rattle.cpn_runs.specs.Rounds.{IsUnderWay, IsOver}
 use Rattle.cpn_runs.specs.Views.{occurrence_view, event_view}
@@ -16,7 +18,7 @@ use Rattle.cpn_runs.proofs.Items.{map_more}
 use Rattle.cpn_runs.proofs.Rounds.{begins, move_more}
 use Rattle.cpn_runs.proofs.RunEnds.{ended}
 use Rattle.cpn_runs.proofs.States.{every_state}
-use Rattle.cpn_book.specs.Playable.{IsPlayable}
+use Rattle.cpn_book.specs.Playable.{most_after, IsPlayable}
 use Rattle.cpn_book.specs.Progress.{IsRunning, HasEnded}
 use Rattle.cpn_book.specs.Shown.{outlook_at, shown}
 use Rattle.cpn_book.specs.declared.run_progress.Progress.{Progress}
@@ -27,6 +29,7 @@ pub starts : (setup : PlainSetup) (p : Progress) → IsPlayable setup → p.cloc
 starts setup p playable clock marking occurrences journal draw = record {
   way = rw (occurrences, journal, marking, clock) (begins setup (marking_stamped setup.net setup.start playable.marking) playable.clock);
   marking = rw marking playable.marking;
+  bounded = rw (marking, occurrences) playable.bounded;
   draw = rw occurrences draw;
 }
 
@@ -46,6 +49,10 @@ moves setup p entries time J' running enabled next in_time before below journal 
     (record { none_ready = λ e. least.none_earlier p.clock e (omega arith) before; least = least; in_time = in_time; below_limit = omega arith }))
 
 -- ---- the end
+
+-- the marking of a run that ends is bounded: it has fewer than 2^48 tokens on each place
+pub ends_bounded : (setup : PlainSetup) (occurrences : ℕ) (m : Marking) → IsPlayable setup → occurrences ≤ setup.limits.steps → IsBounded (most_after occurrences) m → IsBounded (2 ^ 48 - 1) m
+ends_bounded setup occurrences m playable le is = let steps = playable.steps in bounded_by (most_after occurrences) (2 ^ 48 - 1) m (omega (arith, le, steps)) is
 
 -- the outlook of what is enabled
 seen : (setup : PlainSetup) (m : Marking) (clock : ℕ) (entries : List PlainEntry) → Enabled setup.net m clock entries → HasOutlook setup m clock (outlook_at clock entries)

@@ -1,16 +1,22 @@
 -- A round as the code plays it: which element it draws, what it takes and makes, and what it notes. It keeps a run under way,
 -- or ends it by a fault.
-use Rattle.std.proofs.Common.{◌≡◌, ℕ, ◌<◌, ◌%◌, ◌==◌, true, List, [], ◌∷◌, ◌++◌, length, map, Some, sym, ap, ◌∙◌, subst, slice_get, arith, eqb-true}
+use Rattle.std.proofs.Common.{◌≡◌, ℕ, ◌+◌, ◌<◌, ◌≤◌, ◌%◌, ◌==◌, true, List, [], ◌∷◌, ◌++◌, length, map, Some, sym, ap, ◌∙◌, subst, slice_get, arith, eqb-true}
 use Rattle.std.proofs.Math.Path.{ap₂}
 use Rattle.std.proofs.lemmas.Bool.{and_parts}
-use Rattle.std.proofs.lemmas.List.{length-map}
+use Rattle.std.proofs.lemmas.List.{length-map, length-append}
+use Rattle.cpn_definitions.specs.Bounds.{most_made, IsBounded}
 use Rattle.cpn_definitions.specs.Marking.{Marking}
 use Rattle.cpn_definitions.specs.Net.{PlainNet}
 use Rattle.cpn_definitions.specs.Outcome.{gives, faults}
 use Rattle.cpn_definitions.specs.Occurrence.{PlainElement, Needed, Made, threshold, threshold_in, are_covered, may_occur, needs_of, covered, outputs_of, subtract, add_made}
 use Rattle.cpn_definitions.specs.Enabled.{PlainEntry, Enabled, ready}
 use Rattle.cpn_definitions.specs.Sound.{Gives, IsMarking}
+use Rattle.cpn_definitions.specs.Times.{last_time}
+use Rattle.cpn_definitions.proofs.BoundedMarkings.{bounded_by, taken_bounded, made_bounded}
+use Rattle.cpn_definitions.proofs.LegalSequences.{covered_is_bound}
 use Rattle.cpn_definitions.proofs.Outcomes.{gives_and_parts}
+use Rattle.cpn_definitions.proofs.PlaceCounts.{outputs_are_few}
+use Rattle.cpn_definitions.proofs.SoundElements.{sound_transition}
 use Rattle.cpn_definitions.proofs.RisingLists.{in_filter_from, contains_from_in}
 use Rattle.cpn_definitions.proofs.Markings.{occurred_marking}
 use Rattle.cpn_core.specs.declared.bindings.Element.{Element}
@@ -31,7 +37,8 @@ use Rattle.cpn_runs.specs.Rounds.{IsUnderWay, IsClaimed, IsRound, IsFaultyRound,
 use Rattle.cpn_runs.proofs.Items.{map_more, in_from_get}
 use Rattle.cpn_runs.proofs.Rounds.{round_more}
 use Rattle.cpn_runs.proofs.RunEnds.{ended_by_fault}
-use Rattle.cpn_book.specs.Playable.{IsPlayable}
+use Rattle.cpn_tmset.specs.Limits.{HaveRoomFor}
+use Rattle.cpn_book.specs.Playable.{most_after, IsPlayable}
 use Rattle.cpn_book.specs.Progress.{HasEnded}
 use Rattle.cpn_book.specs.declared.run_progress.Progress.{Progress}
 
@@ -50,6 +57,26 @@ unfolding covered
 covered_needs_given n m time e is =
     let needs = gives_and_parts (needs_of n e) (are_covered (threshold_in n time) m) (and_parts (may_occur n e) _ is).1 in
     (needs.0, needs.1)
+
+-- ---- the bounds
+
+-- there is room for what the drawn element makes
+pub has_room : (setup : PlainSetup) (occurrences clock : ℕ) (needs : List Needed) (outputs : List Made) (e : PlainElement) (M : Marking) → IsPlayable setup → occurrences < setup.limits.steps
+    → covered setup.net M clock e ≡ true → outputs_of setup.net e clock ≡ gives outputs → IsBounded (most_after occurrences) M → HaveRoomFor (length outputs) (subtract (threshold clock) needs M)
+has_room setup occurrences clock needs outputs e M playable below is outputs_are bounded =
+    λ p. let left = (taken_bounded (threshold clock) needs M (most_after occurrences) bounded).few p in
+    let steps = playable.steps in
+    let made = outputs_are_few setup.net e clock outputs (sound_transition setup.net e.transition playable.sound (and_parts _ _ (covered_is_bound setup.net M clock e is)).0) outputs_are in
+    omega (arith, left, steps, below, made)
+
+-- after it occurred the marking is bounded
+pub occurred_bounded : (setup : PlainSetup) (occurrences clock : ℕ) (needs : List Needed) (outputs : List Made) (e : PlainElement) (M : Marking) → IsPlayable setup → clock ≤ last_time
+    → covered setup.net M clock e ≡ true → outputs_of setup.net e clock ≡ gives outputs → IsBounded (most_after occurrences) M → IsBounded (most_after (occurrences + 1)) (add_made outputs (subtract (threshold clock) needs M))
+occurred_bounded setup occurrences clock needs outputs e M playable early is outputs_are bounded =
+    let left = taken_bounded (threshold clock) needs M (most_after occurrences) bounded in
+    let sound = sound_transition setup.net e.transition playable.sound (and_parts _ _ (covered_is_bound setup.net M clock e is)).0 in
+    bounded_by (most_after occurrences + most_made) (most_after (occurrences + 1)) (add_made outputs (subtract (threshold clock) needs M)) (omega arith)
+    (made_bounded setup.net e clock outputs sound early outputs_are (subtract (threshold clock) needs M) (most_after occurrences) left)
 
 -- ---- a round
 
@@ -132,6 +159,20 @@ module _ (setup : PlainSetup) (clock : ℕ) (J J' : List Event) (O O' : List Occ
       let B : List PlainOccurrence → Type 0 = λ o. IsUnderWay setup (played_journal (map event_view J) (map occurrence_view O)) clock o M' in
       let C : Marking → Type 0 = λ m. IsUnderWay setup (played_journal (map event_view J) (map occurrence_view O)) clock (map occurrence_view O ++ next_occurrence clock (map occurrence_view O) (entry_view p.claimed.entry).element ∷ []) m in
       subst A (sym journal_seen) (subst B (sym occurrences_seen) (subst C (sym marking_seen) next))
+
+  -- it has one occurrence more
+  pub one_more : length O' ≡ length O + 1
+  one_more = ap length p.occurrences_are ∙ length-append O _
+
+  -- and its marking bounded
+  pub kept_bounds : clock ≤ last_time → IsBounded (most_after (length O)) M → IsBounded (most_after (length O')) M'
+  kept_bounds early bounded =
+      let e = (entry_view p.claimed.entry).element in
+      let is : covered setup.net M clock e ≡ true = drawn_covered setup.net M clock (map entry_view p.claimed.entries) p.claimed.position (entry_view p.claimed.entry) p.claimed.enabled p.claimed.entry_is in
+      let outputs : outputs_of setup.net e clock ≡ gives p.outputs = ap (λ f. outputs_of setup.net f clock) (sym p.claimed.element_is) ∙ p.outputs_are in
+      subst (λ m. IsBounded (most_after (length O')) m) (sym p.marking_is)
+      (subst (λ (k : ℕ). IsBounded (most_after k) (add_made p.outputs (subtract (threshold clock) p.needs M))) (sym one_more)
+      (occurred_bounded setup (length O) clock p.needs p.outputs e M playable early is outputs bounded))
 
   -- and its marking one of the net's places
   pub kept_marking : IsMarking setup.net.places M → IsMarking setup.net.places M'

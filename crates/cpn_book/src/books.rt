@@ -1,6 +1,7 @@
 //! Books: runs of one seat, from their start to their end.
 
-ghost use Rattle.std.specs.Prelude.{◌≡◌, ◌≤◌, map, IfOk};
+ghost use Rattle.std.specs.Prelude.{◌≡◌, ◌-◌, ◌^◌, ◌≤◌, map, IfOk};
+ghost use Rattle.cpn_definitions.specs.Bounds.{IsBounded};
 ghost use Rattle.cpn_runs.specs.Run.{IsRun};
 ghost use Rattle.cpn_core.specs.Elements.{entry_view};
 ghost use Rattle.cpn_runs.specs.Views.{end_view};
@@ -48,6 +49,8 @@ impl Book {
         ensures run { IfOk result (λ f. IsRun (setup_in self) (finished_view f)) }
         // The clock does not pass the last time that the run may reach.
         ensures in_time { IfOk result (λ f. f.clock ≤ self.setup.limits.until) }
+        // On each place there are fewer than 2^48 tokens, with time stamps of at most three times the last time.
+        ensures bounded { IfOk result (λ f. IsBounded (2 ^ 48 - 1) f.marking) }
     {
         let Book { alloc, setup } = self;
         let mut progress = Progress {

@@ -28,6 +28,7 @@ pub fn reach_next_time(
     ensures running { IfOk result (λ ended. ended ≡ None → IsRunning (setup_view setup.now) progress.new) }
     ensures enabled { IfOk result (λ _. Enabled (net_view setup.now.net.value) progress.new.marking progress.new.clock (map entry_view entries.now)) }
     ensures ready { IfOk result (λ ended. ended ≡ None → 0 < length (ready progress.new.clock (map entry_view entries.now))) }
+    ensures marking { progress.new.marking ≡ progress.old.marking }
     ensures count { IfOk result (λ _. length progress.new.occurrences.items ≡ length progress.old.occurrences.items) }
     ensures ended { IfOk result (λ ended. IfSome ended (λ cause. HasEnded (setup_view setup.now) progress.new (end_view cause))) }
 {

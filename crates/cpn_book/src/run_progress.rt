@@ -1,8 +1,8 @@
 //! How far a run of one seat has come.
 
 use cpn_draw::Draw;
-use cpn_marking::Marking;
 use cpn_runs::{Event, Occurrence};
+use cpn_tmset::Marking;
 
 /// How far a run of one seat has come.
 #[derive(Drop)]

@@ -1,11 +1,10 @@
--- One-to-one codes of values, tokens and markings, by which a type's contract may speak of them.
+-- One-to-one codes of values, needs and outputs, by which a type's contract may speak of them.
 -- A value is coded as a row of marks, its parts before the mark that joins them, and a reader that
 -- keeps the values and the rows read so far gets the value back.
 use Rattle.std.specs.Prelude.{◌≡◌, ℕ, ℤ, pos, Bool, true, false, cond, ◌==◌, List, [], ◌∷◌}
 use Rattle.std.specs.Coded.{Coded, code_by, coded×, coded_ℕ, coded_ℤ, coded_list}
 use Rattle.std.proofs.Common.{refl, ◌∙◌}
 use Rattle.cpn_definitions.specs.Value.{PlainValue, PlainValues, unit, boolean, int, constant, text, tuple, bare, applied, list, none, more}
-use Rattle.cpn_definitions.specs.Marking.{PlainToken, Tokens, Marking}
 use Rattle.cpn_definitions.specs.Occurrence.{Needed, Made}
 
 -- A mark: a value with no parts; a step that joins parts; the empty row; a row's next item.
@@ -121,15 +120,6 @@ mutual
 
 abbrev pub value_code : Coded PlainValue
 value_code = code_by (List Mark) (coded_list mark_code) (λ v. marks v []) (λ ms. read_marks ms [] []) (λ v. reads_value v [] [] [])
-
-abbrev pub token_code : Coded PlainToken
-token_code = code_by (PlainValue × ℕ) (coded× value_code coded_ℕ) (λ t. (t.value, t.stamp)) (λ p. record { value = p.0; stamp = p.1 }) (λ _. refl)
-
-abbrev pub tokens_code : Coded Tokens
-tokens_code = coded_list token_code
-
-abbrev pub marking_code : Coded Marking
-marking_code = coded_list tokens_code
 
 -- the tokens that an element needs, and those that it makes
 abbrev pub PlainNeeds : Type 0

@@ -1,8 +1,8 @@
 //! The data of nets: values with their order, colour sets with the values that they admit, nets with their
-//! inscriptions, bindings, and the tokens that a binding element
-//! needs and makes. Each stands for the plain data of the definitions, and its calls answer exactly what the
-//! definitions say. `Memory` and `Text` of `cpn_memory` are passed on. The crate evaluates no inscription,
-//! knows nothing of what is enabled, and reads and writes nothing outside the program.
+//! inscriptions, bindings, and the tokens that a binding element needs and makes. Each stands for the plain data
+//! of the definitions, and its calls answer exactly what the definitions say. `Memory` and `Text` of `cpn_memory`
+//! are passed on. The crate evaluates no inscription, knows nothing of what is enabled, and reads and writes
+//! nothing outside the program.
 #![tactic(auto)]
 
 mod bindings;

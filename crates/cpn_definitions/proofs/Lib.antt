@@ -38,3 +38,8 @@ pub mod TokenCounts
 pub mod OwnVariables
 pub mod FewerItems
 pub mod SoundElements
+pub mod KeyedEntries
+pub mod DelayBounds
+pub mod PlaceCounts
+pub mod PlaceStamps
+pub mod BoundedMarkings

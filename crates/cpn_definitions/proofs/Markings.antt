@@ -53,7 +53,7 @@ changed_marking places p change m keeps is =
 
 -- ---- taking
 
-all_without : (test : PlainToken → Bool) (v : PlainValue) (t : ℕ) (ks : Tokens) → list_all test ks ≡ true → list_all test (without_token v t ks) ≡ true
+pub all_without : (test : PlainToken → Bool) (v : PlainValue) (t : ℕ) (ks : Tokens) → list_all test ks ≡ true → list_all test (without_token v t ks) ≡ true
 all_without test v t [] all = refl
 all_without test v t (k ∷ ks) all =
     let parts = and_parts (test k) (list_all test ks) all in
@@ -68,7 +68,7 @@ subtracted_marking places latest (need ∷ needs) m is =
 
 -- ---- adding
 
-all_added : (test : PlainToken → Bool) (t : PlainToken) (ks : Tokens) → test t ≡ true → list_all test ks ≡ true → list_all test (add_token t ks) ≡ true
+pub all_added : (test : PlainToken → Bool) (t : PlainToken) (ks : Tokens) → test t ≡ true → list_all test ks ≡ true → list_all test (add_token t ks) ≡ true
 all_added test t [] passes all = and_from _ _ passes refl
 all_added test t (k ∷ ks) passes all =
     let parts = and_parts (test k) (list_all test ks) all in

@@ -19,3 +19,4 @@ pub mod Enabled
 pub mod Sound
 pub mod Named
 pub mod Times
+pub mod Bounds

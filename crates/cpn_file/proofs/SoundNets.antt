@@ -5,7 +5,7 @@ use Rattle.cpn_definitions.specs.Bindable.{binding_terms, IsBindable}
 use Rattle.cpn_definitions.specs.Net.{PlainArc, PlainTransition, Coloured, PlainNet}
 use Rattle.cpn_definitions.specs.Sound.{IsSoundArc, IsSoundInput, IsSoundTransition}
 use Rattle.cpn_definitions.proofs.RisingLists.{in_from_contains, of_one_in}
-use Rattle.cpn_typing.specs.AcceptedTransitions.{HasItsVariables, IsAcceptedTransition, ArcMeans}
+use Rattle.cpn_typing.specs.AcceptedTransitions.{HasItsVariables, ArcMeans}
 use Rattle.cpn_typing.specs.BindableRule.{IsBindableAnswer, too_many_are_there, one_is_not, all_are}
 use Rattle.cpn_typing.specs.Consistency.{IsConsistent}
 use Rattle.cpn_typing.specs.Multisets.{Side, input, output}

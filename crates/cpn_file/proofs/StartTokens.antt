@@ -1,11 +1,13 @@
 -- The tokens of initial markings, put on their places one after another.
-use Rattle.std.proofs.Common.{◌≡◌, ℕ, zero, suc, ◌+◌, ◌<◌, Bool, List, [], ◌∷◌, ◌++◌, length, take, get_or, set, replicate, refl, sym, ap, ◌∙◌, add-one, append_assoc}
+use Rattle.std.proofs.Common.{◌≡◌, ℕ, zero, suc, ◌+◌, ◌<◌, Bool, List, [], ◌∷◌, ◌++◌, length, take, drop, get_or, set, replicate, refl, sym, ap, ◌∙◌, add-one, append_assoc, arith}
 use Rattle.std.specs.List.{flat_map}
 use Rattle.std.specs.declared.cmp.Ordering.{Ordering}
-use Rattle.std.proofs.lemmas.List.{get_or-set_same, set-set, take_more, map-append, append-nil}
+use Rattle.std.proofs.lemmas.List.{get_or-set_same, set-set, take_more, drop_more, map-append, append-nil}
 use Rattle.cpn_definitions.specs.Lists.{with_item, with_items}
-use Rattle.cpn_definitions.specs.Marking.{PlainToken, Tokens, Marking, token_at, token_cmp, add_token}
-use Rattle.cpn_definitions.specs.Terms.{PlainTerm}
+use Rattle.cpn_definitions.specs.Marking.{PlainToken, Tokens, Marking, tokens_at, on_place, token_at, token_cmp, add_token}
+use Rattle.cpn_definitions.specs.Terms.{PlainTerm, tokens_in}
+use Rattle.cpn_definitions.proofs.ChangedPlaces.{changed_place}
+use Rattle.cpn_definitions.proofs.PlaceCounts.{length-add_token}
 use Rattle.cpn_definitions.proofs.SortedTokens.{added_as_item}
 use Rattle.cpn_eval.specs.Terms.{term_view, terms_view}
 use Rattle.cpn_eval.specs.declared.term.Term.{Term}
@@ -46,3 +48,12 @@ module _ (timed : Bool) (terms : List Term) (i : ℕ) (term : Term) (lt : i < le
   term_added m cur new p stamp below cur_is stamp_is new_is =
       let z = tokens_with timed (terms_view (take i terms)) (get_or m p []) in
       new_is ∙ rw (stamp_is, cur_is, get_or-set_same m p z [] below, set-set m p z (with_items token_cmp (replicate (term_view term).count (token_of timed (term_view term))) z)) (ap (λ ts. set m p ts) (one_term (get_or m p [])))
+
+-- ---- how many tokens there are
+
+pub one_longer : (m : Marking) (p : ℕ) (t : PlainToken) → p < length m → length (tokens_at (on_place p (add_token t) m) p) ≡ length (tokens_at m p) + 1
+one_longer m p t lt = ap length (changed_place p (add_token t) m (λ past. absurd (omega (arith, lt, past)))) ∙ length-add_token t (tokens_at m p)
+
+-- the tokens of the terms that are left are those of the next one and of those behind it
+pub term_apart : (terms : List Term) (i : ℕ) (term : Term) → i < length terms → term ≡ get_or terms i term → tokens_in (terms_view (drop i terms)) ≡ term.count + tokens_in (terms_view (drop (i + 1) terms))
+term_apart terms i term lt at = ap (λ ts. tokens_in (terms_view ts)) (drop_more terms i term lt) ∙ ap (λ (t : Term). t.count + tokens_in (terms_view (drop (i + 1) terms))) (sym at)

@@ -130,7 +130,7 @@ net_well a good ts loaded completed bindable h =
       };
       marking = start.marking;
       places = each_from_long (start_of n) 0 a.initials marking.0 marking.1 ∙ good.as_many;
-      few = start.few;
+      bounded = start.bounded;
       named = good.names ts;
     })
 

@@ -1,11 +1,11 @@
 //! The initial marking of the net.
 
-ghost use Rattle.std.specs.Prelude.{◌≡◌, ◌<◌, ◌^◌, ℕ, [], Some, length, map, option_map, replicate, slice_index_or, slice_set, IfOk, IfErr, OnOk};
+ghost use Rattle.std.specs.Prelude.{◌≡◌, ◌+◌, ◌<◌, ◌≤◌, ◌^◌, ℕ, [], Some, length, map, option_map, replicate, slice_index_or, slice_set, IfOk, IfErr, OnOk};
 ghost use Rattle.std.specs.List.{flat_map, AllByRecursion};
 ghost use Rattle.cpn_definitions.specs.Lists.{with_items};
-ghost use Rattle.cpn_definitions.specs.Marking.{token_at, token_cmp};
+ghost use Rattle.cpn_definitions.specs.Marking.{token_at, token_cmp, tokens_at};
 ghost use Rattle.cpn_definitions.specs.Outcome.{gives};
-ghost use Rattle.cpn_definitions.specs.Terms.{terms_of};
+ghost use Rattle.cpn_definitions.specs.Terms.{most_tokens, tokens_in, terms_of};
 ghost use Rattle.cpn_core.specs.Views.{value_view};
 ghost use Rattle.cpn_core.specs.Inscriptions.{funs_view};
 ghost use Rattle.cpn_core.specs.Nets.{net_view};
@@ -19,7 +19,7 @@ ghost use Rattle.cpn_file.specs.Answers.{Loads, load_refusal_of};
 use crate::refusals::LoadError;
 use cpn_core::{ArcExpr, Binding, EvalFault, Funs, Memory, Net, Value};
 use cpn_eval::{Refused, Term, Terms, eval_mset};
-use cpn_marking::Marking;
+use cpn_tmset::Marking;
 use std::alloc::Global;
 
 /// The time stamp of the tokens of a term; on a place that keeps none it is 0.
@@ -38,8 +38,10 @@ fn add_tokens(
     stamp: u64,
 ) -> Result<(), Memory>
     requires in_range { place < length marking.old }
+    requires room { length (tokens_at marking.old place) + count < 2 ^ 48 }
     ensures added { OnOk result (marking.new ≡ slice_set marking.old place (with_items token_cmp (replicate count (token_at (value_view value.now) stamp)) (slice_index_or marking.old place []))) }
     ensures places { length marking.new ≡ length marking.old }
+    ensures number { OnOk result (length (tokens_at marking.new place) ≡ length (tokens_at marking.old place) + count) }
 {
     for _token in 0..count {
         marking.add(place, value.copy()?, stamp)?;
@@ -50,6 +52,7 @@ fn add_tokens(
 /// Adds the tokens of terms to a place.
 fn add_terms(marking: &mut Marking, place: u32, timed: bool, terms: &[Term]) -> Result<(), Memory>
     requires in_range { place < length marking.old }
+    requires few { length (tokens_at marking.old place) + tokens_in (terms_view terms.now) ≤ most_tokens }
     ensures added { OnOk result (marking.new ≡ slice_set marking.old place (tokens_with timed (terms_view terms.now) (slice_index_or marking.old place []))) }
     ensures places { length marking.new ≡ length marking.old }
 {

@@ -13,7 +13,7 @@ use Rattle.cpn_core.specs.Views.{value_view}
 use Rattle.cpn_core.specs.Same.{value_order}
 use Rattle.cpn_mset.specs.MSets.{PlainMSet, appearances, IsMSet}
 use Rattle.cpn_mset.specs.Views.{counts_view}
-use Rattle.cpn_mset.proofs.KeyedEntries.{seen_insert, seen_remove, seen_set, seen_lookup, seen_rises, after_insert, after_remove, after_set, each_inserted, each_left, each_set}
+use Rattle.cpn_definitions.proofs.KeyedEntries.{seen_insert, seen_remove, seen_set, seen_lookup, seen_rises, after_insert, after_remove, after_set, each_inserted, each_left, each_set}
 
 -- the number that was found, or none
 pub as_found : (v : PlainValue) (m : PlainMSet) → appearances v m ≡ unwrap_or (lookup (is_at (value_cmp v)) m) 0

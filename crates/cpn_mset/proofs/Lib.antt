@@ -1,4 +1,3 @@
-pub mod KeyedEntries
 pub mod Appearances
 pub mod CoveredMSets
 pub mod Rows

@@ -1,4 +1,4 @@
-pub mod EqualTokens
+pub mod GroupedTokens
 pub mod JoinedTexts
 pub mod PrintableNets
 pub mod ScheduleLines

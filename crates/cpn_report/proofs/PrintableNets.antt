@@ -1,7 +1,8 @@
 -- Binding elements of a net whose pairs are of its variables, and places that hold their tokens: what a list has, each of
 -- its items has.
-use Rattle.std.proofs.Common.{◌≡◌, sym, subst, refl, ℕ, zero, suc, ◌<◌, Bool, true, ◌&&◌, ◌==◌, nat_lt, List, [], ◌∷◌, length, map, get_or, arith}
+use Rattle.std.proofs.Common.{◌≡◌, sym, ap, ◌∙◌, subst, refl, ℕ, zero, suc, ◌<◌, Bool, true, ◌&&◌, ◌==◌, nat_lt, List, [], ◌∷◌, length, map, get_or, arith}
 use Rattle.std.proofs.lemmas.Bool.{and_parts, and_from, eqb-true, ltb-true}
+use Rattle.std.proofs.lemmas.List.{get_or-map}
 use Rattle.std.specs.List.{list_all, AllByRecursion}
 use Rattle.cpn_definitions.specs.Colour.{admits}
 use Rattle.cpn_definitions.specs.Marking.{Marking}
@@ -12,6 +13,10 @@ use Rattle.cpn_definitions.specs.Sound.{IsSound, IsSoundTransition, IsMarking, m
 use Rattle.cpn_report.specs.Printable.{is_bound, is_binding_element}
 
 -- ---- one item of a list
+
+-- what was read at a place, among the items as they are seen
+pub seen_at : {X Y : Type 0} (view : X → Y) (xs : List X) (i : ℕ) (x : X) (d : Y) → i < length xs → x ≡ get_or xs i x → get_or (map view xs) i d ≡ view x
+seen_at view xs i x d lt is = get_or-map view xs i x d lt ∙ ap view (sym is)
 
 -- an item as it is seen passes the test that all items pass
 pub passes_seen : {X Y : Type 0} (test : Y → Bool) (view : X → Y) (xs : List X) (i : ℕ) (x : X) → i < length xs → x ≡ get_or xs i x → list_all test (map view xs) ≡ true → test (view x) ≡ true

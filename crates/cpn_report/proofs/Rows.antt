@@ -9,7 +9,7 @@ use Rattle.cpn_definitions.specs.Marking.{PlainToken, token_at}
 use Rattle.cpn_definitions.specs.Net.{Coloured, PlainNet}
 use Rattle.cpn_definitions.specs.Outcome.{overflow, divide_by_zero, empty_list, no_case, not_in_colour, bad_coefficient, bad_delay, too_large}
 use Rattle.cpn_definitions.specs.Occurrence.{PlainElement}
-use Rattle.cpn_runs.specs.State.{claim_made, claim_completed, clock_moved, dead, steps_made, until_passed, fault_end}
+use Rattle.cpn_runs.specs.State.{claim_made, claim_completed, dead, steps_made, until_passed, fault_end}
 use Rattle.cpn_report.specs.Report.{binding_text, element_text, fault_text, run_line, occurrence_line, schedule_line, end_line, occurrences_line, clock_line, place_line, ready_line, next_line, total_line}
 
 -- ---- a net with two variables and a transition, and an element of it

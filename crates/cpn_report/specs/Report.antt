@@ -1,17 +1,17 @@
 -- The report of a run, line by line. Source: own choice.
-use Rattle.std.specs.Prelude.{ℕ, ◌+◌, Bool, ◌&&◌, ◌==◌, if◌then◌else◌, List, [], ◌∷◌, ◌++◌, length, map, codes, Option, Some, None}
+use Rattle.std.specs.Prelude.{ℕ, if◌then◌else◌, List, [], ◌∷◌, ◌++◌, length, map, codes, Option, Some, None}
 use Rattle.std.specs.List.{flat_map}
 use Rattle.std.specs.Fmt.{decimal}
 use Rattle.cpn_definitions.specs.Value.{PlainValue}
 use Rattle.cpn_definitions.specs.Colour.{PlainColour}
-use Rattle.cpn_definitions.specs.Order.{same_value}
-use Rattle.cpn_definitions.specs.Marking.{PlainToken, Tokens, Marking}
+use Rattle.cpn_definitions.specs.Marking.{Tokens, Marking}
 use Rattle.cpn_definitions.specs.Net.{Coloured, PlainNet, variable_at, transition_at}
 use Rattle.cpn_definitions.specs.Outcome.{Fault, overflow, divide_by_zero, empty_list, no_case, not_in_colour, bad_coefficient, bad_delay, too_large}
 use Rattle.cpn_definitions.specs.Meaning.{PlainBinding}
 use Rattle.cpn_definitions.specs.Occurrence.{PlainElement}
 use Rattle.cpn_runs.specs.State.{PlainSetup, PlainEvent, claim_made, claim_completed, clock_moved, cut_made, PlainEnd, dead, steps_made, until_passed, fault_end, PlainOccurrence}
 use Rattle.cpn_runs.specs.Run.{PlainFinished, Outlook}
+use Rattle.cpn_tmset.specs.Listed.{Group, groups}
 use Rattle.cpn_report.specs.ValueText.{joined, value_text}
 use Rattle.cpn_report.specs.declared.traces.Trace.{Trace}
 use Rattle.cpn_report.specs.declared.traces.Trace.TheVariants as traces
@@ -84,24 +84,6 @@ occurrences_line count = codes "occurrences " ++ decimal count ++ codes "\n"
 
 unfoldable pub clock_line : ℕ → List ℕ
 clock_line clock = codes "clock " ++ decimal clock ++ codes "\n"
-
--- Equal tokens that stand together, and how many there are.
-pub record Group : Type 0 where
-  pub token : PlainToken
-  pub count : ℕ
-
-abbrev pub same_token : PlainToken → PlainToken → Bool
-same_token t u = same_value t.value u.value && (t.stamp == u.stamp)
-
--- groups with one more token in front
-abbrev pub grouped_with : PlainToken → List Group → List Group
-grouped_with t [] = record { token = t; count = 1 } ∷ []
-grouped_with t (g ∷ gs) = if same_token t g.token then record { token = g.token; count = g.count + 1 } ∷ gs else record { token = t; count = 1 } ∷ g ∷ gs
-
--- the tokens of a place, equal ones counted
-abbrev pub groups : Tokens → List Group
-groups [] = []
-groups (t ∷ ts) = grouped_with t (groups ts)
 
 -- so many tokens of a value of the place's colour set, and their stamp where the place is timed
 abbrev pub group_text : PlainNet → PlainColour → Group → List ℕ

@@ -6,12 +6,11 @@ ghost use Rattle.cpn_definitions.specs.Sound.{IsMarking, may_hold};
 ghost use Rattle.cpn_definitions.specs.Named.{is_named, has_names};
 ghost use Rattle.cpn_core.specs.Colours.{shape_view, colour_view};
 ghost use Rattle.cpn_core.specs.Nets.{net_view, place_view};
-ghost use Rattle.cpn_marking.specs.Tokens.{tokens_view};
 ghost use Rattle.cpn_report.specs.Report.{place_line, place_lines};
 
 use crate::groups::push_tokens;
 use cpn_core::{Memory, Net, Place};
-use cpn_marking::{Marking, Token};
+use cpn_tmset::{Marking, TMSet};
 
 /// Appends the line of a place.
 #[tactic(auto, unfolding(crate::specs::Report::place_line))]
@@ -19,11 +18,11 @@ pub(crate) fn push_place_line(
     out: &mut String,
     net: &Net,
     place: &Place,
-    tokens: &[Token],
+    tokens: &TMSet,
 ) -> Result<(), Memory>
-    requires held { list_all (may_hold (colour_view place.now.colour)) (tokens_view tokens.now) ≡ true }
+    requires held { list_all (may_hold (colour_view place.now.colour)) tokens.now ≡ true }
     requires named { has_names (net_view net.now) (shape_view place.now.colour.shape) ≡ true }
-    ensures written { OnOk result (string_bytes out.new ≡ string_bytes out.old ++ place_line (net_view net.now) (place_view place.now) (tokens_view tokens.now)) }
+    ensures written { OnOk result (string_bytes out.new ≡ string_bytes out.old ++ place_line (net_view net.now) (place_view place.now) tokens.now) }
 {
     out.push_str("place ")?;
     out.push_str(place.name.as_str())?;

@@ -3,7 +3,7 @@
 use crate::events::{End, Event, Limits};
 use crate::occurrences::Occurrence;
 use cpn_core::Net;
-use cpn_marking::Marking;
+use cpn_tmset::Marking;
 use std::sync::Arc;
 
 /// What a run starts from.

@@ -1,4 +1,3 @@
-pub mod Stretches
 pub mod ValuesOfTokens
 pub mod TrialSteps
 pub mod LeastTimes

@@ -83,7 +83,7 @@ pub not_stuck
     → ⊥
 not_stuck n t [] sound are some unsolved large = omega arith
 not_stuck n t (x ∷ left) sound are some unsolved large =
-    never_stuck n t (x ∷ left) sound sound.guard_solvable (λ y h. in_from_contains t.vars y (are.listed y (contains_from_in (x ∷ left) y h))) (λ y is h. are.in_no_term y is (contains_from_in (x ∷ left) y h)) unsolved large x (inl refl)
+    never_stuck n t (x ∷ left) sound (λ y h. in_from_contains t.vars y (are.listed y (contains_from_in (x ∷ left) y h))) (λ y is h. are.in_no_term y is (contains_from_in (x ∷ left) y h)) unsolved large x (inl refl)
 
 pub small_is_next
     : (n : PlainNet) (t : PlainTransition) (left : List ℕ) (x : ℕ)

@@ -18,7 +18,8 @@ use Rattle.cpn_stages.proofs.Partials.{extends_variables}
 use Rattle.cpn_stages.proofs.FittedMatches.{match_is_fitted, unmatched_is_unfitted}
 use Rattle.cpn_match.specs.declared.partials.PartialPair.{PartialPair}
 use Rattle.cpn_match.specs.Pairs.{pairs_view}
-use Rattle.cpn_search.specs.TrialViews.{PlainUnderWay, pointed_view, after}
+use Rattle.cpn_tmset.specs.ListedViews.{pointed_view}
+use Rattle.cpn_search.specs.TrialViews.{PlainUnderWay, after}
 use Rattle.cpn_search.specs.Searches.{AreDeclared}
 
 -- ---- declared variables

@@ -1,64 +1,17 @@
--- The different values of sorted tokens, found by going from the first token of a value to the first of the next: just those that
--- stand on the place, each once.
-use Rattle.std.proofs.Common.{◌≡◌, ℕ, ◌-◌, ◌<◌, ◌≤◌, Bool, true, false, not, cond, List, [], ◌∷◌, ◌++◌, map, drop, length, get_or, refl, sym, ap, ◌∙◌, subst, arith, append_assoc, append-nil, drop_of_length-le, inl, inr, Bor, Contains, Ordering, Less, Equal, Greater, is_eq, is_gt}
+-- The different values of sorted tokens are just those that stand on the place, each once.
+use Rattle.std.proofs.Common.{◌≡◌, ℕ, Bool, true, false, not, cond, [], ◌∷◌, List, refl, sym, ap, ◌∙◌, subst, inl, inr, Contains, Ordering, Less, Equal, Greater, is_eq, is_gt}
 use Rattle.std.specs.List.{AllByRecursion}
 use Rattle.std.proofs.lemmas.Bool.{cond_both}
-use Rattle.std.proofs.lemmas.Cmp.{upto, tied_itself}
-use Rattle.std.proofs.lemmas.List.{drop-map, get_or_default, map-append}
+use Rattle.std.proofs.lemmas.Cmp.{upto}
 use Rattle.cpn_definitions.specs.Value.{PlainValue}
 use Rattle.cpn_definitions.specs.Order.{value_cmp, same_value}
 use Rattle.cpn_definitions.specs.ValueOrder.{value_cmp_total, value_same, value_itself, same_value_true, value_not_above}
 use Rattle.cpn_definitions.specs.Lists.{Rises}
 use Rattle.cpn_definitions.specs.Marking.{PlainToken, Tokens, Marking, tokens_at, MayPrecede, AreSorted}
 use Rattle.cpn_definitions.proofs.RisingLists.{IsIn, in_from_contains, contains_from_in, each_implied, of_one_in}
-use Rattle.cpn_definitions.proofs.ViewedLists.{entry, within, up_to}
 use Rattle.cpn_stages.specs.Reached.{StandsOn}
 use Rattle.cpn_stages.specs.Work.{AllDiffer, AreJust}
-use Rattle.cpn_core.specs.declared.values.Value.{Value}
-use Rattle.cpn_marking.specs.declared.places.Token.{Token}
-use Rattle.cpn_core.specs.Views.{value_view}
-use Rattle.cpn_marking.specs.Tokens.{token_view, tokens_view}
-use Rattle.cpn_search.specs.Values.{is_last_of, values_of}
-use Rattle.cpn_search.specs.Stretches.{IsEndOf}
-use Rattle.cpn_search.specs.TrialViews.{pointed_view}
-use Rattle.cpn_search.proofs.Stretches.{ends_past, values_from}
-
--- ---- from the first token of a value to the first of the next
-
-module _
-    (tokens : List Token) (start end : ℕ) (here : Token)
-    (sorted : AreSorted (tokens_view tokens))
-    (lt : start < length tokens)
-    (short : end ≤ length tokens)
-    (is : here ≡ get_or tokens start here)
-    (ends : IsEndOf (value_view here.value) (tokens_view tokens) end)
-  where
-    seen : token_view here ≡ get_or (tokens_view tokens) start (token_view here)
-    seen = entry token_view tokens start here lt is
-
-    -- fewer tokens are left
-    pub fewer_left : length tokens - end < length tokens - start
-    fewer_left =
-        let on = ends_past (tokens_view tokens) start end (token_view here) sorted (within token_view tokens start lt) (up_to token_view tokens end short) seen ends in
-        omega (arith, on)
-
-    values_here : values_of (tokens_view (drop start tokens)) ≡ value_view here.value ∷ values_of (tokens_view (drop end tokens))
-    values_here =
-        ap values_of (sym (drop-map token_view start tokens))
-        ∙ values_from (tokens_view tokens) start end (token_view here) sorted (within token_view tokens start lt) (up_to token_view tokens end short) seen ends
-        ∙ ap (λ ls. value_view here.value ∷ values_of ls) (drop-map token_view end tokens)
-
-    pub one_more : (values : List (Bor Value)) (v : Bor Value) (whole : List PlainValue) → value_view v.now ≡ value_view here.value
-        → pointed_view values ++ values_of (tokens_view (drop start tokens)) ≡ whole → pointed_view (values ++ v ∷ []) ++ values_of (tokens_view (drop end tokens)) ≡ whole
-    one_more values v whole same so =
-        let rest : List PlainValue = values_of (tokens_view (drop end tokens)) in
-        ap (λ vs. vs ++ rest) (map-append (λ (b : Bor Value). value_view b.now) values (v ∷ []))
-        ∙ append_assoc (pointed_view values) (value_view v.now ∷ []) rest
-        ∙ ap (λ w. pointed_view values ++ w ∷ rest) same
-        ∙ ap (λ ls. pointed_view values ++ ls) (sym values_here)
-        ∙ so
-
--- ---- just the values that stand on the place
+use Rattle.cpn_tmset.specs.Listed.{is_last_of, values_of}
 
 -- each of the tokens has this value or one after it
 abbrev NoneBelow : PlainValue → Tokens → Type 0

@@ -1,5 +1,3 @@
-pub mod Values
-pub mod Stretches
 pub mod Found
 pub mod FoundViews
 pub mod StageViews

@@ -1,20 +1,14 @@
 -- The plain stages, trials and partial bindings under way that those of the program stand for.
 use Rattle.std.specs.Prelude.{◌≡◌, ℕ, List, ◌∷◌, [], map}
-use Rattle.std.specs.Borrow.{Bor}
-use Rattle.cpn_definitions.specs.Value.{PlainValue}
 use Rattle.cpn_definitions.specs.Inscription.{variable_pattern}
-use Rattle.cpn_core.specs.declared.values.Value.{Value}
 use Rattle.cpn_core.specs.Views.{value_view}
 use Rattle.cpn_core.specs.Inscriptions.{pattern_view, expr_view}
 use Rattle.cpn_stages.specs.Partial.{PlainPartial}
 use Rattle.cpn_stages.specs.Trials.{Trial, matching, solving}
+use Rattle.cpn_tmset.specs.ListedViews.{pointed_view}
 use Rattle.cpn_search.specs.declared.trials.Trial as program
 use Rattle.cpn_search.specs.declared.trials.Trial.TheVariants as trials
 use Rattle.cpn_search.specs.declared.extending.UnderWay.{UnderWay}
-
--- the values that references lead to
-abbrev pub pointed_view : List (Bor Value) → List PlainValue
-pointed_view values = map (λ v. value_view v.now) values
 
 abbrev pub trial_view : program.Trial → Trial
 trial_view (trials.Matching pattern values) = matching (pattern_view pattern.now) (pointed_view values.items)

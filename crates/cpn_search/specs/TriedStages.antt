@@ -8,7 +8,7 @@ use Rattle.cpn_stages.specs.Stages.{Stage, by_term, by_equation, by_size}
 use Rattle.cpn_stages.specs.Trials.{Trial, matching, solving}
 use Rattle.cpn_search.specs.declared.plan.Stage as program
 use Rattle.cpn_search.specs.declared.plan.Stage.TheVariants as stages
-use Rattle.cpn_search.specs.Values.{values_of}
+use Rattle.cpn_tmset.specs.Listed.{values_of}
 
 -- the place of a term is one of so many
 abbrev pub IsPlaced : ℕ → Stage → Type 0

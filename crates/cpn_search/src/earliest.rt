@@ -9,7 +9,7 @@ ghost use Rattle.cpn_search.specs.Found.{element_of, IsNeverCovered, IsLeastTime
 use cpn_core::{Binding, Memory, Net};
 use cpn_elements::{guard_holds, needs_of};
 use cpn_eval::Refused;
-use cpn_marking::Marking;
+use cpn_tmset::Marking;
 use std::alloc::Global;
 
 /// The least time at which an element of a sound net is covered; `None` where it is covered at no time: its guard is

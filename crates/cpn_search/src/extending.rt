@@ -11,7 +11,8 @@ ghost use Rattle.cpn_core.specs.Nets.{net_view};
 ghost use Rattle.cpn_stages.specs.Partial.{Extends, bound_in};
 ghost use Rattle.cpn_stages.specs.Fitting.{fitted};
 ghost use Rattle.cpn_stages.specs.Trials.{are_admitted as admitted_values, kept, with_outcome, next, matching, solving};
-ghost use Rattle.cpn_search.specs.TrialViews.{pointed_view, trial_view, all_under_way, after};
+ghost use Rattle.cpn_tmset.specs.ListedViews.{pointed_view};
+ghost use Rattle.cpn_search.specs.TrialViews.{trial_view, all_under_way, after};
 ghost use Rattle.cpn_search.specs.Searches.{AreDeclared, MeansSomething};
 
 use crate::trials::Trial;

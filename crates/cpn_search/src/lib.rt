@@ -11,7 +11,6 @@ mod extending;
 mod plan;
 mod searching;
 mod sorting;
-mod tokens;
 mod trials;
 mod turns;
 

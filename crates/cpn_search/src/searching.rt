@@ -12,7 +12,7 @@ use crate::sorting::in_order;
 use crate::trials::trials_of;
 use crate::turns::{Searched, all_found};
 use cpn_core::{Element, Entry, Found, Memory, Net};
-use cpn_marking::Marking;
+use cpn_tmset::Marking;
 use std::alloc::Global;
 
 /// The enabled bindings of a transition of a sound net: each binding with which it is covered at some time, over all

@@ -6,9 +6,8 @@ ghost use Rattle.cpn_search.specs.TrialViews.{trial_view, trials_view};
 ghost use Rattle.cpn_search.specs.TriedStages.{IsPlaced, IsTriedAs, AreTriedAs};
 
 use crate::plan::{Plan, Stage};
-use crate::tokens::values_of;
 use cpn_core::{Expr, Memory, Pat, Value};
-use cpn_marking::Marking;
+use cpn_tmset::Marking;
 use std::alloc::Global;
 
 /// What is tried at a stage of a search.
@@ -59,7 +58,7 @@ fn trial_of<'n, 'm, 'p>(
 {
     match stage {
         Stage::Term { place, pattern } => {
-            let values = values_of(alloc, marking.tokens(*place))?;
+            let values = marking.place(*place).values(alloc)?;
             Ok(Trial::Matching { pattern, values })
         }
         Stage::Equation {

@@ -14,8 +14,8 @@ use crate::earliest::earliest_of;
 use crate::extending::{UnderWay, push_next};
 use crate::trials::Trial;
 use cpn_core::{Binding, Found, FoundBinding, Memory, Net};
-use cpn_marking::Marking;
 use cpn_match::Partial;
+use cpn_tmset::Marking;
 use std::alloc::Global;
 
 /// What a search of a transition finds.

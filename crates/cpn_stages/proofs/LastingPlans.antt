@@ -42,14 +42,14 @@ equated_listed n t solvable x e is y h =
 -- where no equation gives one of the variables that are left a value, not all of them have large colour sets
 pub never_stuck
     : (n : PlainNet) (t : PlainTransition) (left : List ℕ)
-    → IsSoundTransition n t → IsSolvable n t
+    → IsSoundTransition n t
     → ((x : ℕ) → IsIn x left → IsIn x t.vars)
     → ((x : ℕ) → IsInTerm t x → IsIn x left → ⊥)
     → first_solving t left (equations_in t) ≡ None
     → AllByRecursion (λ y. IsSmall (variable_at n y).colour → ⊥) left
     → (x : ℕ) → IsIn x left → ⊥
-never_stuck n t left sound solvable listed no_term unsolved large x h =
-    let one = small_from n t left (equated_listed n t solvable) no_term unsolved x (sound.bindable x (contains_from_in t.vars x (listed x h))) h in
+never_stuck n t left sound listed no_term unsolved large x h =
+    let one = small_from n t left (equated_listed n t sound.guard_solvable) no_term unsolved x (sound.bindable x (contains_from_in t.vars x (listed x h))) h in
     of_one_in (λ y. IsSmall (variable_at n y).colour → ⊥) left one.0 large one.1 one.2
 
 -- ---- the variables that are left

@@ -11,7 +11,7 @@ use Rattle.cpn_core.specs.Views.{value_view}
 use Rattle.cpn_core.specs.Same.{value_order}
 use Rattle.cpn_tmset.specs.TMSets.{Entries}
 use Rattle.cpn_tmset.specs.Views.{entries_view}
-use Rattle.cpn_tmset.proofs.KeyedEntries.{KeysRise, seen_insert}
+use Rattle.cpn_definitions.proofs.KeyedEntries.{KeysRise, seen_insert}
 
 before_last : {B X : Type 0} (C : B → B → Ordering) (a : B) (es : List (B × X)) (l : B × X) (rest : List (B × X)) → AllByRecursion (λ d. C a d.0 ≡ Less) (es ++ l ∷ rest) → C a l.0 ≡ Less
 before_last C a [] l rest all = all.0

@@ -17,7 +17,7 @@ use Rattle.cpn_core.specs.Same.{value_order}
 use Rattle.cpn_tmset.specs.Stamps.{latest_of}
 use Rattle.cpn_tmset.specs.TMSets.{Entries, stamps_in, AreKept}
 use Rattle.cpn_tmset.specs.Views.{entries_view}
-use Rattle.cpn_tmset.proofs.KeyedEntries.{seen_insert, seen_remove, seen_set, seen_lookup, seen_rises, after_insert, after_remove, after_set, each_inserted, each_left, each_set, of_found}
+use Rattle.cpn_definitions.proofs.KeyedEntries.{seen_insert, seen_remove, seen_set, seen_lookup, seen_rises, after_insert, after_remove, after_set, each_inserted, each_left, each_set, of_found}
 
 -- the stamps that were found, or none
 pub as_found : (v : PlainValue) (es : Entries) → stamps_in v es ≡ unwrap_or (lookup (is_at (value_cmp v)) es) []

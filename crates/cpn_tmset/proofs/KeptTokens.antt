@@ -18,7 +18,7 @@ use Rattle.cpn_core.specs.declared.values.Value.{Value}
 use Rattle.cpn_core.specs.Views.{value_view}
 use Rattle.cpn_tmset.specs.TMSets.{Entries, tokens_in, stamps_in, AreKept}
 use Rattle.cpn_tmset.specs.Views.{entries_view}
-use Rattle.cpn_tmset.proofs.KeyedEntries.{seen_lookup}
+use Rattle.cpn_definitions.proofs.KeyedEntries.{seen_lookup}
 
 pub rest_kept : (e : PlainValue × List ℕ) (es : Entries) → AreKept (e ∷ es) → AreKept es
 rest_kept e es kept = record { rise = kept.rise.1; sorted = kept.sorted.1; some = kept.some.1 }

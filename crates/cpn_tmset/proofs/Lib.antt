@@ -1,4 +1,3 @@
-pub mod KeyedEntries
 pub mod RepeatedStamps
 pub mod LatestStamps
 pub mod SameTokens

@@ -11,7 +11,7 @@ use Rattle.std.proofs.lemmas.List.{length-replicate}
 use Rattle.cpn_definitions.specs.Lists.{with_item}
 use Rattle.cpn_definitions.proofs.Stamps.{AreRising, IsAtMostEach}
 use Rattle.cpn_tmset.specs.StampCounts.{repeated, IsCounted}
-use Rattle.cpn_tmset.proofs.KeyedEntries.{none_below}
+use Rattle.cpn_definitions.proofs.KeyedEntries.{none_below}
 
 pub same_number : (a b : ℕ) → nat_cmp a b ≡ Equal → a ≡ b
 same_number a b h = ranked a b Equal (sym h)

@@ -3,7 +3,7 @@ use Rattle.std.proofs.Common.{ℕ, ◌+◌, ◌<◌, ◌^◌, length, arith}
 use Rattle.cpn_definitions.specs.Marking.{PlainToken, Tokens, Marking, tokens_at, on_place, add_token}
 use Rattle.cpn_definitions.proofs.ChangedPlaces.{tokens_on_place}
 use Rattle.cpn_tmset.specs.Limits.{HaveRoomFor}
-use Rattle.cpn_tmset.proofs.TokenCounts.{length-add_token}
+use Rattle.cpn_definitions.proofs.PlaceCounts.{length-add_token}
 
 pub room_after : (n p : ℕ) (t : PlainToken) (m : Marking) → HaveRoomFor (n + 1) m → HaveRoomFor n (on_place p (add_token t) m)
 room_after n p t m room =

@@ -1,18 +1,10 @@
--- How many tokens there are after one was added or taken.
+-- How many tokens there are after one was taken.
 use Rattle.std.proofs.Common.{◌≡◌, ℕ, suc, ◌+◌, Bool, true, false, cond, ◌&&◌, ◌||◌, nat_le, [], ◌∷◌, length, Some, None, refl, sym, ap, ◌∙◌, arith, is_lt, true≢false}
 use Rattle.std.specs.List.{list_any}
 use Rattle.cpn_definitions.specs.Value.{PlainValue}
 use Rattle.cpn_definitions.specs.Order.{same_value}
-use Rattle.cpn_definitions.specs.Marking.{PlainToken, Tokens, token_cmp, add_token, without_token, is_taken_by, stamps, begins_by}
+use Rattle.cpn_definitions.specs.Marking.{Tokens, without_token, is_taken_by, stamps, begins_by}
 use Rattle.cpn_tmset.specs.Stamps.{latest_of}
-
-pub length-add_token : (t : PlainToken) (ks : Tokens) → length (add_token t ks) ≡ length ks + 1
-length-add_token t [] = refl
-length-add_token t (k ∷ ks) = split (is_lt (token_cmp t k)) (length-add_token t ks)
-  where
-    split : (b : Bool) → length (add_token t ks) ≡ length ks + 1 → length (cond b (t ∷ k ∷ ks) (k ∷ add_token t ks)) ≡ suc (length ks) + 1
-    split true rest = omega arith
-    split false rest = omega arith
 
 pub one_fewer : (v : PlainValue) (t : ℕ) (ks : Tokens) → list_any (is_taken_by v t) ks ≡ true → length (without_token v t ks) + 1 ≡ length ks
 one_fewer v t [] h = absurd (true≢false (sym h))

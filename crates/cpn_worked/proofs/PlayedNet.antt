@@ -1,10 +1,13 @@
 -- The net of the worked runs is sound, and a run of one seat may start from its markings.
-use Rattle.std.proofs.Common.{◌≡◌, ℕ, zero, suc, ◌≤◌, Bool, true, false, List, refl, sym, subst, arith}
+use Rattle.std.proofs.Common.{◌≡◌, ℕ, zero, suc, ◌≤◌, Bool, true, false, nat_le, List, length, refl, sym, subst, arith}
+use Rattle.std.specs.List.{list_all}
+use Rattle.cpn_definitions.specs.Bounds.{last_stamp, IsBounded}
+use Rattle.cpn_definitions.specs.Marking.{PlainToken, tokens_at}
 use Rattle.cpn_definitions.specs.Net.{PlainNet}
 use Rattle.cpn_definitions.specs.Sound.{IsSound, IsSoundTransition, IsMarking}
 use Rattle.cpn_runs.specs.Bounds.{most_steps}
 use Rattle.cpn_runs.specs.State.{PlainSetup}
-use Rattle.cpn_book.specs.Playable.{IsPlayable}
+use Rattle.cpn_book.specs.Playable.{most_after, IsPlayable}
 use Rattle.cpn_worked.specs.ThreePlaces.{arc_of, transition_of, worked, start_of}
 use Rattle.cpn_worked.proofs.SolvableGuards.{none_there, without_variables}
 
@@ -47,11 +50,35 @@ is_marking : (second : Bool) → IsMarking worked.places (start_of second)
 is_marking true = (tt, refl, ((tt, tt), refl, (tt, refl, tt)))
 is_marking false = ((tt, tt), refl, (tt, refl, (tt, refl, tt)))
 
+is_bounded : (second : Bool) → IsBounded (most_after 0) (start_of second)
+is_bounded second = record { few = few second; stamped = stamped second }
+  where
+    few : (second : Bool) (p : ℕ) → length (tokens_at (start_of second) p) ≤ most_after 0
+    few true zero = omega arith
+    few true (suc zero) = omega arith
+    few true (suc (suc zero)) = omega arith
+    few true (suc (suc (suc p))) = omega arith
+    few false zero = omega arith
+    few false (suc zero) = omega arith
+    few false (suc (suc zero)) = omega arith
+    few false (suc (suc (suc p))) = omega arith
+
+    stamped : (second : Bool) (p : ℕ) → list_all (λ (token : PlainToken). nat_le token.stamp last_stamp) (tokens_at (start_of second) p) ≡ true
+    stamped true zero = refl
+    stamped true (suc zero) = refl
+    stamped true (suc (suc zero)) = refl
+    stamped true (suc (suc (suc p))) = refl
+    stamped false zero = refl
+    stamped false (suc zero) = refl
+    stamped false (suc (suc zero)) = refl
+    stamped false (suc (suc (suc p))) = refl
+
 -- a run of one seat may start from the net and one of its markings
 pub may_start : (setup : PlainSetup) (second : Bool) → setup.net ≡ worked → setup.start ≡ start_of second → setup.clock ≡ 0 → setup.limits.until ≡ 0 → setup.limits.steps ≤ most_steps → setup.limits.seats ≡ 1 → IsPlayable setup
 may_start setup second net start clock until steps seat = record {
   sound = subst IsSound (sym net) is_sound;
   marking = subst (λ (n : PlainNet). IsMarking n.places setup.start) (sym net) (subst (IsMarking worked.places) (sym start) (is_marking second));
+  bounded = subst (IsBounded (most_after 0)) (sym start) (is_bounded second);
   clock = omega arith;
   until = omega arith;
   steps = steps;

@@ -9,8 +9,8 @@ mod tmsets;
 mod values;
 
 use crate::rows::{number_of, push_count, push_number};
-use cpn_core::{Memory, Shape, Text, Value, Values};
-use cpn_marking::Marking;
+use cpn_core::{Memory, Outputs, Shape, Text, Value, Values};
+use cpn_tmset::{Marking, TokenGroup};
 use std::alloc::Global;
 
 /// The string of these bytes.
@@ -43,22 +43,42 @@ fn range(text: &str) -> Shape {
     }
 }
 
-/// Writes the tokens of a place, each as its number and its stamp behind a blank.
+/// More tokens than a place of these tests has.
+const MANY: u64 = 1_000_000;
+
+/// The marking of so many places with these tokens.
+fn marking_with(alloc: Global, places: usize, outputs: Outputs) -> Result<Marking, Memory> {
+    let mut marking = Marking::new(alloc, places)?;
+    if (outputs.tokens().len() as u64) < MANY {
+        marking.add_made(outputs)?;
+    }
+    Ok(marking)
+}
+
+/// Writes equal tokens, each as its number and its stamp behind a blank.
+fn push_group(text: &mut String, group: &TokenGroup<'_>) -> Result<(), Memory> {
+    for _token in 0..group.count {
+        text.push_str(" ")?;
+        push_number(text, number_of(group.value))?;
+        push_count(text, "@", group.stamp)?;
+    }
+    Ok(())
+}
+
+/// Writes the tokens of a place.
 fn push_tokens(text: &mut String, marking: &Marking, place: usize) -> Result<(), Memory> {
     if let Some(tokens) = marking.get(place) {
-        for token in tokens {
-            text.push_str(" ")?;
-            push_number(text, number_of(&token.value))?;
-            push_count(text, "@", token.stamp)?;
+        for group in &tokens.groups(*text.allocator())? {
+            push_group(text, group)?;
         }
     }
     Ok(())
 }
 
 /// How many tokens a place has, or 7 where there is no such place.
-fn count_on(marking: &Marking, place: usize) -> usize {
+fn count_on(marking: &Marking, place: usize) -> u64 {
     match marking.get(place) {
-        Some(tokens) => tokens.len(),
+        Some(tokens) => tokens.total(),
         None => 7,
     }
 }

@@ -11,8 +11,8 @@ use cpn_core::{
     ArcExpr, BindingTerm, Colour, EvalFault, Expr, Funs, Guard, MExpr, Memory, Net, Pat, Place,
     PlaceArc, Shape, Transition, Value,
 };
-use cpn_marking::Marking;
 use cpn_runs::{End, Event, Finished, Limits, Setup};
+use cpn_tmset::Marking;
 use std::alloc::Global;
 use std::sync::Arc;
 use std::test::Fail;
@@ -181,10 +181,17 @@ fn is_burst(cause: &End) -> bool {
 }
 
 /// The number of the one token on a place, or 0.
-fn number_on(marking: &Marking, place: usize) -> i64 {
-    match marking.get(place) {
-        Some([token]) => number_of(&token.value),
-        _ => 0,
+fn number_on(alloc: Global, marking: &Marking, place: usize) -> Result<i64, Memory> {
+    let tokens = match marking.get(place) {
+        Some(tokens) => tokens,
+        None => return Ok(0),
+    };
+    if tokens.total() != 1 {
+        return Ok(0);
+    }
+    match tokens.values(alloc)?.as_slice() {
+        [value] => Ok(number_of(value)),
+        _ => Ok(0),
     }
 }
 
@@ -192,7 +199,8 @@ fn number_on(marking: &Marking, place: usize) -> i64 {
 fn push_rest(text: &mut String, run: &Finished) -> Result<(), Memory> {
     for place in 0..3 {
         text.push_str(" ")?;
-        push_number(text, number_on(&run.marking, place))?;
+        let number = number_on(*text.allocator(), &run.marking, place)?;
+        push_number(text, number)?;
     }
     push_count(text, " ready ", run.closing.ready)?;
     if let Some(next) = run.closing.next {

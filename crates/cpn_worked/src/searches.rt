@@ -9,8 +9,8 @@ use crate::nets::empty_net;
 use crate::rows::{number_of, pairs_in, parted, push_count, push_number};
 use crate::two_places::{are_placed, are_used, marking_of, sound_net};
 use cpn_core::{Binding, Memory, Net};
-use cpn_marking::Marking;
 use cpn_search::{enabled, enabled_of};
+use cpn_tmset::Marking;
 use std::alloc::Global;
 use std::test::Fail;
 

@@ -12,7 +12,7 @@ use cpn_core::{
     ArcExpr, BindingTerm, Colour, Expr, Funs, Guard, MExpr, Memory, Net, Pat, Place, PlaceArc,
     Shape, Transition, Value, Variable,
 };
-use cpn_marking::Marking;
+use cpn_tmset::Marking;
 use std::alloc::Global;
 use std::sync::Arc;
 
@@ -219,6 +219,9 @@ pub fn sound_net(
     Ok(net)
 }
 
+/// More tokens than a place of these markings has.
+const MANY: u64 = 1_000_000;
+
 /// Adds a token that the place may hold, and else none; on an untimed place it has no stamp.
 fn add_token(
     marking: &mut Marking,
@@ -232,6 +235,9 @@ fn add_token(
     ensures { OnOk result (IsMarking (two_places timed) marking.new) }
 {
     if !numbers(timed).admits(&value) {
+        return Ok(());
+    }
+    if MANY <= marking.place(place).total() {
         return Ok(());
     }
     if timed {

@@ -1,21 +1,32 @@
 //! Which token is taken out of a marking.
 ghost use Rattle.std.specs.Prelude.{◌≡◌, length, IfOk};
 
-use super::push_tokens;
+use super::{MANY, push_tokens};
 use cpn_core::{Memory, Value};
-use cpn_marking::Marking;
+use cpn_tmset::Marking;
 use std::alloc::Global;
 use std::test::Fail;
+
+// Adds a token to the second of two places.
+fn put(marking: &mut Marking, number: i64, stamp: u64) -> Result<(), Memory>
+    requires places { length marking.old ≡ 2 }
+    ensures places { length marking.new ≡ 2 }
+{
+    if marking.place(1).total() < MANY {
+        marking.add(1, Value::Int(number), stamp)?;
+    }
+    Ok(())
+}
 
 // A marking of two places, with four tokens on the second.
 fn marking(alloc: Global) -> Result<Marking, Memory>
     ensures { IfOk result (λ marking. length marking ≡ 2) }
 {
     let mut marking = Marking::new(alloc, 2)?;
-    marking.add(1, Value::Int(7), 4)?;
-    marking.add(1, Value::Int(8), 2)?;
-    marking.add(1, Value::Int(7), 1)?;
-    marking.add(1, Value::Int(6), 9)?;
+    put(&mut marking, 7, 4)?;
+    put(&mut marking, 8, 2)?;
+    put(&mut marking, 7, 1)?;
+    put(&mut marking, 6, 9)?;
     Ok(marking)
 }
 

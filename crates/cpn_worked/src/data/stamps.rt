@@ -1,9 +1,9 @@
 //! From when on a marking covers needs, and what stands there when they are taken.
 
-use super::{count_on, push_tokens};
+use super::{count_on, marking_with, push_tokens};
 use crate::rows::{answered, pairs_in, parted, push_count};
 use cpn_core::{Made, Memory, Needed, Needs, Outputs, Value};
-use cpn_marking::Marking;
+use cpn_tmset::Marking;
 use std::alloc::Global;
 use std::test::Fail;
 
@@ -33,12 +33,6 @@ fn needs_of(alloc: Global, needed: &[(i64, u64)]) -> Result<Needs, Memory> {
     Ok(needs)
 }
 
-fn marking_of(alloc: Global, tokens: &[(i64, u64)]) -> Result<Marking, Memory> {
-    let mut marking = Marking::new(alloc, 2)?;
-    marking.add_made(made(alloc, tokens)?)?;
-    Ok(marking)
-}
-
 // Whether a 7 stands there, and from when on the tokens cover the needs.
 fn tell_time(text: &mut String, marking: &Marking, needs: &Needs) -> Result<(), Memory> {
     if marking.holds(1, &Value::Int(7)) {
@@ -50,12 +44,11 @@ fn tell_time(text: &mut String, marking: &Marking, needs: &Needs) -> Result<(), 
     }
 }
 
-// What is told of the tokens and the needs; and what stands there when the needs are taken at the time 10 and 7@20 is put in.
+// What is told of the tokens and the needs; and what stands there when the needs are taken at the time 10.
 fn told(alloc: Global, marking: &mut Marking, needs: &Needs) -> Result<String, Memory> {
     let mut text = String::new(alloc);
     tell_time(&mut text, marking, needs)?;
     marking.subtract(needs, 10);
-    marking.add_made(made(alloc, &[(7, 20)])?)?;
     push_tokens(&mut text, marking, 1)?;
     Ok(text)
 }
@@ -64,20 +57,23 @@ fn holds(alloc: Global, row: &str) -> Result<bool, Memory> {
     let (asked, wanted) = answered(row);
     let (tokens, needed) = parted(asked);
     let needs = needs_of(alloc, &pairs_in(alloc, needed, '+')?)?;
-    let mut marking = marking_of(alloc, &pairs_in(alloc, tokens, '@')?)?;
+    let made = made(alloc, &pairs_in(alloc, tokens, '@')?)?;
+    let mut marking = marking_with(alloc, 2, made)?;
     Ok(told(alloc, &mut marking, &needs)?.as_str() == wanted)
 }
 
 // Tokens, each a number and a stamp; needs, each a number and an offset; and what is told of them.
-const TABLE: &str = "7@3 | 7+0 -> held from 3 7@20
-7@3 7@9 | 7+0 7+4 -> held from 5 7@20
-7@9 7@3 | 7+4 7+0 -> held from 5 7@20
-7@3 | 7+0 7+0 -> held never 7@20
-6@1 8@1 | 7+0 -> never 6@1 7@20 8@1
-7@2 | 7+5 -> held from 0 7@20
-5@10 7@4 7@6 | 7+0 5+0 -> held from 10 7@4 7@20
-7@12 | 7+0 -> held from 12 7@12 7@20
- | -> from 0 7@20";
+const TABLE: &str = "7@3 | 7+0 -> held from 3
+7@3 7@9 | 7+0 7+4 -> held from 5
+7@9 7@3 | 7+4 7+0 -> held from 5
+7@3 | 7+0 7+0 -> held never
+6@1 8@1 | 7+0 -> never 6@1 8@1
+7@2 | 7+5 -> held from 0
+5@10 7@4 7@6 | 7+0 5+0 -> held from 10 7@4
+7@12 | 7+0 -> held from 12 7@12
+7@9 7@9 7@3 | 7+0 7+0 -> held from 9 7@3
+7@1 7@14 6@0 | 7+0 7+3 6+0 -> held from 11 7@14
+ | -> from 0";
 
 #[test]
 fn needs_are_covered_as_the_table_says(rt: HostRuntime) -> Result<(), Fail> {
@@ -113,12 +109,6 @@ fn many_made(alloc: Global) -> Result<Outputs, Memory> {
     Ok(outputs)
 }
 
-fn many_tokens(alloc: Global) -> Result<Marking, Memory> {
-    let mut marking = Marking::new(alloc, 1)?;
-    marking.add_made(many_made(alloc)?)?;
-    Ok(marking)
-}
-
 // Whether the tokens of a marking cover the needs from 3 on, and none is left when they are taken, but in a copy all.
 fn are_covered(marking: &mut Marking, needs: &Needs) -> Result<bool, Memory> {
     let copy = marking.copy()?;
@@ -129,7 +119,7 @@ fn are_covered(marking: &mut Marking, needs: &Needs) -> Result<bool, Memory> {
 
 #[test]
 fn many_needs_are_covered(rt: HostRuntime) -> Result<(), Fail> {
-    let mut marking = many_tokens(rt.alloc())?;
+    let mut marking = marking_with(rt.alloc(), 1, many_made(rt.alloc())?)?;
     let needs = many_needs(rt.alloc())?;
     assert!(rt; are_covered(&mut marking, &needs)?);
     Ok(())

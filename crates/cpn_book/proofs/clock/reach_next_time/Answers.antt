@@ -1,5 +1,5 @@
 -- The run ends dead where there is no next time, and past its time where that is above the last; else something is ready at it.
-use Rattle.std.proofs.Common.{◌≡◌, ◌<◌, length, map, sym, ap, ◌∙◌, subst, arith, rules, Some}
+use Rattle.std.proofs.Common.{◌≡◌, ◌<◌, length, map, sym, ◌∙◌, subst, arith, rules, Some}
 use Rattle.cpn_definitions.specs.Enabled.{ready, next_time}
 use Rattle.cpn_core.specs.Elements.{entry_view}
 use Rattle.cpn_runs.specs.FinishedViews.{setup_view}
@@ -31,6 +31,7 @@ returns-clause-running c = λ none.
     record {
       way = moves s p (map entry_view c.args.entries.now) c.in-Some.time c.push.new.self.items c.requires.running c.requires.enabled (sym c.next_time.ensures ∙ c.in-Some.is) (omega (arith, c.if-setup-time.false)) (omega (arith, c.if-time-progress.false)) c.requires.below_limit (search rules);
       marking = c.requires.running.marking;
+      bounded = c.requires.running.bounded;
       draw = c.requires.running.draw;
     }
 

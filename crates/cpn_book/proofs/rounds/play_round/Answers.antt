@@ -1,10 +1,9 @@
 -- The round keeps the run under way, its marking one of the net's places, and its draw before the word of the next claim.
-use Rattle.std.proofs.Common.{◌≡◌, ℕ, ◌<◌, ◌%◌, true, length, map, refl, sym, ap, ◌∙◌, subst, arith, rules}
+use Rattle.std.proofs.Common.{◌≡◌, ℕ, ◌%◌, true, length, map, refl, sym, ap, ◌∙◌, subst, arith, rules}
 use Rattle.std.proofs.Math.Path.{ap₂}
 use Rattle.cpn_definitions.specs.Outcome.{gives, faults, HasMeaning}
 use Rattle.cpn_definitions.specs.Net.{PlainNet}
 use Rattle.cpn_definitions.specs.Occurrence.{PlainElement, covered, needs_of, outputs_of}
-use Rattle.cpn_definitions.specs.Enabled.{ready}
 use Rattle.cpn_definitions.specs.Sound.{Gives}
 use Rattle.cpn_definitions.proofs.LegalSequences.{covered_is_bound}
 use Rattle.cpn_definitions.proofs.SoundElements.{outputs_mean}
@@ -15,7 +14,7 @@ use Rattle.cpn_draw.specs.Draw.{generator, word}
 use Rattle.cpn_runs.specs.declared.events.End.TheVariants as ends
 use Rattle.cpn_runs.specs.FinishedViews.{setup_view}
 use Rattle.cpn_book.specs.declared.run_progress.Progress.{Progress}
-use Rattle.cpn_book.proofs.PlayedRounds.{drawn_covered, covered_needs_given, HasClaimed, HasPlayed, HasFaulted, played, kept_marking, faulted}
+use Rattle.cpn_book.proofs.PlayedRounds.{drawn_covered, covered_needs_given, has_room, HasClaimed, HasPlayed, HasFaulted, played, kept_marking, kept_bounds, faulted}
 use Rattle.cpn_book.proofs.rounds.play_round.Goals as goal
 
 pub pick-position-requires : goal.pick-position-requires
@@ -78,6 +77,7 @@ returns-in_ok-push-in-Ok-clause-running c = λ none.
     record {
       way = played s old.clock old.journal.items c.push-2.new.self.items old.occurrences.items c.push-in-Ok.new.self.items old.marking c.add_made.new.self c.requires.playable did c.requires.running.way;
       marking = kept_marking s old.clock old.journal.items c.push-2.new.self.items old.occurrences.items c.push-in-Ok.new.self.items old.marking c.add_made.new.self c.requires.playable did c.requires.running.marking;
+      bounded = kept_bounds s old.clock old.journal.items c.push-2.new.self.items old.occurrences.items c.push-in-Ok.new.self.items old.marking c.add_made.new.self c.requires.playable did (let early = c.requires.running.way.in_time in let late = c.requires.playable.until in omega (arith, early, late)) c.requires.running.bounded;
       draw = next ∙ ap (generator c.args.setup.now.seed) (search rules);
     }
 
@@ -111,3 +111,13 @@ returns-in_ok-push-in-Err-Fault-clause-ended c =
     } in
     let after : Progress = record { clock = old.clock; marking = old.marking; occurrences = old.occurrences; journal = c.push-in-Err-Fault.new.self; draw = c.pick-position.new.self } in
     faulted s old.clock old.journal.items old.occurrences.items old.marking after (ends.Fault c.in_ok-element.element c.in-Err-Fault.fault) c.requires.playable did refl refl refl c.requires.running.way
+
+pub add_made-requires : goal.add_made-requires
+add_made-requires c =
+    let s = setup_view c.args.setup.now in
+    let old = c.args.progress.now in
+    let e = (entry_view c.ready_entry-drawn.result.now).element in
+    let is : covered s.net old.marking old.clock e ≡ true = drawn_covered s.net old.marking old.clock (map entry_view c.args.entries.now) c.pick-position.result (entry_view c.ready_entry-drawn.result.now) c.requires.enabled c.ready_entry-drawn.ensures.entry in
+    let same : element_view c.in_ok-element.element ≡ e = ap₂ (λ t b. record { transition = t; binding = b }) c.in_ok-element.ensures.transition c.in_ok-element.ensures.binding in
+    let outputs : outputs_of s.net e old.clock ≡ gives c.in-Ok.outputs = ap₂ (λ n f. outputs_of (net_view n) f old.clock) (sym c.deref-2.ensures) (sym same) ∙ c.in-Ok.ensures.outputs in
+    record { room = rw c.subtract.ensures.subtracted (has_room s (length old.occurrences.items) old.clock c.in_ok-needs.needs c.in-Ok.outputs e old.marking c.requires.playable c.requires.below_limit is outputs c.requires.running.bounded) }

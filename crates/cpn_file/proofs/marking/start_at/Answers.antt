@@ -1,8 +1,9 @@
 -- The terms are put on the place, or it is refused for their fault.
-use Rattle.std.proofs.Common.{◌≡◌, [], sym, subst}
+use Rattle.std.proofs.Common.{◌≡◌, [], length, sym, ap, subst, arith}
 use Rattle.std.proofs.lemmas.Result.{err_from_is_err_and}
 use Rattle.cpn_definitions.specs.Outcome.{gives}
 use Rattle.cpn_definitions.specs.Terms.{terms_of}
+use Rattle.cpn_definitions.proofs.TokenCounts.{tokens_are_few}
 use Rattle.cpn_core.specs.Inscriptions.{funs_view}
 use Rattle.cpn_eval.specs.Terms.{terms_view}
 use Rattle.cpn_file.specs.AcceptedViews.{initial_view}
@@ -25,3 +26,12 @@ returns-in_ok-add_terms-in-Some-clause-reads c =
     (subst (λ ts. terms_of (funs_view c.args.net.now.funs.value) (initial_view c.in-Some.initial).expr (initial_view c.in-Some.initial).colour [] 0 ≡ gives (terms_view ts)) (sym c.as_slice.ensures.value)
     (subst (λ funs. terms_of (funs_view funs) (initial_view c.in-Some.initial).expr (initial_view c.in-Some.initial).colour [] 0 ≡ gives (terms_view c.in_ok-terms-in-Some.terms.items)) c.deref.ensures c.in_ok-terms-in-Some.ensures.terms))
     c.in_ok-add_terms-in-Some.ensures.added)
+
+pub add_terms-requires-clause-few : goal.add_terms-requires-clause-few
+add_terms-requires-clause-few c =
+    let given : terms_of (funs_view c.args.net.now.funs.value) (initial_view c.in-Some.initial).expr (initial_view c.in-Some.initial).colour [] 0 ≡ gives (terms_view c.as_slice.result.now) =
+    subst (λ ts. terms_of (funs_view c.args.net.now.funs.value) (initial_view c.in-Some.initial).expr (initial_view c.in-Some.initial).colour [] 0 ≡ gives (terms_view ts)) (sym c.as_slice.ensures.value)
+    (subst (λ funs. terms_of (funs_view funs) (initial_view c.in-Some.initial).expr (initial_view c.in-Some.initial).colour [] 0 ≡ gives (terms_view c.in_ok-terms-in-Some.terms.items)) c.deref.ensures c.in_ok-terms-in-Some.ensures.terms) in
+    let few = tokens_are_few (funs_view c.args.net.now.funs.value) (initial_view c.in-Some.initial).expr (initial_view c.in-Some.initial).colour [] 0 (terms_view c.as_slice.result.now) given in
+    let empty = ap length c.requires.empty in
+    omega (arith, few, empty)

@@ -5,9 +5,7 @@ use Rattle.std.specs.List.{list_all}
 use Rattle.cpn_definitions.specs.Sound.{may_hold}
 use Rattle.cpn_definitions.specs.Named.{is_named}
 use Rattle.cpn_core.specs.Nets.{net_view, place_view}
-use Rattle.cpn_marking.specs.Tokens.{tokens_view}
-use Rattle.cpn_report.proofs.PrintableNets.{passes_seen, held_at, entries_count}
-use Rattle.cpn_report.proofs.EqualTokens.{seen_at}
+use Rattle.cpn_report.proofs.PrintableNets.{seen_at, passes_seen, held_at, entries_count}
 use Rattle.cpn_report.proofs.places.push_place_lines.Goals as goal
 
 pub unwrap-tokens-requires : goal.unwrap-tokens-requires
@@ -15,7 +13,7 @@ unwrap-tokens-requires c = c.get.ensures.present.1 (omega (arith, simp length-ma
 
 pub push_place_line-requires-clause-held : goal.push_place_line-requires-clause-held
 push_place_line-requires-clause-held c =
-    let items : tokens_view c.unwrap-tokens.result.now ≡ slice_index_or c.args.marking.now c.loop-number.number [] = search rules in
+    let items : c.unwrap-tokens.result.now ≡ slice_index_or c.args.marking.now c.loop-number.number [] = search rules in
     let lt : c.loop-number.number < length (map place_view c.args.places.now) = simp length-map c.loop-number-test.true in
     let held = held_at (map place_view c.args.places.now) c.args.marking.now c.loop-number.number (place_view c.index-places-number.result) c.requires.marking lt in
     let this = seen_at place_view c.args.places.now c.loop-number.number c.index-places-number.result (place_view c.index-places-number.result) c.loop-number-test.true c.index-places-number.is in

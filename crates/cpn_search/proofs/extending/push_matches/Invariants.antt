@@ -3,7 +3,8 @@ use Rattle.std.proofs.Common.{◌≡◌, ◌++◌, drop}
 use Rattle.cpn_core.specs.Inscriptions.{pattern_view}
 use Rattle.cpn_core.specs.Nets.{net_view}
 use Rattle.cpn_stages.specs.Trials.{matching, next}
-use Rattle.cpn_search.specs.TrialViews.{pointed_view, all_under_way, after}
+use Rattle.cpn_tmset.specs.ListedViews.{pointed_view}
+use Rattle.cpn_search.specs.TrialViews.{all_under_way, after}
 use Rattle.cpn_search.proofs.extending.push_matches.Given as goal
 
 abbrev pub invariant-loop-value : goal.invariant-loop-value

@@ -4,7 +4,7 @@ use Rattle.std.specs.List.Sorted.{IsStrictlySortedBy}
 use Rattle.std.specs.Map.{keys_of, set_value}
 use Rattle.std.specs.BTreeMap.{is_at}
 use Rattle.cpn_tmset.specs.StampCounts.{repeated}
-use Rattle.cpn_tmset.proofs.KeyedEntries.{rises_from, each_left, each_set, of_found}
+use Rattle.cpn_definitions.proofs.KeyedEntries.{rises_from, each_left, each_set, of_found}
 use Rattle.cpn_tmset.proofs.LatestStamps.{removed_none}
 use Rattle.cpn_tmset.proofs.stamps.take_one.Goals as goal
 

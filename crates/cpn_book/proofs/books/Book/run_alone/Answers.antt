@@ -15,7 +15,7 @@ use Rattle.cpn_runs.specs.declared.events.End.{End}
 use Rattle.cpn_book.specs.Books.{setup_in}
 use Rattle.cpn_book.specs.Progress.{HasEnded}
 use Rattle.cpn_book.specs.Shown.{outlook_at, shown}
-use Rattle.cpn_book.proofs.EndedRuns.{starts, over_by_steps, ends_so, ends_in_time}
+use Rattle.cpn_book.proofs.EndedRuns.{starts, over_by_steps, ends_so, ends_in_time, ends_bounded}
 use Rattle.cpn_book.proofs.books.Book.run_alone.Goals as goal
 
 pub rounds-init : goal.rounds-init
@@ -85,3 +85,26 @@ returns-in-Some-clause-in_time c = ends_in_time (setup_in c.args.self) (finished
 
 pub returns-in-Some-2-clause-in_time : goal.returns-in-Some-2-clause-in_time
 returns-in-Some-2-clause-in_time c = ends_in_time (setup_in c.args.self) (finished_view c.finished-in-Some-2.result) c.requires.playable.clock (returns-in-Some-2-clause-run c)
+
+pub returns-clause-bounded : goal.returns-clause-bounded
+returns-clause-bounded c =
+    let s = setup_in c.args.self in
+    let all = c.rounds.invariant.count in
+    let m = ap (λ (run : PlainFinished). run.marking) c.finished-2.ensures.shown in
+    rw m (ends_bounded s (length c.rounds.progress.occurrences.items) c.rounds.progress.marking c.requires.playable (omega (arith, all)) c.rounds.invariant.running.bounded)
+
+pub returns-in-Some-clause-bounded : goal.returns-in-Some-clause-bounded
+returns-in-Some-clause-bounded c =
+    let s = setup_in c.args.self in
+    let all = c.rounds.invariant.count in
+    let m = ap (λ (run : PlainFinished). run.marking) c.finished.ensures.shown ∙ c.reach_next_time.ensures.marking in
+    rw m (ends_bounded s (length c.rounds.progress.occurrences.items) c.rounds.progress.marking c.requires.playable (omega (arith, all)) c.rounds.invariant.running.bounded)
+
+pub returns-in-Some-2-clause-bounded : goal.returns-in-Some-2-clause-bounded
+returns-in-Some-2-clause-bounded c =
+    let s = setup_in c.args.self in
+    let all = c.rounds.invariant.count in
+    let Kept : Option End → Type 0 = λ ended. IfSome ended (λ _. c.play_round.new.progress.marking ≡ c.reach_next_time.new.progress.marking) in
+    let kept = subst Kept c.in-Some-2.is c.in_ok-cause-2.ensures.marking in
+    let m = ap (λ (run : PlainFinished). run.marking) c.finished-in-Some-2.ensures.shown ∙ kept ∙ c.reach_next_time.ensures.marking in
+    rw m (ends_bounded s (length c.rounds.progress.occurrences.items) c.rounds.progress.marking c.requires.playable (omega (arith, all)) c.rounds.invariant.running.bounded)

@@ -3,7 +3,7 @@ use Rattle.std.proofs.Common.{ℕ, ◌+◌, ◌<◌, List, length, sym, ap, subs
 use Rattle.std.specs.List.Sorted.{IsStrictlySortedBy}
 use Rattle.std.specs.Map.{keys_of}
 use Rattle.cpn_tmset.specs.StampCounts.{repeated}
-use Rattle.cpn_tmset.proofs.KeyedEntries.{rises_from, each_inserted}
+use Rattle.cpn_definitions.proofs.KeyedEntries.{rises_from, each_inserted}
 use Rattle.cpn_tmset.proofs.RepeatedStamps.{added, few_held, length-with_item}
 use Rattle.cpn_tmset.proofs.stamps.Stamps.add.Goals as goal
 

@@ -1,8 +1,0 @@
--- The needs so far are covered from the least time so far on.
-use Rattle.std.proofs.Common.{take}
-use Rattle.cpn_core.specs.NeedsViews.{needed_views}
-use Rattle.cpn_marking.proofs.EarliestTimes.{AreCoveredFrom}
-use Rattle.cpn_marking.proofs.markings.Marking.earliest.Given as goal
-
-abbrev pub invariant-loop-index : goal.invariant-loop-index
-invariant-loop-index l = AreCoveredFrom l.self (take l.index (needed_views l.tokens)) l.least
