@@ -1,0 +1,4 @@
+pub mod Joined
+pub mod Numbering
+pub mod OneNumbering
+pub mod Trees
