@@ -1,5 +1,8 @@
 pub mod SeenValues
 pub mod NameLists
+pub mod BrokenRules
+pub mod ReadLists
 pub mod ArcCounts
-pub mod FormedModules
-pub mod FormedDocuments
+pub mod OneReading
+pub mod FewArcs
+mod Rows

@@ -1,125 +1,175 @@
--- The form of a net document of one module: which keys stand where, and the texts at them, as they are written; places and
--- transitions by their numbers. Whatever has another form is not served yet. Source: own choice.
-use Rattle.std.specs.Prelude.{ℕ, ◌+◌, ◌^◌, ◌==◌, Bool, true, not, ◌&&◌, if◌then◌else◌, nat_lt, nat_le, List, [], ◌∷◌, length, map, Option, codes}
-use Rattle.std.specs.List.{list_all, range_with_len, position}
+-- The form of a net document: the keys of each object in their order, what stands at them, and the rules that it has to
+-- keep, in the order in which they count. Source: own choice.
+use Rattle.std.specs.Prelude.{ℕ, suc, ◌==◌, Bool, false, ◌||◌, if◌then◌else◌, nat_le, List, [], ◌∷◌, ◌++◌, length, map, Option, option_map, option_and_then, is_some, codes}
+use Rattle.std.specs.List.{list_all, sum_by}
+use Rattle.std.specs.Option.{unwrap_or}
 use Rattle.std.specs.Str.{bytes_eq}
 use Rattle.serde_json.specs.Data.{Data}
-use Rattle.cpn_document.specs.Reading.{Reading, read, refused, ◌>>=◌, or_refusal, check, each, not_served}
-use Rattle.cpn_document.specs.Parts.{is_one_of, only_keys, text_in, text_at, list_at, number_at, optional_text_at, only}
-use Rattle.cpn_document.specs.Texts.{name_in}
+use Rattle.serde_json.specs.Find.{get, as_number, as_u64, as_i64}
+use Rattle.cpn_document.specs.Refusals.{bad_number, version, limit, not_yet}
+use Rattle.cpn_document.specs.Rules.{Rule}
+use Rattle.cpn_document.specs.Parts.{text_in, text_at, items_at, optional_text_at, object_rules, text_in_rules, there_rule, text_rules, name_rules, new_name_rules, word_rules, list_rules, where_there}
+use Rattle.cpn_document.specs.declared.pointers.Pointer.{Pointer}
+use Rattle.cpn_document.specs.declared.pointers.Pointer.TheVariants as at
+use Rattle.cpn_document.specs.declared.pointers.ModulePart.TheVariants as of_module
+use Rattle.cpn_document.specs.declared.pointers.PlacePart.{PlacePart}
+use Rattle.cpn_document.specs.declared.pointers.PlacePart.TheVariants as of_place
+use Rattle.cpn_document.specs.declared.pointers.TransitionPart.{TransitionPart}
+use Rattle.cpn_document.specs.declared.pointers.TransitionPart.TheVariants as of_transition
+use Rattle.cpn_document.specs.declared.pointers.ArcPart.{ArcPart}
+use Rattle.cpn_document.specs.declared.pointers.ArcPart.TheVariants as of_arc
+use Rattle.cpn_document.specs.declared.pointers.SubPart.{SubPart}
+use Rattle.cpn_document.specs.declared.pointers.SubPart.TheVariants as of_sub
+use Rattle.cpn_document.specs.declared.pointers.AssignmentPart.{AssignmentPart}
+use Rattle.cpn_document.specs.declared.pointers.AssignmentPart.TheVariants as of_assignment
+use Rattle.cpn_document.specs.declared.pointers.FusionPart.TheVariants as of_fusion
+use Rattle.cpn_document.specs.declared.pointers.MemberPart.{MemberPart}
+use Rattle.cpn_document.specs.declared.pointers.MemberPart.TheVariants as of_member
 use Rattle.cpn_document.specs.declared.document.Way.{Way}
-use Rattle.cpn_document.specs.declared.document.Way.TheVariants.{ToTransition, ToPlace, Both}
+use Rattle.cpn_document.specs.declared.document.Way.TheVariants as ways
+use Rattle.cpn_document.specs.declared.document.PortType.{PortType}
+use Rattle.cpn_document.specs.declared.document.PortType.TheVariants as ports
+use Rattle.cpn_document.specs.declared.refusals.Limit.{Limit}
+use Rattle.cpn_document.specs.declared.refusals.Limit.TheVariants as limits
 
--- A place as it is written: its name, the text of its colour set, and that of its initial marking where there is one.
+-- ---- documents as they are written
+
+-- A place: its name, the name of its colour set, the text of its initial marking, and what port it is.
 pub record RawPlace : Type 0 where
   pub name : List ℕ
   pub colour : List ℕ
   pub initial : Option (List ℕ)
+  pub port : Option PortType
 
--- A transition as it is written: its name, and the texts of its guard and its delay where there is one.
+-- A transition: its name, and the texts of its guard and its delay.
 pub record RawTransition : Type 0 where
   pub name : List ℕ
   pub guard : Option (List ℕ)
   pub delay : Option (List ℕ)
 
--- An arc as it is written: the names of its place and its transition, whither it leads, and the text of its inscription.
+-- An arc: the names of its place and its transition, whither it leads, and the text of its inscription.
 pub record RawArc : Type 0 where
   pub place : List ℕ
   pub transition : List ℕ
   pub way : Way
-  pub expr : List ℕ
+  pub expr : Option (List ℕ)
 
--- The same with its place and its transition by their numbers in the module.
-pub record JoinedArc : Type 0 where
-  pub place : ℕ
-  pub transition : ℕ
-  pub way : Way
-  pub expr : List ℕ
+-- The assignment of a port to a socket, by their names.
+pub record RawAssignment : Type 0 where
+  pub port : List ℕ
+  pub socket : List ℕ
 
--- A module as it is written: its name, its places, its transitions, its arcs.
+-- A substitution transition: its name, the name of its submodule, and its assignments.
+pub record RawSub : Type 0 where
+  pub name : List ℕ
+  pub submodule : List ℕ
+  pub assign : List RawAssignment
+
+-- A module: its name, its places, its transitions, its arcs, its substitution transitions.
 pub record RawModule : Type 0 where
   pub name : List ℕ
   pub places : List RawPlace
   pub transitions : List RawTransition
-  pub arcs : List JoinedArc
+  pub arcs : List RawArc
+  pub subs : List RawSub
 
--- A document as it is written: the texts of its declarations, and its one module.
+-- A member of a fusion set: the names of its module and its place.
+pub record RawMember : Type 0 where
+  pub of_module : List ℕ
+  pub place : List ℕ
+
+-- A fusion set: its name and its members.
+pub record RawFusion : Type 0 where
+  pub name : List ℕ
+  pub members : List RawMember
+
+-- A document: the texts of its declarations, the name of its top module, its modules, its fusion sets.
 pub record RawDocument : Type 0 where
   pub declarations : List (List ℕ)
-  pub the_module : RawModule
+  pub top : List ℕ
+  pub modules : List RawModule
+  pub fusions : List RawFusion
 
--- ---- names
+-- ---- the items of lists
 
--- no text is there twice
-abbrev pub are_distinct : List (List ℕ) → Bool
-are_distinct [] = true
-are_distinct (text ∷ texts) = not (is_one_of text texts) && are_distinct texts
+-- the rules of each item of a list, by its number from a number on
+unfoldable pub each_item : (ℕ → Data → List Rule) → ℕ → List Data → List Rule
+each_item rules i [] = []
+each_item rules i (d ∷ ds) = rules i d ++ each_item rules (suc i) ds
 
--- whether each of the texts has a number of 32 bits of its own: they are fewer than 2 ^ 32, and no text is there twice
-unfoldable pub are_apart : List (List ℕ) → Bool
-are_apart texts = nat_lt (length texts) (2 ^ 32) && are_distinct texts
+-- the same of items that have names, each by the names of those before it too
+unfoldable pub each_named : (ℕ → List (List ℕ) → Data → List Rule) → ℕ → List (List ℕ) → List Data → List Rule
+each_named rules i earlier [] = []
+each_named rules i earlier (d ∷ ds) = rules i earlier d ++ each_named rules (suc i) (earlier ++ text_at (codes "name") d ∷ []) ds
 
-abbrev pub place_names : List RawPlace → List (List ℕ)
-place_names places = map (λ place. place.name) places
+-- the names of items
+abbrev pub names_in : List Data → List (List ℕ)
+names_in ds = map (text_at (codes "name")) ds
 
-abbrev pub transition_names : List RawTransition → List (List ℕ)
-transition_names transitions = map (λ transition. transition.name) transitions
+-- there are not too many of something
+unfoldable pub limit_rules : Bool → Limit → List Rule
+limit_rules few kind = record { kept = few; refusal = limit kind } ∷ []
 
--- the name at a key
-abbrev pub name_at : List ℕ → Data → Reading (List ℕ)
-name_at key d = do
-  text ← text_at key d
-  or_refusal (name_in text) not_served
+-- ---- places
 
--- the number of a name: its position among the names
-abbrev pub number_of_name : List ℕ → List (List ℕ) → Option ℕ
-number_of_name name names = position (bytes_eq name) names
+-- the port type of a word
+unfoldable pub port_of : List ℕ → PortType
+port_of word = if bytes_eq word (codes "in") then ports.In else (if bytes_eq word (codes "out") then ports.Out else ports.Io)
 
--- ---- the objects of a document, each with its keys
+abbrev pub place_in : Data → RawPlace
+place_in d = record { name = text_at (codes "name") d; colour = text_at (codes "colour") d; initial = optional_text_at (codes "initial") d; port = option_map port_of (optional_text_at (codes "port") d) }
 
--- A place has the keys `name` and `colour`, and maybe `initial`.
-unfoldable pub place_in : Data → Reading RawPlace
-place_in d = do
-  known ← only_keys (codes "name" ∷ codes "colour" ∷ codes "initial" ∷ []) d
-  name ← name_at (codes "name") d
-  colour ← text_at (codes "colour") d
-  initial ← optional_text_at (codes "initial") d
-  read (record { name = name; colour = colour; initial = initial })
+-- a part of a place of a module, by their numbers
+abbrev pub at_place : ℕ → ℕ → PlacePart → Pointer
+at_place m i part = at.Module m (of_module.Place i part)
 
--- A transition has the key `name`, and maybe `guard` and `delay`.
-unfoldable pub transition_in : Data → Reading RawTransition
-transition_in d = do
-  known ← only_keys (codes "name" ∷ codes "guard" ∷ codes "delay" ∷ []) d
-  name ← name_at (codes "name") d
-  guard ← optional_text_at (codes "guard") d
-  delay ← optional_text_at (codes "delay") d
-  read (record { name = name; guard = guard; delay = delay })
+-- A place has a new name and a colour set, and maybe an initial marking and a port type.
+unfoldable pub place_rules : ℕ → ℕ → List (List ℕ) → Data → List Rule
+place_rules m i earlier d =
+    object_rules (codes "name" ∷ codes "colour" ∷ codes "initial" ∷ codes "port" ∷ []) (at_place m i of_place.Whole) d
+    ++ new_name_rules (codes "name") (at_place m i of_place.Whole) (at_place m i of_place.Name) earlier d
+    ++ text_rules (codes "colour") (at_place m i of_place.Whole) (at_place m i of_place.Colour) d
+    ++ where_there (codes "initial") d (text_rules (codes "initial") (at_place m i of_place.Whole) (at_place m i of_place.Initial) d)
+    ++ where_there (codes "port") d (word_rules (codes "in" ∷ codes "out" ∷ codes "io" ∷ []) (codes "port") (at_place m i of_place.Whole) (at_place m i of_place.Port) d)
 
--- whither an arc leads
-unfoldable pub way_in : List ℕ → Reading Way
-way_in text =
-    if bytes_eq text (codes "transition") then read ToTransition
-    else (if bytes_eq text (codes "place") then read ToPlace else (if bytes_eq text (codes "both") then read Both else refused not_served))
+-- ---- transitions
 
--- An arc has the keys `place`, `transition`, `to` and `expr`.
-unfoldable pub arc_in : Data → Reading RawArc
-arc_in d = do
-  known ← only_keys (codes "place" ∷ codes "transition" ∷ codes "to" ∷ codes "expr" ∷ []) d
-  place ← name_at (codes "place") d
-  transition ← name_at (codes "transition") d
-  to ← text_at (codes "to") d
-  way ← way_in to
-  expr ← text_at (codes "expr") d
-  read (record { place = place; transition = transition; way = way; expr = expr })
+abbrev pub transition_in : Data → RawTransition
+transition_in d = record { name = text_at (codes "name") d; guard = optional_text_at (codes "guard") d; delay = optional_text_at (codes "delay") d }
 
--- ---- the arcs of a module
+-- a part of a transition of a module, by their numbers
+abbrev pub at_transition : ℕ → ℕ → TransitionPart → Pointer
+at_transition m i part = at.Module m (of_module.Transition i part)
 
--- an arc among places and transitions of these names
-unfoldable pub joined_in : List (List ℕ) → List (List ℕ) → RawArc → Reading JoinedArc
-joined_in places transitions arc = do
-  place ← or_refusal (number_of_name arc.place places) not_served
-  transition ← or_refusal (number_of_name arc.transition transitions) not_served
-  read (record { place = place; transition = transition; way = arc.way; expr = arc.expr })
+-- A transition has a new name, and maybe a guard and a delay.
+unfoldable pub transition_rules : ℕ → ℕ → List (List ℕ) → Data → List Rule
+transition_rules m i earlier d =
+    object_rules (codes "name" ∷ codes "guard" ∷ codes "delay" ∷ []) (at_transition m i of_transition.Whole) d
+    ++ new_name_rules (codes "name") (at_transition m i of_transition.Whole) (at_transition m i of_transition.Name) earlier d
+    ++ where_there (codes "guard") d (text_rules (codes "guard") (at_transition m i of_transition.Whole) (at_transition m i of_transition.Guard) d)
+    ++ where_there (codes "delay") d (text_rules (codes "delay") (at_transition m i of_transition.Whole) (at_transition m i of_transition.Delay) d)
+
+-- ---- arcs
+
+-- the way of a word
+unfoldable pub way_of : List ℕ → Way
+way_of word = if bytes_eq word (codes "transition") then ways.ToTransition else (if bytes_eq word (codes "place") then ways.ToPlace else ways.Both)
+
+abbrev pub arc_in : Data → RawArc
+arc_in d = record { place = text_at (codes "place") d; transition = text_at (codes "transition") d; way = way_of (text_at (codes "to") d); expr = optional_text_at (codes "expr") d }
+
+-- a part of an arc of a module, by their numbers
+abbrev pub at_arc : ℕ → ℕ → ArcPart → Pointer
+at_arc m i part = at.Module m (of_module.Arc i part)
+
+-- An arc has the names of a place and a transition, a way, and maybe an inscription.
+unfoldable pub arc_rules : ℕ → ℕ → Data → List Rule
+arc_rules m i d =
+    object_rules (codes "place" ∷ codes "transition" ∷ codes "to" ∷ codes "expr" ∷ []) (at_arc m i of_arc.Whole) d
+    ++ name_rules (codes "place") (at_arc m i of_arc.Whole) (at_arc m i of_arc.Place) d
+    ++ name_rules (codes "transition") (at_arc m i of_arc.Whole) (at_arc m i of_arc.Transition) d
+    ++ word_rules (codes "transition" ∷ codes "place" ∷ codes "both" ∷ []) (codes "to") (at_arc m i of_arc.Whole) (at_arc m i of_arc.To) d
+    ++ where_there (codes "expr") d (text_rules (codes "expr") (at_arc m i of_arc.Whole) (at_arc m i of_arc.Expr) d)
 
 -- the most arcs of a transition
 abbrev pub most_arcs : ℕ
@@ -127,76 +177,221 @@ most_arcs = 64
 
 -- how many arcs a way is: one that leads both ways counts two
 abbrev pub arcs_on : Way → ℕ
-arcs_on ToTransition = 1
-arcs_on ToPlace = 1
-arcs_on Both = 2
+arcs_on ways.ToTransition = 1
+arcs_on ways.ToPlace = 1
+arcs_on ways.Both = 2
 
--- how many arcs a transition has
-abbrev pub arcs_at : ℕ → List JoinedArc → ℕ
-arcs_at t [] = 0
-arcs_at t (arc ∷ arcs) = (if t == arc.transition then arcs_on arc.way else 0) + arcs_at t arcs
+-- how many arcs there are at the transition of a name
+abbrev pub arcs_at : List ℕ → List RawArc → ℕ
+arcs_at name arcs = sum_by (λ arc. if bytes_eq name arc.transition then arcs_on arc.way else 0) arcs
 
--- whether none of so many transitions has too many
-abbrev pub have_few_arcs : ℕ → List JoinedArc → Bool
-have_few_arcs count arcs = list_all (λ t. nat_le (arcs_at t arcs) most_arcs) (range_with_len 0 count)
+-- whether there are not too many at any of the transitions of these names
+abbrev pub have_few_arcs : List (List ℕ) → List RawArc → Bool
+have_few_arcs names arcs = list_all (λ name. nat_le (arcs_at name arcs) most_arcs) names
 
--- The arcs of a module of places and transitions of these names: each is among them, and no transition has too many.
-unfoldable pub arcs_in : List (List ℕ) → List (List ℕ) → Data → Reading (List JoinedArc)
-arcs_in places transitions d = do
-  items ← list_at (codes "arcs") d
-  written ← each arc_in items
-  arcs ← each (joined_in places transitions) written
-  few ← check (have_few_arcs (length transitions) arcs) not_served
-  read arcs
+-- ---- substitution transitions
+
+abbrev pub assignment_in : Data → RawAssignment
+assignment_in d = record { port = text_at (codes "port") d; socket = text_at (codes "socket") d }
+
+-- a part of a substitution transition of a module, by their numbers, and of one of its assignments
+abbrev pub at_sub : ℕ → ℕ → SubPart → Pointer
+at_sub m i part = at.Module m (of_module.Sub i part)
+
+abbrev pub at_assignment : ℕ → ℕ → ℕ → AssignmentPart → Pointer
+at_assignment m i k part = at_sub m i (of_sub.Assignment k part)
+
+-- An assignment has the names of a port and a socket.
+unfoldable pub assignment_rules : ℕ → ℕ → ℕ → Data → List Rule
+assignment_rules m i k d =
+    object_rules (codes "port" ∷ codes "socket" ∷ []) (at_assignment m i k of_assignment.Whole) d
+    ++ name_rules (codes "port") (at_assignment m i k of_assignment.Whole) (at_assignment m i k of_assignment.Port) d
+    ++ name_rules (codes "socket") (at_assignment m i k of_assignment.Whole) (at_assignment m i k of_assignment.Socket) d
+
+-- each of the assignments of a substitution transition
+unfoldable pub each_assignment : ℕ → ℕ → List Data → List Rule
+each_assignment m i ds = each_item (assignment_rules m i) 0 ds
+
+abbrev pub sub_in : Data → RawSub
+sub_in d = record { name = text_at (codes "name") d; submodule = text_at (codes "module") d; assign = map assignment_in (items_at (codes "assign") d) }
+
+-- A substitution transition has a new name, the name of a module, and a list of assignments.
+unfoldable pub sub_rules : ℕ → ℕ → List (List ℕ) → Data → List Rule
+sub_rules m i earlier d =
+    object_rules (codes "name" ∷ codes "module" ∷ codes "assign" ∷ []) (at_sub m i of_sub.Whole) d
+    ++ new_name_rules (codes "name") (at_sub m i of_sub.Whole) (at_sub m i of_sub.Name) earlier d
+    ++ name_rules (codes "module") (at_sub m i of_sub.Whole) (at_sub m i of_sub.Module) d
+    ++ list_rules (codes "assign") (at_sub m i of_sub.Whole) (at_sub m i of_sub.Assign) d
+    ++ each_assignment m i (items_at (codes "assign") d)
+
+-- ---- modules
+
+abbrev pub module_in : Data → RawModule
+module_in d = record {
+  name = text_at (codes "name") d;
+  places = map place_in (items_at (codes "places") d);
+  transitions = map transition_in (items_at (codes "transitions") d);
+  arcs = map arc_in (items_at (codes "arcs") d);
+  subs = map sub_in (items_at (codes "subs") d);
+}
+
+-- each of the places of a module, no two of one name
+unfoldable pub each_place : ℕ → List Data → List Rule
+each_place m ds = each_named (place_rules m) 0 [] ds
+
+-- The places of a module: a list of places.
+unfoldable pub places_rules : ℕ → Data → List Rule
+places_rules m d =
+    list_rules (codes "places") (at.Module m of_module.Whole) (at.Module m of_module.Places) d
+    ++ each_place m (items_at (codes "places") d)
+
+-- each of its transitions, no two of one name
+unfoldable pub each_transition : ℕ → List Data → List Rule
+each_transition m ds = each_named (transition_rules m) 0 [] ds
+
+-- Its transitions: a list of transitions.
+unfoldable pub transitions_rules : ℕ → Data → List Rule
+transitions_rules m d =
+    list_rules (codes "transitions") (at.Module m of_module.Whole) (at.Module m of_module.Transitions) d
+    ++ each_transition m (items_at (codes "transitions") d)
+
+-- each of its arcs
+unfoldable pub each_arc : ℕ → List Data → List Rule
+each_arc m ds = each_item (arc_rules m) 0 ds
+
+-- Its arcs: a list of arcs, not too many of them at any of the transitions of these names.
+unfoldable pub arcs_rules : ℕ → List (List ℕ) → Data → List Rule
+arcs_rules m transitions d =
+    list_rules (codes "arcs") (at.Module m of_module.Whole) (at.Module m of_module.Arcs) d
+    ++ each_arc m (items_at (codes "arcs") d)
+    ++ limit_rules (have_few_arcs transitions (map arc_in (items_at (codes "arcs") d))) limits.Arcs
+
+-- each of its substitution transitions, none with the name of another or of one of these transitions
+unfoldable pub each_sub : ℕ → List (List ℕ) → List Data → List Rule
+each_sub m transitions ds = each_named (sub_rules m) 0 transitions ds
+
+-- Its substitution transitions: maybe a list of them.
+unfoldable pub subs_rules : ℕ → List (List ℕ) → Data → List Rule
+subs_rules m transitions d =
+    where_there (codes "subs") d (list_rules (codes "subs") (at.Module m of_module.Whole) (at.Module m of_module.Subs) d)
+    ++ each_sub m transitions (items_at (codes "subs") d)
+
+-- A module has a new name, places, transitions, arcs, and maybe substitution transitions.
+unfoldable pub module_rules : ℕ → List (List ℕ) → Data → List Rule
+module_rules m earlier d =
+    object_rules (codes "name" ∷ codes "places" ∷ codes "transitions" ∷ codes "arcs" ∷ codes "subs" ∷ []) (at.Module m of_module.Whole) d
+    ++ new_name_rules (codes "name") (at.Module m of_module.Whole) (at.Module m of_module.Name) earlier d
+    ++ places_rules m d
+    ++ transitions_rules m d
+    ++ arcs_rules m (names_in (items_at (codes "transitions") d)) d
+    ++ subs_rules m (names_in (items_at (codes "transitions") d)) d
+
+-- ---- fusion sets
+
+abbrev pub member_in : Data → RawMember
+member_in d = record { of_module = text_at (codes "module") d; place = text_at (codes "place") d }
+
+-- a part of a member of a fusion set, by their numbers
+abbrev pub at_member : ℕ → ℕ → MemberPart → Pointer
+at_member i k part = at.Fusion i (of_fusion.Member k part)
+
+-- A member has the names of a module and a place.
+unfoldable pub member_rules : ℕ → ℕ → Data → List Rule
+member_rules i k d =
+    object_rules (codes "module" ∷ codes "place" ∷ []) (at_member i k of_member.Whole) d
+    ++ name_rules (codes "module") (at_member i k of_member.Whole) (at_member i k of_member.Module) d
+    ++ name_rules (codes "place") (at_member i k of_member.Whole) (at_member i k of_member.Place) d
+
+-- each of the members of a fusion set
+unfoldable pub each_member : ℕ → List Data → List Rule
+each_member i ds = each_item (member_rules i) 0 ds
+
+abbrev pub fusion_in : Data → RawFusion
+fusion_in d = record { name = text_at (codes "name") d; members = map member_in (items_at (codes "members") d) }
+
+-- A fusion set has a new name and a list of members.
+unfoldable pub fusion_rules : ℕ → List (List ℕ) → Data → List Rule
+fusion_rules i earlier d =
+    object_rules (codes "name" ∷ codes "members" ∷ []) (at.Fusion i of_fusion.Whole) d
+    ++ new_name_rules (codes "name") (at.Fusion i of_fusion.Whole) (at.Fusion i of_fusion.Name) earlier d
+    ++ list_rules (codes "members") (at.Fusion i of_fusion.Whole) (at.Fusion i of_fusion.Members) d
+    ++ each_member i (items_at (codes "members") d)
 
 -- ---- the document
 
--- The places, and the transitions, of a module: no two of them have one name, and each has a number of 32 bits.
-unfoldable pub places_in : Data → Reading (List RawPlace)
-places_in d = do
-  items ← list_at (codes "places") d
-  places ← each place_in items
-  apart ← check (are_apart (place_names places)) not_served
-  read places
-
-unfoldable pub transitions_in : Data → Reading (List RawTransition)
-transitions_in d = do
-  items ← list_at (codes "transitions") d
-  transitions ← each transition_in items
-  apart ← check (are_apart (transition_names transitions)) not_served
-  read transitions
-
--- A module has the keys `name`, `places`, `transitions` and `arcs`.
-unfoldable pub module_in : Data → Reading RawModule
-module_in d = do
-  known ← only_keys (codes "name" ∷ codes "places" ∷ codes "transitions" ∷ codes "arcs" ∷ []) d
-  name ← name_at (codes "name") d
-  places ← places_in d
-  transitions ← transitions_in d
-  arcs ← arcs_in (place_names places) (transition_names transitions) d
-  read (record { name = name; places = places; transitions = transitions; arcs = arcs })
-
--- the most declarations of a document
+-- the most declarations, and the most modules, of a document
 abbrev pub most_declarations : ℕ
 most_declarations = 1024
 
--- The declarations of a document: texts, of which there are not too many.
-unfoldable pub declarations_in : Data → Reading (List (List ℕ))
-declarations_in d = do
-  items ← list_at (codes "declarations") d
-  few ← check (nat_le (length items) most_declarations) not_served
-  each text_in items
+abbrev pub most_modules : ℕ
+most_modules = 256
 
--- A document has the keys `version`, which is 1, `declarations`, `top` and `modules`, with one module, which `top` names.
-unfoldable pub document_in : Data → Reading RawDocument
-document_in d = do
-  known ← only_keys (codes "version" ∷ codes "declarations" ∷ codes "top" ∷ codes "modules" ∷ []) d
-  version ← number_at (codes "version") d
-  first_version ← check (version == 1) not_served
-  declarations ← declarations_in d
-  top ← name_at (codes "top") d
-  modules ← list_at (codes "modules") d
-  single ← only modules
-  the_module ← module_in single
-  named ← check (bytes_eq the_module.name top) not_served
-  read (record { declarations = declarations; the_module = the_module })
+-- whether a value is a whole number: one of 64 bits, with or without a sign
+abbrev pub is_whole : Data → Bool
+is_whole d = is_some (option_and_then as_u64 (as_number d)) || is_some (option_and_then as_i64 (as_number d))
+
+-- The version is there, a whole number, and 1.
+unfoldable pub version_rules : Data → List Rule
+version_rules d =
+    there_rule (codes "version") at.Root d
+    ∷ record { kept = unwrap_or (option_map is_whole (get (codes "version") d)) false; refusal = bad_number at.Version }
+    ∷ record { kept = unwrap_or (option_and_then as_u64 (option_and_then as_number (get (codes "version") d))) 0 == 1; refusal = version }
+    ∷ []
+
+-- each of the declarations: a text
+unfoldable pub each_declaration : List Data → List Rule
+each_declaration ds = each_item (λ i. text_in_rules (at.Declaration i)) 0 ds
+
+-- The declarations: a list of texts, not too many. They are counted before the texts are looked at.
+unfoldable pub declarations_rules : Data → List Rule
+declarations_rules d =
+    list_rules (codes "declarations") at.Root at.Declarations d
+    ++ limit_rules (nat_le (length (items_at (codes "declarations") d)) most_declarations) limits.Declarations
+    ++ each_declaration (items_at (codes "declarations") d)
+
+-- each of the modules, no two of one name
+unfoldable pub each_module : List Data → List Rule
+each_module ds = each_named module_rules 0 [] ds
+
+-- The modules: a list of modules, not too many. They are counted before they are looked at.
+unfoldable pub modules_rules : Data → List Rule
+modules_rules d =
+    list_rules (codes "modules") at.Root at.Modules d
+    ++ limit_rules (nat_le (length (items_at (codes "modules") d)) most_modules) limits.Modules
+    ++ each_module (items_at (codes "modules") d)
+
+-- each of the fusion sets, no two of one name
+unfoldable pub each_fusion : List Data → List Rule
+each_fusion ds = each_named fusion_rules 0 [] ds
+
+-- The fusion sets: maybe a list of them.
+unfoldable pub fusions_rules : Data → List Rule
+fusions_rules d =
+    where_there (codes "fusions") d (list_rules (codes "fusions") at.Root at.Fusions d)
+    ++ each_fusion (items_at (codes "fusions") d)
+
+-- What may be missing or an empty list, and is not served yet else.
+unfoldable pub unserved_rules : List ℕ → Pointer → Data → List Rule
+unserved_rules key here d =
+    where_there key d (list_rules key at.Root here d)
+    ++ record { kept = length (items_at key d) == 0; refusal = not_yet here } ∷ []
+
+abbrev pub document_in : Data → RawDocument
+document_in d = record {
+  declarations = map text_in (items_at (codes "declarations") d);
+  top = text_at (codes "top") d;
+  modules = map module_in (items_at (codes "modules") d);
+  fusions = map fusion_in (items_at (codes "fusions") d);
+}
+
+-- The rules of a document.
+unfoldable pub document_rules : Data → List Rule
+document_rules d =
+    object_rules (codes "version" ∷ codes "declarations" ∷ codes "top" ∷ codes "modules" ∷ codes "fusions" ∷ codes "monitors" ∷ codes "phases" ∷ []) at.Root d
+    ++ version_rules d
+    ++ declarations_rules d
+    ++ name_rules (codes "top") at.Root at.Top d
+    ++ modules_rules d
+    ++ fusions_rules d
+    ++ unserved_rules (codes "monitors") at.Monitors d
+    ++ unserved_rules (codes "phases") at.Phases d

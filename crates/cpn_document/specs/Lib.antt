@@ -1,9 +1,11 @@
-pub mod Reading
-pub mod Parts
+pub mod Refusals
+pub mod Rules
 pub mod Texts
+pub mod Parts
 pub mod Document
+pub mod FewArcs
 pub mod Json
-pub mod Formed
+pub mod Reading
 pub mod Names
 pub mod Views
 pub mod Answers

@@ -1,59 +1,90 @@
--- The parts of a JSON value: the keys of an object, what stands at a key, the items of a list. Source: own choice.
-use Rattle.std.specs.Prelude.{ℕ, Bool, true, ◌&&◌, List, [], ◌∷◌, Option, Some, None, option_and_then}
+-- The parts of a JSON value, and the rules of what stands at a key. What is not there, or is of another kind, is as if it
+-- were empty: a rule says that it has to be there. Source: own choice.
+use Rattle.std.specs.Prelude.{ℕ, Bool, true, not, ◌&&◌, List, [], ◌∷◌, ◌++◌, Option, Some, None, option_map, option_and_then, is_some}
+use Rattle.std.specs.Option.{unwrap_or}
 use Rattle.std.specs.List.{list_any}
 use Rattle.std.specs.Str.{bytes_eq}
 use Rattle.serde_json.specs.Data.{Data, Items, no_items, item, Members, no_members, member}
-use Rattle.serde_json.specs.Find.{get, as_number, as_u64, as_str, as_array, as_object}
-use Rattle.cpn_document.specs.Reading.{Reading, read, refused, ◌>>=◌, or_refusal, check, not_served}
+use Rattle.serde_json.specs.Find.{get, as_str, as_array, as_object}
+use Rattle.cpn_document.specs.Refusals.{shape, bad_name}
+use Rattle.cpn_document.specs.Rules.{Rule}
+use Rattle.cpn_document.specs.Texts.{is_name}
+use Rattle.cpn_document.specs.declared.pointers.Pointer.{Pointer}
+
+-- ---- parts
 
 -- whether a text is one of the texts
 abbrev pub is_one_of : List ℕ → List (List ℕ) → Bool
 is_one_of text texts = list_any (bytes_eq text) texts
 
--- whether each key of the members is one of these
+-- whether the keys of the members of an object are all among these
 abbrev pub are_among : List (List ℕ) → Members → Bool
 are_among keys no_members = true
 are_among keys (member key d ms) = is_one_of key keys && are_among keys ms
-
--- that a value is an object, with no other key than these
-abbrev pub only_keys : List (List ℕ) → Data → Reading Bool
-only_keys keys d = do
-  members ← or_refusal (as_object d) not_served
-  check (are_among keys members) not_served
 
 -- the items of a list
 abbrev pub items_of : Items → List Data
 items_of no_items = []
 items_of (item d ds) = d ∷ items_of ds
 
--- the text that a value is
-abbrev pub text_in : Data → Reading (List ℕ)
-text_in d = or_refusal (as_str d) not_served
+-- the members of an object, the text that a value is, the text and the items of the list at a key
+abbrev pub members_in : Data → Members
+members_in d = unwrap_or (as_object d) no_members
 
--- the text, the list and the whole number from 0 to 2 ^ 64 - 1 at a key
-abbrev pub text_at : List ℕ → Data → Reading (List ℕ)
-text_at key d = or_refusal (option_and_then as_str (get key d)) not_served
+unfoldable pub text_in : Data → List ℕ
+text_in d = unwrap_or (as_str d) []
 
-abbrev pub list_at : List ℕ → Data → Reading (List Data)
-list_at key d = do
-  items ← or_refusal (option_and_then as_array (get key d)) not_served
-  read (items_of items)
+unfoldable pub text_at : List ℕ → Data → List ℕ
+text_at key d = unwrap_or (option_and_then as_str (get key d)) []
 
-abbrev pub number_at : List ℕ → Data → Reading ℕ
-number_at key d = or_refusal (option_and_then as_u64 (option_and_then as_number (get key d))) not_served
+unfoldable pub items_at : List ℕ → Data → List Data
+items_at key d = items_of (unwrap_or (option_and_then as_array (get key d)) no_items)
 
 -- the text at a key, or none where the key is missing
-abbrev pub optional_text : Option Data → Reading (Option (List ℕ))
-optional_text None = read None
-optional_text (Some d) = do
-  text ← text_in d
-  read (Some text)
+unfoldable pub optional_text_at : List ℕ → Data → Option (List ℕ)
+optional_text_at key d = option_map text_in (get key d)
 
-abbrev pub optional_text_at : List ℕ → Data → Reading (Option (List ℕ))
-optional_text_at key d = optional_text (get key d)
+-- ---- rules
 
--- the one item of a list
-abbrev pub only : List Data → Reading Data
-only [] = refused not_served
-only (d ∷ []) = read d
-only (d ∷ e ∷ ds) = refused not_served
+-- a value is an object with no other keys than these
+unfoldable pub object_rules : List (List ℕ) → Pointer → Data → List Rule
+object_rules keys here d =
+    record { kept = is_some (as_object d); refusal = shape here }
+    ∷ record { kept = are_among keys (members_in d); refusal = shape here }
+    ∷ []
+
+-- a value is a text
+unfoldable pub text_in_rules : Pointer → Data → List Rule
+text_in_rules here d = record { kept = is_some (as_str d); refusal = shape here } ∷ []
+
+-- a key is there in the object `whole`
+abbrev pub there_rule : List ℕ → Pointer → Data → Rule
+there_rule key whole d = record { kept = is_some (get key d); refusal = shape whole }
+
+-- a text stands at a key, of the object `whole`
+unfoldable pub text_rules : List ℕ → Pointer → Pointer → Data → List Rule
+text_rules key whole here d = there_rule key whole d ∷ record { kept = is_some (option_and_then as_str (get key d)); refusal = shape here } ∷ []
+
+-- a name stands at a key
+unfoldable pub name_rules : List ℕ → Pointer → Pointer → Data → List Rule
+name_rules key whole here d = text_rules key whole here d ++ record { kept = is_name (text_at key d); refusal = bad_name here } ∷ []
+
+-- a name stands at a key that none of those before it is
+unfoldable pub new_name_rules : List ℕ → Pointer → Pointer → List (List ℕ) → Data → List Rule
+new_name_rules key whole here earlier d = name_rules key whole here d ++ record { kept = not (is_one_of (text_at key d) earlier); refusal = bad_name here } ∷ []
+
+-- one of these words stands at a key
+unfoldable pub word_rules : List (List ℕ) → List ℕ → Pointer → Pointer → Data → List Rule
+word_rules words key whole here d = text_rules key whole here d ++ record { kept = is_one_of (text_at key d) words; refusal = shape here } ∷ []
+
+-- a list stands at a key
+unfoldable pub list_rules : List ℕ → Pointer → Pointer → Data → List Rule
+list_rules key whole here d = there_rule key whole d ∷ record { kept = is_some (option_and_then as_array (get key d)); refusal = shape here } ∷ []
+
+-- what may be missing: rules of what stands at a key count where something does
+unfoldable pub where_there : List ℕ → Data → List Rule → List Rule
+where_there key d rules = if_there (get key d)
+  where
+    if_there : Option Data → List Rule
+    if_there None = []
+    if_there (Some e) = rules

@@ -1,20 +1,28 @@
--- Readings of the form of a document: a value, or the first refusal. Source: own choice.
+-- What a JSON value, and what bytes, are read as: a document, or the first refusal. Source: own choice.
+use Rattle.std.specs.Prelude.{ℕ, List, Option, Some, None}
 use Rattle.cpn_readings.specs.Reading as readings
-pub use Rattle.cpn_readings.specs.Reading.{read, refused, ◌>>=◌, or_refusal, check}
-unfoldable pub use Rattle.cpn_readings.specs.Reading.{each}
-use Rattle.cpn_document.specs.declared.refusals.Pointer.{Pointer}
-use Rattle.cpn_document.specs.declared.refusals.Pointer.TheVariants.{Root}
-
--- Why bytes are no document of the form that is served: they are no JSON value; they are one, but what stands at this place
--- of it is not served yet.
-pub data FormRefusal : Type 0 where
-  not_json : FormRefusal
-  not_yet : Pointer → FormRefusal
+pub use Rattle.cpn_readings.specs.Reading.{read, refused}
+use Rattle.serde_json.specs.Data.{Data}
+use Rattle.cpn_document.specs.Document.{RawDocument, document_in, document_rules}
+use Rattle.cpn_document.specs.Json.{IsJson, HasJson}
+use Rattle.cpn_document.specs.Refusals.{FormRefusal, not_json}
+use Rattle.cpn_document.specs.Rules.{first_broken}
 
 -- A reading: a value, or such a refusal.
 abbrev pub Reading : Type 0 → Type 0
 Reading = readings.Reading FormRefusal
 
--- Whatever is not served yet is refused as such, at the whole document.
-abbrev pub not_served : FormRefusal
-not_served = not_yet Root
+-- a value, where no rule is broken
+abbrev pub unless_broken : {A : Type 0} → A → Option FormRefusal → Reading A
+unless_broken x None = read x
+unless_broken x (Some refusal) = refused refusal
+
+-- a JSON value is read as the document that it is, where it keeps all the rules of documents; else the first that it breaks is
+-- the refusal
+abbrev pub document_of : Data → Reading RawDocument
+document_of d = unless_broken (document_in d) (first_broken (document_rules d))
+
+-- Read as: what bytes are read as. They are the JSON value that is read so; or none, and are refused as that.
+pub data IsDocument (bytes : List ℕ) : Reading RawDocument → Type 0 where
+  of_json : (d : Data) → IsJson bytes d → IsDocument bytes (document_of d)
+  of_none : HasJson bytes None → IsDocument bytes (refused not_json)

@@ -1,5 +1,5 @@
 -- The names of modules, places and transitions. Source: own choice.
-use Rattle.std.specs.Prelude.{ℕ, ◌-◌, ◌==◌, Bool, not, ◌&&◌, ◌||◌, if◌then◌else◌, nat_le, List, length, slice_index, Option, Some, None}
+use Rattle.std.specs.Prelude.{ℕ, ◌-◌, ◌==◌, Bool, not, ◌&&◌, ◌||◌, nat_le, List, length, slice_index}
 use Rattle.std.specs.List.{list_all}
 
 -- bytes of each kind
@@ -16,7 +16,3 @@ is_name_byte byte = is_letter byte || is_digit byte || byte == 0x5F || byte == 0
 -- A name of a module, a place or a transition: 1 to 64 such bytes, the first a letter, the last no space.
 unfoldable pub is_name : List ℕ → Bool
 is_name text = is_letter (slice_index text 0) && list_all is_name_byte text && not (slice_index text (length text - 1) == 0x20) && nat_le (length text) 64
-
--- the name, where the text is one
-unfoldable pub name_in : List ℕ → Option (List ℕ)
-name_in text = if is_name text then Some text else None

@@ -1,37 +1,39 @@
--- A document that the program has read the form of, as plain data.
-use Rattle.std.specs.Prelude.{List, map, option_map}
-use Rattle.cpn_document.specs.Names.{texts_of}
-use Rattle.cpn_document.specs.Document.{RawPlace, RawTransition, RawArc, JoinedArc, RawModule, RawDocument}
-use Rattle.cpn_document.specs.declared.document.PlaceTexts.{PlaceTexts}
-use Rattle.cpn_document.specs.declared.document.TransitionTexts.{TransitionTexts}
-use Rattle.cpn_document.specs.declared.document.ArcTexts.{ArcTexts}
-use Rattle.cpn_document.specs.declared.document.Joined.{Joined}
+-- A document that the program has read, as plain data.
+use Rattle.std.specs.Prelude.{map, option_map, string_bytes}
+use Rattle.cpn_document.specs.Document.{RawPlace, RawTransition, RawArc, RawAssignment, RawSub, RawModule, RawMember, RawFusion, RawDocument}
+use Rattle.cpn_document.specs.declared.document.Place.{Place}
+use Rattle.cpn_document.specs.declared.document.Transition.{Transition}
+use Rattle.cpn_document.specs.declared.document.Arc.{Arc}
+use Rattle.cpn_document.specs.declared.document.Assignment.{Assignment}
+use Rattle.cpn_document.specs.declared.document.Sub.{Sub}
 use Rattle.cpn_document.specs.declared.document.Module.{Module}
+use Rattle.cpn_document.specs.declared.document.Member.{Member}
+use Rattle.cpn_document.specs.declared.document.Fusion.{Fusion}
 use Rattle.cpn_document.specs.declared.document.Document.{Document}
 
-abbrev pub place_view : PlaceTexts → RawPlace
-place_view place = record { name = place.name.now; colour = place.colour.now; initial = option_map (λ text. text.now) place.initial }
+abbrev pub place_view : Place → RawPlace
+place_view place = record { name = string_bytes place.name; colour = string_bytes place.colour; initial = option_map string_bytes place.initial; port = place.port }
 
-abbrev pub places_view : List PlaceTexts → List RawPlace
-places_view places = map place_view places
+abbrev pub transition_view : Transition → RawTransition
+transition_view transition = record { name = string_bytes transition.name; guard = option_map string_bytes transition.guard; delay = option_map string_bytes transition.delay }
 
-abbrev pub written_view : TransitionTexts → RawTransition
-written_view transition = record { name = transition.name.now; guard = option_map (λ text. text.now) transition.guard; delay = option_map (λ text. text.now) transition.delay }
+abbrev pub arc_view : Arc → RawArc
+arc_view arc = record { place = string_bytes arc.place; transition = string_bytes arc.transition; way = arc.way; expr = option_map string_bytes arc.expr }
 
-abbrev pub written_views : List TransitionTexts → List RawTransition
-written_views transitions = map written_view transitions
+abbrev pub assignment_view : Assignment → RawAssignment
+assignment_view assignment = record { port = string_bytes assignment.port; socket = string_bytes assignment.socket }
 
-abbrev pub arc_texts_view : ArcTexts → RawArc
-arc_texts_view arc = record { place = arc.place.now; transition = arc.transition.now; way = arc.way; expr = arc.expr.now }
-
-abbrev pub joined_view : Joined → JoinedArc
-joined_view arc = record { place = arc.place; transition = arc.transition; way = arc.way; expr = arc.expr.now }
-
-abbrev pub joined_views : List Joined → List JoinedArc
-joined_views arcs = map joined_view arcs
+abbrev pub sub_view : Sub → RawSub
+sub_view sub = record { name = string_bytes sub.name; submodule = string_bytes sub.submodule; assign = map assignment_view sub.assign.items }
 
 abbrev pub module_view : Module → RawModule
-module_view m = record { name = m.name.now; places = places_view m.places.items; transitions = written_views m.transitions.items; arcs = joined_views m.arcs.items }
+module_view m = record { name = string_bytes m.name; places = map place_view m.places.items; transitions = map transition_view m.transitions.items; arcs = map arc_view m.arcs.items; subs = map sub_view m.subs.items }
+
+abbrev pub member_view : Member → RawMember
+member_view member = record { of_module = string_bytes member.«module»; place = string_bytes member.place }
+
+abbrev pub fusion_view : Fusion → RawFusion
+fusion_view fusion = record { name = string_bytes fusion.name; members = map member_view fusion.members.items }
 
 abbrev pub document_view : Document → RawDocument
-document_view document = record { declarations = texts_of document.declarations.items; the_module = module_view document.«module» }
+document_view document = record { declarations = map string_bytes document.declarations.items; top = string_bytes document.top; modules = map module_view document.modules.items; fusions = map fusion_view document.fusions.items }

@@ -1,7 +1,42 @@
 //! Documents as they are written: the texts that stand at the keys of their objects.
 
+/// What port a place is, in a module that stands for a substitution transition.
+#[derive(Clone, Copy, Debug, PartialEq, Eq)]
+pub enum PortType {
+    /// An input port.
+    In,
+    /// An output port.
+    Out,
+    /// Both.
+    Io,
+}
+
+/// A place.
+#[derive(Drop)]
+pub struct Place {
+    /// Its name in its module.
+    pub name: String,
+    /// The name of its colour set.
+    pub colour: String,
+    /// The text of its initial marking, where one is written.
+    pub initial: Option<String>,
+    /// What port it is, where it is one.
+    pub port: Option<PortType>,
+}
+
+/// A transition.
+#[derive(Drop)]
+pub struct Transition {
+    /// Its name in its module.
+    pub name: String,
+    /// The text of its guard, where one is written.
+    pub guard: Option<String>,
+    /// The text of its delay, where one is written.
+    pub delay: Option<String>,
+}
+
 /// Whither an arc leads.
-#[derive(Clone, Copy)]
+#[derive(Clone, Copy, Debug, PartialEq, Eq)]
 pub enum Way {
     /// To its transition: an input arc.
     ToTransition,
@@ -11,72 +46,81 @@ pub enum Way {
     Both,
 }
 
-/// A place as it is written.
-#[derive(Clone, Copy)]
-pub struct PlaceTexts<'v> {
-    /// Its name in its module.
-    pub name: &'v str,
-    /// The name of its colour set.
-    pub colour: &'v str,
-    /// The text of its initial marking, where one is written.
-    pub initial: Option<&'v str>,
-}
-
-/// A transition as it is written.
-#[derive(Clone, Copy)]
-pub struct TransitionTexts<'v> {
-    /// Its name in its module.
-    pub name: &'v str,
-    /// The text of its guard, where one is written.
-    pub guard: Option<&'v str>,
-    /// The text of its delay, where one is written.
-    pub delay: Option<&'v str>,
-}
-
-/// An arc as it is written.
-#[derive(Clone, Copy)]
-pub struct ArcTexts<'v> {
+/// An arc.
+#[derive(Drop)]
+pub struct Arc {
     /// The name of its place.
-    pub place: &'v str,
-    /// The name of its transition.
-    pub transition: &'v str,
+    pub place: String,
+    /// The name of its transition, or of its substitution transition.
+    pub transition: String,
     /// Whither it leads.
     pub way: Way,
-    /// The text of its inscription.
-    pub expr: &'v str,
+    /// The text of its inscription, where one is written.
+    pub expr: Option<String>,
 }
 
-/// An arc with its place and its transition by their numbers in the module, and the text of its inscription.
-#[derive(Clone, Copy)]
-pub struct Joined<'v> {
-    /// The number of the place.
-    pub place: u32,
-    /// The number of the transition.
-    pub transition: u32,
-    /// Whither the arc leads.
-    pub way: Way,
-    /// The text of the inscription.
-    pub expr: &'v str,
-}
-
-/// A module as it is written.
+/// The assignment of a port to a socket.
 #[derive(Drop)]
-pub struct Module<'v> {
+pub struct Assignment {
+    /// The name of the port, a place of the submodule.
+    pub port: String,
+    /// The name of the socket, a place of the module with the substitution transition.
+    pub socket: String,
+}
+
+/// A substitution transition.
+#[derive(Drop)]
+pub struct Sub {
+    /// Its name in its module.
+    pub name: String,
+    /// The name of its submodule, the module that stands for it.
+    pub submodule: String,
+    /// The assignments of ports to sockets, in order.
+    pub assign: Vec<Assignment>,
+}
+
+/// A module.
+#[derive(Drop)]
+pub struct Module {
     /// Its name.
-    pub name: &'v str,
+    pub name: String,
     /// Its places, in order; no two have one name.
-    pub places: Vec<PlaceTexts<'v>>,
-    /// Its transitions, in order; no two have one name.
-    pub transitions: Vec<TransitionTexts<'v>>,
-    /// Its arcs, in order, each among the places and the transitions.
-    pub arcs: Vec<Joined<'v>>,
+    pub places: Vec<Place>,
+    /// Its transitions, in order; no two of them and of the substitution transitions have one name.
+    pub transitions: Vec<Transition>,
+    /// Its arcs, in order; no transition has more than 64, where one that leads both ways counts two.
+    pub arcs: Vec<Arc>,
+    /// Its substitution transitions, in order.
+    pub subs: Vec<Sub>,
 }
 
-/// A document of one module, as it is written.
+/// A member of a fusion set.
 #[derive(Drop)]
-pub struct Document<'v> {
+pub struct Member {
+    /// The name of its module.
+    pub module: String,
+    /// The name of its place there.
+    pub place: String,
+}
+
+/// A fusion set: places that are one place.
+#[derive(Drop)]
+pub struct Fusion {
+    /// Its name.
+    pub name: String,
+    /// Its members, in order.
+    pub members: Vec<Member>,
+}
+
+/// A net document.
+#[derive(Drop)]
+pub struct Document {
     /// The texts of its declarations, in order.
-    pub declarations: Vec<&'v str>,
-    /// Its one module.
-    pub module: Module<'v>,
+    pub declarations: Vec<String>,
+    /// The name of its top module.
+    pub top: String,
+    /// Its modules, in order; no two have one name.
+    pub modules: Vec<Module>,
+    /// Its fusion sets, in order; no two have one name.
+    pub fusions: Vec<Fusion>,
 }

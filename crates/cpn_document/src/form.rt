@@ -1,125 +1,113 @@
-//! The form of a document: which keys stand where, and the texts at them.
+//! The document that a JSON value is.
 
-ghost use Rattle.std.specs.Prelude.{map, IfOk};
+ghost use Rattle.std.specs.Prelude.{true, map, string_bytes, codes};
 ghost use Rattle.serde_json.specs.View.{view};
-ghost use Rattle.cpn_document.specs.Reading.{each};
-ghost use Rattle.cpn_document.specs.Parts.{text_in};
-ghost use Rattle.cpn_document.specs.Document.{places_in, transitions_in, module_in, declarations_in, document_in};
-ghost use Rattle.cpn_document.specs.Formed.{IsFormed};
-ghost use Rattle.cpn_document.specs.Names.{texts_of as bytes_of};
-ghost use Rattle.cpn_document.specs.Views.{places_view, written_views, module_view, document_view};
-ghost use Rattle.cpn_document.specs.Answers.{Gives};
+ghost use Rattle.cpn_document.specs.Parts.{text_in, items_at};
+ghost use Rattle.cpn_document.specs.Document.{each_declaration, version_rules, declarations_rules, unserved_rules, document_in, document_rules};
+ghost use Rattle.cpn_document.specs.Views.{document_view};
+ghost use Rattle.cpn_document.specs.Answers.{Finds, Gives};
 
-use crate::document::{Document, Module, PlaceTexts, TransitionTexts};
-use crate::joins::joined_arcs;
-use crate::names::{are_apart, place_names, transition_names};
-use crate::objects::{name_at_key, places_of, transition_texts_of};
-use crate::parts::{check_keys, list_at_key, number_at_key, only, text_of};
-use crate::refusals::{DocError, NOT_SERVED};
+use crate::document::Document;
+use crate::fusions::fusions_in;
+use crate::modules::modules_in;
+use crate::parts::{
+    check_keys, check_limit, list_at_key, name_at_key, optional_list_at_key, text_of,
+};
+use crate::pointers::Pointer;
+use crate::refusals::{DocError, Limit, Refused};
+use crate::texts::copied;
 use serde_json::Value;
 use std::alloc::Global;
 
-/// The version of documents that is served.
+/// The version of documents that is read.
 const VERSION: u64 = 1;
 
 /// The most declarations of a document.
 const MOST_DECLARATIONS: usize = 1024;
 
-/// The places of a module.
-#[tactic(auto, unfolding(crate::specs::Document::places_in))]
-fn places_at_key(alloc: Global, value: &Value) -> Result<Vec<PlaceTexts<'_>>, DocError>
-    ensures reads { Gives (λ places. places_view places.items) result (places_in (view value.now)) }
+/// The keys of a document.
+const KEYS: [&str; 7] = [
+    "version",
+    "declarations",
+    "top",
+    "modules",
+    "fusions",
+    "monitors",
+    "phases",
+];
+
+/// That the version is there, a whole number, and the one that is read.
+#[tactic(auto, unfolding(crate::specs::Document::version_rules, crate::specs::Rules::first_broken))]
+fn check_version(value: &Value) -> Result<(), Refused>
+    ensures finds { Finds (λ _. true) result true (version_rules (view value.now)) }
 {
-    let places = places_of(alloc, list_at_key(value, "places")?)?;
-    let names = place_names(alloc, places.as_slice())?;
-    if !are_apart(alloc, names.as_slice())? {
-        return Err(DocError::from(NOT_SERVED));
+    match value.get("version") {
+        Some(version) => {
+            if !version.is_u64() && !version.is_i64() {
+                return Err(Refused::BadNumber(Pointer::Version));
+            }
+            if version.as_u64().unwrap_or(0) == VERSION {
+                Ok(())
+            } else {
+                Err(Refused::Version)
+            }
+        },
+        None => Err(Refused::Shape(Pointer::Root)),
     }
-    Ok(places)
 }
 
-/// The transitions of a module.
-#[tactic(auto, unfolding(crate::specs::Document::transitions_in))]
-fn transitions_at_key(alloc: Global, value: &Value) -> Result<Vec<TransitionTexts<'_>>, DocError>
-    ensures reads { Gives (λ transitions. written_views transitions.items) result (transitions_in (view value.now)) }
+/// The texts of a list, in order.
+#[tactic(auto, unfolding(crate::specs::Document::each_declaration))]
+fn declarations_of(alloc: Global, list: &[Value]) -> Result<Vec<String>, DocError>
+    ensures gives { Gives (λ texts. map string_bytes texts.items) result (map text_in (map view list.now)) (each_declaration (map view list.now)) }
 {
-    let transitions = transition_texts_of(alloc, list_at_key(value, "transitions")?)?;
-    let names = transition_names(alloc, transitions.as_slice())?;
-    if !are_apart(alloc, names.as_slice())? {
-        return Err(DocError::from(NOT_SERVED));
-    }
-    Ok(transitions)
-}
-
-#[tactic(auto, unfolding(crate::specs::Document::module_in))]
-fn module_of(alloc: Global, value: &Value) -> Result<Module<'_>, DocError>
-    ensures reads { Gives module_view result (module_in (view value.now)) }
-{
-    check_keys(value, &["name", "places", "transitions", "arcs"])?;
-    let name = name_at_key(value, "name")?;
-    let places = places_at_key(alloc, value)?;
-    let transitions = transitions_at_key(alloc, value)?;
-    let arcs = joined_arcs(alloc, value, places.as_slice(), transitions.as_slice())?;
-    Ok(Module {
-        name,
-        places,
-        transitions,
-        arcs,
-    })
-}
-
-fn texts_of(alloc: Global, list: &[Value]) -> Result<Vec<&str>, DocError>
-    ensures reads { Gives (λ texts. bytes_of texts.items) result (each text_in (map view list.now)) }
-{
-    let mut texts = Vec::new(alloc);
-    for value in list {
-        texts.push(text_of(value)?)?;
+    let mut texts = Vec::with_capacity(alloc, list.len())?;
+    for (number, value) in list.iter().enumerate() {
+        let text = text_of(value, Pointer::Declaration(number))?;
+        texts.push(copied(alloc, text)?)?;
     }
     Ok(texts)
 }
 
 /// The declarations of a document.
-#[tactic(auto, unfolding(crate::specs::Document::declarations_in))]
-fn declarations_at_key(alloc: Global, value: &Value) -> Result<Vec<&str>, DocError>
-    ensures reads { Gives (λ texts. bytes_of texts.items) result (declarations_in (view value.now)) }
+fn declarations_in(alloc: Global, value: &Value) -> Result<Vec<String>, DocError>
+    ensures gives { Gives (λ texts. map string_bytes texts.items) result (map text_in (items_at (codes "declarations") (view value.now))) (declarations_rules (view value.now)) }
 {
-    let list = list_at_key(value, "declarations")?;
-    if list.len() > MOST_DECLARATIONS {
-        return Err(DocError::from(NOT_SERVED));
-    }
-    let texts = texts_of(alloc, list)?;
-    Ok(texts)
+    let list = list_at_key(value, "declarations", Pointer::Root, Pointer::Declarations)?;
+    check_limit(list.len() <= MOST_DECLARATIONS, Limit::Declarations)?;
+    let declarations = declarations_of(alloc, list)?;
+    Ok(declarations)
 }
 
-/// The document that a JSON value is, as it is written.
-///
-/// It is of version 1, with one module. An object has no other keys than its own, no two places and no two transitions have
-/// one name, each arc is at a place and a transition, and a transition has at most 64 arcs.
-///
-/// # Errors
-///
-/// - [`DocError::NotYet`]: the value is no such document.
-/// - [`DocError::Memory`]: memory ran out.
-#[tactic(auto, unfolding(crate::specs::Document::document_in))]
-pub fn document_of(alloc: Global, value: &Value) -> Result<Document<'_>, DocError>
-    // What is answered is what the value is read as, which is one thing: the document, or the first refusal.
-    ensures reads { Gives document_view result (document_in (view value.now)) }
-    // Its arcs are among its places and its transitions, which have numbers of 32 bits, and no transition has too many.
-    ensures formed { IfOk result (λ document. IsFormed (document_view document)) }
+/// That a list which is not served yet is missing or empty.
+#[tactic(auto, using(crate::proofs::BrokenRules::in_order, crate::proofs::SeenValues::length_seen), unfolding(crate::specs::Document::unserved_rules))]
+fn check_unserved(value: &Value, key: &str, here: Pointer) -> Result<(), Refused>
+    ensures finds { Finds (λ _. true) result true (unserved_rules key.now here (view value.now)) }
 {
-    check_keys(value, &["version", "declarations", "top", "modules"])?;
-    if number_at_key(value, "version")? != VERSION {
-        return Err(DocError::from(NOT_SERVED));
+    let list = optional_list_at_key(value, key, Pointer::Root, here)?;
+    if list.is_empty() {
+        Ok(())
+    } else {
+        Err(Refused::NotYet(here))
     }
-    let declarations = declarations_at_key(alloc, value)?;
-    let top = name_at_key(value, "top")?;
-    let single = only(list_at_key(value, "modules")?)?;
-    let module = module_of(alloc, single)?;
-    if module.name != top {
-        return Err(DocError::from(NOT_SERVED));
-    }
+}
+
+/// The document that a JSON value is, where it keeps the rules of documents; else the refusal of the first that it breaks.
+pub(crate) fn document_of(alloc: Global, value: &Value) -> Result<Document, DocError>
+    ensures gives { Gives document_view result (document_in (view value.now)) (document_rules (view value.now)) }
+{
+    check_keys(value, &KEYS, Pointer::Root)?;
+    check_version(value)?;
+    let declarations = declarations_in(alloc, value)?;
+    let top = name_at_key(value, "top", Pointer::Root, Pointer::Top)?;
+    let modules = modules_in(alloc, value)?;
+    let fusions = fusions_in(alloc, value)?;
+    check_unserved(value, "monitors", Pointer::Monitors)?;
+    check_unserved(value, "phases", Pointer::Phases)?;
     Ok(Document {
         declarations,
-        module,
+        top: copied(alloc, top)?,
+        modules,
+        fusions,
     })
 }

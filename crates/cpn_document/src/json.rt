@@ -2,7 +2,7 @@
 
 ghost use Rattle.std.specs.Prelude.{◌≡◌, None, IfOk, IfErr, IfSome};
 ghost use Rattle.serde_json.specs.View.{view};
-ghost use Rattle.cpn_document.specs.Reading.{not_json};
+ghost use Rattle.cpn_document.specs.Refusals.{not_json};
 ghost use Rattle.cpn_document.specs.Json.{IsJson, HasJson};
 ghost use Rattle.cpn_document.specs.Answers.{refusal_of};
 
@@ -16,7 +16,7 @@ use std::alloc::Global;
 ///
 /// - [`DocError::NotJson`]: they are no JSON value.
 /// - [`DocError::Memory`]: memory ran out.
-pub fn value_of(alloc: Global, bytes: &[u8]) -> Result<Value, DocError>
+pub(crate) fn value_of(alloc: Global, bytes: &[u8]) -> Result<Value, DocError>
     ensures json { IfOk result (λ value. IsJson bytes.now (view value)) }
     ensures refuses { IfErr result (λ e. IfSome (refusal_of e) (λ refusal. refusal ≡ not_json)) }
     // Where they are refused, no value is theirs.

@@ -1,22 +1,34 @@
-//! Reads the form of net documents: from bytes to their JSON value, and from the value to the texts that stand in a document.
+//! Reads net documents: from bytes to the texts that stand at the keys of a document's objects.
 //!
-//! [`value_of`] says which JSON value the bytes are. [`document_of`] says which document of one module a value is: its
-//! declarations, its places, its transitions and its arcs, as they are written, each arc with its place and its transition by
-//! their numbers; or the first refusal of the form. What the texts say is not looked into: the crate knows no colour set, no
-//! inscription and no net. It reads and writes nothing outside the program.
+//! [`read_document`] says which document the bytes are: its declarations, its modules with their places, transitions, arcs and
+//! substitution transitions, and its fusion sets, as they are written; or the refusal of the first rule that is broken, with the
+//! place of it ([`Pointer`]). What the texts say is not looked into: the crate knows no colour set, no inscription and no net, and
+//! joins no name to what it names. It reads and writes nothing outside the program.
 #![tactic(auto)]
 
+mod arc_counts;
+mod arcs;
 mod document;
 mod form;
-mod joins;
+mod fusions;
 mod json;
+mod modules;
 mod names;
-mod objects;
 mod parts;
+mod places;
+mod pointers;
+mod reading;
 mod refusals;
+mod subs;
 mod texts;
+mod transitions;
 
-pub use document::{Document, Joined, Module, PlaceTexts, TransitionTexts, Way};
-pub use form::document_of;
-pub use json::value_of;
-pub use refusals::{DocError, Pointer};
+pub use document::{
+    Arc, Assignment, Document, Fusion, Member, Module, Place, PortType, Sub, Transition, Way,
+};
+pub use pointers::{
+    ArcPart, AssignmentPart, FusionPart, MemberPart, ModulePart, PlacePart, Pointer, SubPart,
+    TransitionPart,
+};
+pub use reading::read_document;
+pub use refusals::{DocError, Limit};

@@ -1,44 +1,42 @@
-//! Why bytes are no document of the form that is served.
+//! Why bytes are no net document.
 
 ghost use Rattle.std.specs.Prelude.{◌≡◌, Some};
 ghost use Rattle.cpn_document.specs.Answers.{refusal_of, refused_view};
 ghost use Rattle.cpn_document.specs.declared.refusals.DocError.TheVariants.{Memory};
 
+use crate::pointers::Pointer;
 use std::alloc::{AllocError, AllocFailed};
 use thiserror::Error;
 
-/// A place in a document that a refusal speaks of. Declarations, places, transitions and arcs are numbered from 0.
+/// What a document may not have too many of.
 #[derive(Clone, Copy, Debug, PartialEq, Eq)]
-pub enum Pointer {
-    /// The whole document.
-    Root,
-    /// The text of a declaration.
-    Declaration(usize),
-    /// The colour set of a place.
-    Colour(usize),
-    /// The initial marking of a place.
-    Initial(usize),
-    /// The guard of a transition.
-    Guard(usize),
-    /// The delay of a transition.
-    Delay(usize),
-    /// The inscription of an arc.
-    Expr(usize),
-    /// A transition.
-    Transition(usize),
+pub enum Limit {
+    /// Declarations: it may have 1024.
+    Declarations,
+    /// Modules: it may have 256.
+    Modules,
+    /// Arcs at one transition: 64, where an arc that leads both ways counts two.
+    Arcs,
 }
 
 /// What a part of a document is refused for, by calls that take no memory.
 #[derive(Clone, Copy, Debug)]
 pub(crate) enum Refused {
-    /// It is not served yet.
+    /// Something has the wrong shape.
+    Shape(Pointer),
+    /// Something is no whole number.
+    BadNumber(Pointer),
+    /// Something is no name, or no new one.
+    BadName(Pointer),
+    /// The version is another.
+    Version,
+    /// There are too many of something.
+    Limit(Limit),
+    /// Something is not served yet.
     NotYet(Pointer),
 }
 
-/// What is not served yet is refused at the whole document.
-pub(crate) const NOT_SERVED: Refused = Refused::NotYet(Pointer::Root);
-
-/// Why the bytes are no document of the form that is served.
+/// Why the bytes are no net document.
 #[derive(Debug, Drop, Error)]
 pub enum DocError {
     /// Memory ran out. The one variant that is no refusal.
@@ -47,8 +45,24 @@ pub enum DocError {
     /// The bytes are no JSON value.
     #[error("not a JSON value")]
     NotJson,
-    /// The bytes are a JSON value that is not served yet, for what stands at this place of it.
-    #[error("not a document that is served yet")]
+    /// Something at this place has the wrong shape: it is of another kind than it has to be, has a key that is no key of it, or
+    /// lacks one that has to be there.
+    #[error("something of the wrong shape")]
+    Shape(Pointer),
+    /// What stands at this place is no whole number.
+    #[error("no whole number")]
+    BadNumber(Pointer),
+    /// What stands at this place is no name, or the name of something before it.
+    #[error("no name, or no new one")]
+    BadName(Pointer),
+    /// The version is another than 1.
+    #[error("another version")]
+    Version,
+    /// There are too many of something.
+    #[error("too many of something")]
+    Limit(Limit),
+    /// What stands at this place is not served yet.
+    #[error("not served yet")]
     NotYet(Pointer),
 }
 
@@ -57,6 +71,11 @@ impl From<Refused> for DocError {
 
     fn from(refused: Refused) -> DocError {
         match refused {
+            Refused::Shape(place) => DocError::Shape(place),
+            Refused::BadNumber(place) => DocError::BadNumber(place),
+            Refused::BadName(place) => DocError::BadName(place),
+            Refused::Version => DocError::Version,
+            Refused::Limit(kind) => DocError::Limit(kind),
             Refused::NotYet(place) => DocError::NotYet(place),
         }
     }

@@ -1,8 +1,10 @@
-//! The names of modules, places and transitions.
+//! Texts, and which of them are names.
 
-ghost use Rattle.std.specs.Prelude.{◌≡◌};
+ghost use Rattle.std.specs.Prelude.{◌≡◌, option_map, string_bytes, IfOk};
 ghost use Rattle.std.specs.List.{list_all};
 ghost use Rattle.cpn_document.specs.Texts.{is_digit as digit, is_letter as letter, is_name_byte as name_byte, is_name as names};
+
+use std::alloc::{AllocError, Global};
 
 /// The most bytes of a name.
 const MOST_NAME_BYTES: usize = 64;
@@ -49,4 +51,27 @@ pub(crate) fn is_name(text: &str) -> bool
         && are_name_bytes(bytes)
         && bytes[bytes.len() - 1] != b' '
         && bytes.len() <= MOST_NAME_BYTES
+}
+
+/// A text of its own.
+pub(crate) fn copied(alloc: Global, text: &str) -> Result<String, AllocError>
+    ensures text { IfOk result (λ copy. string_bytes copy ≡ text.now) }
+{
+    String::from_str(alloc, text)
+}
+
+/// A text of its own, or none where there is none.
+pub(crate) fn copied_or_none(
+    alloc: Global,
+    text: Option<&str>,
+) -> Result<Option<String>, AllocError>
+    ensures text { IfOk result (λ copy. option_map string_bytes copy ≡ option_map (λ t. t.now) text.entry) }
+{
+    match text {
+        Some(text) => {
+            let copy = copied(alloc, text)?;
+            Ok(Some(copy))
+        },
+        None => Ok(None),
+    }
 }

@@ -17,9 +17,9 @@ use Rattle.cpn_parsing.specs.Trees.{TransitionTrees, ArcTrees}
 use Rattle.cpn_file.specs.Accepted.{tree_at, accepted_at, guard_at, delay_at, bare_transition, Sides, with_first, input_at, output_at, sides_of, arc_of, colour_at, inputs_of, outputs_of, joined_from}
 use Rattle.cpn_document.specs.declared.document.Way.{Way}
 use Rattle.cpn_document.specs.declared.document.Way.TheVariants.{ToTransition, ToPlace, Both}
-use Rattle.cpn_document.specs.declared.refusals.Pointer.TheVariants as pointers
 use Rattle.cpn_readings.proofs.Readings.{same_read, steps}
 use Rattle.cpn_file.proofs.AcceptedTexts.{accepted_is}
+use Rattle.cpn_file.specs.Pointers.{expr_pointer, delay_pointer, guard_pointer}
 
 -- ---- arcs
 
@@ -41,16 +41,16 @@ module _ (ds : Declared) (places : List Coloured) (p : ℕ) (known : p < length 
   input_good : (i : ℕ) (tree : PlainAst) (arc : PlainArc) → input_at ds (colour_at places p) i p tree ≡ read arc → IsGoodArc ds places input arc
   unfolding input_at
   input_good i tree arc h =
-      let m = steps _ (accepted_at (pointers.Expr i) (checked_arc ds input (colour_at places p) tree)) arc h in
+      let m = steps _ (accepted_at (expr_pointer i) (checked_arc ds input (colour_at places p) tree)) arc h in
       subst (IsGoodArc ds places input) (same_read _ arc m.2)
-      (record { accepted = record { tree = tree; is = accepted_is (pointers.Expr i) (checked_arc ds input (colour_at places p) tree) m.0 m.1 }; colour_is = refl; place_known = known })
+      (record { accepted = record { tree = tree; is = accepted_is (expr_pointer i) (checked_arc ds input (colour_at places p) tree) m.0 m.1 }; colour_is = refl; place_known = known })
 
   output_good : (i : ℕ) (tree : PlainAst) (arc : PlainArc) → output_at ds (colour_at places p) i p tree ≡ read arc → IsGoodArc ds places output arc
   unfolding output_at
   output_good i tree arc h =
-      let m = steps _ (accepted_at (pointers.Expr i) (checked_arc ds output (colour_at places p) tree)) arc h in
+      let m = steps _ (accepted_at (expr_pointer i) (checked_arc ds output (colour_at places p) tree)) arc h in
       subst (IsGoodArc ds places output) (same_read _ arc m.2)
-      (record { accepted = record { tree = tree; is = accepted_is (pointers.Expr i) (checked_arc ds output (colour_at places p) tree) m.0 m.1 }; colour_is = refl; place_known = known })
+      (record { accepted = record { tree = tree; is = accepted_is (expr_pointer i) (checked_arc ds output (colour_at places p) tree) m.0 m.1 }; colour_is = refl; place_known = known })
 
 sides_good : (way : Way) (ds : Declared) (places : List Coloured) (i : ℕ) (arc : ArcTrees) (tree : PlainAst) (sides : Sides) → arc.place < length places → sides_of way ds (colour_at places arc.place) i arc tree ≡ read sides → AreGoodSides ds places sides
 unfolding sides_of
@@ -68,7 +68,7 @@ sides_good Both ds places i arc tree sides known h =
 pub arc_good : (ds : Declared) (places : List Coloured) (i : ℕ) (arc : ArcTrees) (sides : Sides) → arc.place < length places → arc_of ds places i arc ≡ read sides → AreGoodSides ds places sides
 unfolding arc_of
 arc_good ds places i arc sides known h =
-    let tree = steps _ (tree_at (pointers.Expr i) arc.expr) sides h in
+    let tree = steps _ (tree_at (expr_pointer i) arc.expr) sides h in
     sides_good arc.way ds places i arc tree.0 sides known tree.2
 
 pub arcs_good : (ds : Declared) (places : List Coloured) (i : ℕ) (arcs : List ArcTrees) (sides : List Sides) → AllByRecursion (λ (arc : ArcTrees). arc.place < length places) arcs → each_from (arc_of ds places) i arcs ≡ read sides → AllByRecursion (AreGoodSides ds places) sides
@@ -106,16 +106,16 @@ guard_tree : (ds : Declared) (i : ℕ) (text : Option (Parsing PlainAsts)) (guar
 unfolding guard_at
 guard_tree ds i None guard h = (no_ast, ap ok (same_read [] guard h))
 guard_tree ds i (Some text) guard h =
-    let tree = steps _ (tree_at (pointers.Guard i) text) guard h in
-    (tree.0, accepted_is (pointers.Guard i) (checked_guard ds tree.0) guard tree.2)
+    let tree = steps _ (tree_at (guard_pointer i) text) guard h in
+    (tree.0, accepted_is (guard_pointer i) (checked_guard ds tree.0) guard tree.2)
 
 delay_tree : (ds : Declared) (i : ℕ) (text : Option (Parsing PlainAst)) (delay : Option PlainExpr) → delay_at ds i text ≡ read delay → IsAcceptedDelay ds delay
 unfolding delay_at
 delay_tree ds i None delay h = subst (IsAcceptedDelay ds) (same_read None delay h) tt
 delay_tree ds i (Some text) delay h =
-    let tree = steps _ (tree_at (pointers.Delay i) text) delay h in
-    let e = steps _ (accepted_at (pointers.Delay i) (checked_delay ds tree.0)) delay tree.2 in
-    subst (IsAcceptedDelay ds) (same_read (Some e.0) delay e.2) (tree.0, accepted_is (pointers.Delay i) (checked_delay ds tree.0) e.0 e.1)
+    let tree = steps _ (tree_at (delay_pointer i) text) delay h in
+    let e = steps _ (accepted_at (delay_pointer i) (checked_delay ds tree.0)) delay tree.2 in
+    subst (IsAcceptedDelay ds) (same_read (Some e.0) delay e.2) (tree.0, accepted_is (delay_pointer i) (checked_delay ds tree.0) e.0 e.1)
 
 -- a transition whose guard and delay are accepted
 pub record IsGoodTransition (ds : Declared) (places : List Coloured) (t : PlainTransition) : Type 0 where

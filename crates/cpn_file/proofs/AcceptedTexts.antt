@@ -25,9 +25,10 @@ use Rattle.cpn_file.specs.Starts.{IsMeant}
 use Rattle.cpn_file.specs.WellAccepted.{IsWellAccepted}
 use Rattle.cpn_document.specs.declared.document.Way.{Way}
 use Rattle.cpn_document.specs.declared.document.Way.TheVariants.{ToTransition, ToPlace, Both}
-use Rattle.cpn_document.specs.declared.refusals.Pointer.{Pointer}
-use Rattle.cpn_document.specs.declared.refusals.Pointer.TheVariants as pointers
+use Rattle.cpn_document.specs.declared.pointers.Pointer.{Pointer}
+use Rattle.cpn_document.specs.declared.pointers.Pointer.TheVariants as pointers
 use Rattle.cpn_readings.proofs.Readings.{same_read, steps}
+use Rattle.cpn_file.specs.Pointers.{expr_pointer, initial_pointer}
 
 -- ---- lists
 
@@ -77,9 +78,9 @@ initial_meant : (ds : Declared) → IsConsistent ds → (colour : PlainColour) (
 unfolding initial_at
 initial_meant ds good colour i None initial h = subst (IsMeant ds.functions) (same_read None initial h) tt
 initial_meant ds good colour i (Some text) initial h =
-    let tree = steps _ (tree_at (pointers.Initial i) text) initial h in
-    let m = steps _ (accepted_at (pointers.Initial i) (checked_init ds colour tree.0)) initial tree.2 in
-    subst (IsMeant ds.functions) (same_read _ initial m.2) (init_means ds good ds.functions refl colour tree.0 m.0 (accepted_is (pointers.Initial i) (checked_init ds colour tree.0) m.0 m.1) [] 0)
+    let tree = steps _ (tree_at (initial_pointer i) text) initial h in
+    let m = steps _ (accepted_at (initial_pointer i) (checked_init ds colour tree.0)) initial tree.2 in
+    subst (IsMeant ds.functions) (same_read _ initial m.2) (init_means ds good ds.functions refl colour tree.0 m.0 (accepted_is (initial_pointer i) (checked_init ds colour tree.0) m.0 m.1) [] 0)
 
 -- ---- arcs
 
@@ -93,7 +94,7 @@ InputHasTerms (Some arc) = HasTerms arc
 input_has : (ds : Declared) (colour : PlainColour) (i p : ℕ) (tree : PlainAst) (arc : PlainArc) → input_at ds colour i p tree ≡ read arc → HasTerms arc
 unfolding input_at
 input_has ds colour i p tree arc h =
-    let m = steps _ (accepted_at (pointers.Expr i) (checked_arc ds input colour tree)) arc h in
+    let m = steps _ (accepted_at (expr_pointer i) (checked_arc ds input colour tree)) arc h in
     subst HasTerms (same_read _ arc m.2) refl
 
 sides_have : (way : Way) (ds : Declared) (colour : PlainColour) (i : ℕ) (arc : ArcTrees) (tree : PlainAst) (sides : Sides) → sides_of way ds colour i arc tree ≡ read sides → InputHasTerms sides.input
@@ -112,7 +113,7 @@ sides_have Both ds colour i arc tree sides h =
 arc_has : (ds : Declared) (places : List Coloured) (i : ℕ) (arc : ArcTrees) (sides : Sides) → arc_of ds places i arc ≡ read sides → InputHasTerms sides.input
 unfolding arc_of
 arc_has ds places i arc sides h =
-    let tree = steps _ (tree_at (pointers.Expr i) arc.expr) sides h in
+    let tree = steps _ (tree_at (expr_pointer i) arc.expr) sides h in
     sides_have arc.way ds (colour_at places arc.place) i arc tree.0 sides tree.2
 
 first_has : (o : Option PlainArc) (arcs : List PlainArc) → InputHasTerms o → AllByRecursion HasTerms arcs → AllByRecursion HasTerms (with_first o arcs)

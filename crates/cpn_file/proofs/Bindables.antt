@@ -13,7 +13,7 @@ use Rattle.cpn_file.specs.Reading.{Refusal, Reading, read, inscription, typing}
 use Rattle.cpn_file.specs.Answers.{RefusesBy}
 use Rattle.cpn_file.specs.Loading.{AreBindable, none_left, these_are, one_is_not}
 use Rattle.cpn_file.specs.Joining.{HasItsTerms}
-use Rattle.cpn_document.specs.declared.refusals.Pointer.TheVariants.{Transition as TransitionPlace}
+use Rattle.cpn_file.specs.Pointers.{transition_pointer}
 
 module _ (n : PlainNet) (ts : List Transition) (i : ℕ) (t : Transition) (lt : i < length ts) (at : t ≡ get_or ts i t) where
   next_one : map transition_view (drop i ts) ≡ transition_view t ∷ map transition_view (drop (i + 1) ts)
@@ -25,7 +25,7 @@ module _ (n : PlainNet) (ts : List Transition) (i : ℕ) (t : Transition) (lt : 
 
   -- one of them is not
   pub bindable_not : (all : List PlainTransition) (o : Option TypeRefusal) (q : Option Refusal) → ((r : Reading Bool) → AreBindable n i (map transition_view (drop i ts)) r → AreBindable n 0 all r)
-      → q ≡ option_map (λ r. inscription (TransitionPlace i) (typing r)) o → ForbidsBy (IsBindableAnswer n (transition_view t)) o → RefusesBy (AreBindable n 0 all) q
+      → q ≡ option_map (λ r. inscription (transition_pointer i) (typing r)) o → ForbidsBy (IsBindableAnswer n (transition_view t)) o → RefusesBy (AreBindable n 0 all) q
   bindable_not all None q inv is h = rw is tt
   bindable_not all (Some r) q inv is h = rw is (inv _ (rw next_one (one_is_not i (transition_view t) (map transition_view (drop (i + 1) ts)) r h)))
 

@@ -6,7 +6,7 @@ use Rattle.cpn_typing.specs.Answers.{Refuses as Forbids}
 use Rattle.cpn_file.specs.Reading.{typing, inscription, Refusal, Reading, ◌>>=◌}
 use Rattle.cpn_file.specs.Accepted.{accepted_at}
 use Rattle.cpn_file.specs.Answers.{Refuses}
-use Rattle.cpn_document.specs.declared.refusals.Pointer.{Pointer}
+use Rattle.cpn_document.specs.declared.pointers.Pointer.{Pointer}
 
 module _ {A : Type 0} (place : Pointer) (checked : Checked A) where
   -- a refusal by a rule of typing

@@ -20,7 +20,7 @@ use Rattle.cpn_typing.proofs.MeaningsInNets.{world_of}
 use Rattle.cpn_file.specs.Reading.{read}
 use Rattle.cpn_parsing.specs.Parsing.{Parsing}
 use Rattle.cpn_file.specs.Accepted.{tree_at, declared_with, declared_from}
-use Rattle.cpn_document.specs.declared.refusals.Pointer.TheVariants as pointers
+use Rattle.cpn_document.specs.declared.pointers.Pointer.TheVariants as pointers
 use Rattle.cpn_file.proofs.AcceptedTexts.{accepted_is}
 use Rattle.cpn_readings.proofs.Readings.{same_read, steps}
 

@@ -7,14 +7,14 @@ use Rattle.cpn_definitions.specs.Net.{PlainArc, PlainTransition, Coloured}
 use Rattle.cpn_trees.specs.Trees.{PlainAst}
 use Rattle.cpn_typing.specs.Names.{Declared}
 use Rattle.cpn_file.specs.Reading.{read, each_from}
-use Rattle.cpn_document.specs.Document.{JoinedArc, arcs_on, arcs_at}
+use Rattle.cpn_one_module.specs.Document.{JoinedArc, arcs_on, arcs_at}
 use Rattle.cpn_readings.specs.ItemByItem.{EachIs}
 use Rattle.cpn_parsing.specs.Trees.{TransitionTrees, ArcTrees, AreArcTrees}
 use Rattle.cpn_file.specs.Accepted.{tree_at, guard_at, delay_at, bare_transition, Sides, with_first, input_at, output_at, sides_of, arc_of, colour_at, inputs_of, outputs_of, joined_from}
 use Rattle.cpn_document.specs.declared.document.Way.{Way}
 use Rattle.cpn_document.specs.declared.document.Way.TheVariants.{ToTransition, ToPlace, Both}
-use Rattle.cpn_document.specs.declared.refusals.Pointer.TheVariants as pointers
 use Rattle.cpn_readings.proofs.Readings.{same_read, steps}
+use Rattle.cpn_file.specs.Pointers.{expr_pointer}
 
 -- ---- the arcs that an arc of the document stands for
 
@@ -45,7 +45,7 @@ sides_counted Both ds colour i arc tree sides h =
 arc_counted : (ds : Declared) (places : List Coloured) (i : ℕ) (written : JoinedArc) (arc : ArcTrees) (sides : Sides) → AreArcTrees written arc → arc_of ds places i arc ≡ read sides → AreCounted written sides
 unfolding arc_of
 arc_counted ds places i written arc sides are h =
-    let tree = steps _ (tree_at (pointers.Expr i) arc.expr) sides h in
+    let tree = steps _ (tree_at (expr_pointer i) arc.expr) sides h in
     let on = sides_counted arc.way ds (colour_at places arc.place) i arc tree.0 sides tree.2 in
     record { transition = on.0 ∙ are.transition; many = on.1 ∙ ap arcs_on are.way }
 

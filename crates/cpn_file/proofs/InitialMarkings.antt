@@ -31,9 +31,9 @@ use Rattle.cpn_parsing.specs.Parsing.{Parsing}
 use Rattle.cpn_parsing.specs.Trees.{PlaceTrees}
 use Rattle.cpn_file.specs.Accepted.{tree_at, accepted_at, colour_at, Initial, initial_at, initial_of}
 use Rattle.cpn_file.specs.Loading.{token_of, tokens_of, tokens_in, start_of}
-use Rattle.cpn_document.specs.declared.refusals.Pointer.TheVariants as pointers
 use Rattle.cpn_file.proofs.ListFacts.{both, passes_all}
 use Rattle.cpn_readings.proofs.Readings.{same_read, steps}
+use Rattle.cpn_file.specs.Pointers.{initial_pointer}
 
 -- ---- tokens in their order
 
@@ -134,8 +134,8 @@ initial_has : (ds : Declared) (colour : PlainColour) (i : ℕ) (text : Option (P
 unfolding initial_at
 initial_has ds colour i None o h = subst (HasColour colour) (same_read None o h) tt
 initial_has ds colour i (Some text) o h =
-    let tree = steps _ (tree_at (pointers.Initial i) text) o h in
-    let m = steps _ (accepted_at (pointers.Initial i) (checked_init ds colour tree.0)) o tree.2 in
+    let tree = steps _ (tree_at (initial_pointer i) text) o h in
+    let m = steps _ (accepted_at (initial_pointer i) (checked_init ds colour tree.0)) o tree.2 in
     subst (HasColour colour) (same_read _ o m.2) refl
 
 pub initials_have : (ds : Declared) (places : List Coloured) (i : ℕ) (trees : List PlaceTrees) (os : List (Option Initial)) → each_from (initial_of ds places) i trees ≡ read os → HaveColours places i os

@@ -2,13 +2,14 @@
 use Rattle.std.proofs.Common.{◌≡◌, true, List, [], ◌∷◌, refl, sym, ap, subst}
 use Rattle.std.specs.List.{AllByRecursion}
 use Rattle.std.specs.Prelude.{Option, Some, None, option_map, Result, Ok, Err}
-use Rattle.serde_json.specs.Data.{Data}
+use Rattle.cpn_document.specs.Document as whole
+use Rattle.cpn_document.specs.Refusals.{FormRefusal}
 use Rattle.cpn_definitions.specs.Net.{PlainTransition, PlainNet}
 use Rattle.cpn_readings.specs.Reading.{refused_as}
 use Rattle.cpn_document.specs.Reading as form
 use Rattle.cpn_file.specs.Reading.{Refusal, Reading, read, of_form}
 use Rattle.cpn_file.specs.Relations.{just, such_that, ◌>>=◌}
-use Rattle.cpn_document.specs.Document.{RawDocument, document_in}
+use Rattle.cpn_one_module.specs.Document.{RawDocument, one_module_in}
 use Rattle.cpn_readings.specs.ItemByItem.{EachIs}
 use Rattle.cpn_parsing.specs.Trees.{DocumentTrees, AreTrees}
 use Rattle.cpn_file.specs.Accepted.{Accepted, accepted_in}
@@ -41,21 +42,21 @@ module _ (a : Accepted) (n : PlainNet) (its : IsItsNet a n) where
   finished view result bindable h =
       loads_next view result (such_that (IsItsNet a)) _ n (n, its, refl) (loads_next view result (AreBindable n 0 n.transitions) _ true bindable (loads_just view result (loaded_from n a.initials) h))
 
-module _ (d : Data) where
+module _ (d : whole.RawDocument) where
   -- what its form is read as, with a refusal as one of the document
   abbrev formed : Reading RawDocument
-  formed = refused_as of_form (document_in d)
+  formed = refused_as of_form (one_module_in d)
 
-  refused_so : (o : Option form.FormRefusal) → Refuses o (document_in d) → Refuses (option_map of_form o) formed
+  refused_so : (o : Option FormRefusal) → Refuses o (one_module_in d) → Refuses (option_map of_form o) formed
   refused_so None h = tt
   refused_so (Some refusal) h = ap (refused_as of_form) h
 
   -- the form is refused
-  pub not_formed : (o : Option form.FormRefusal) → Refuses o (document_in d) → RefusesBy (loaded_in d) (option_map of_form o)
+  pub not_formed : (o : Option FormRefusal) → Refuses o (one_module_in d) → RefusesBy (loaded_in d) (option_map of_form o)
   unfolding loaded_in
   not_formed o h = refused_first (just formed) _ (option_map of_form o) (just_refused formed (option_map of_form o) (refused_so o h))
 
-  module _ (document : RawDocument) (is : document_in d ≡ form.read document) (trees : DocumentTrees) (parsed : AreTrees document trees) where
+  module _ (document : RawDocument) (is : one_module_in d ≡ form.read document) (trees : DocumentTrees) (parsed : AreTrees document trees) where
     has_form : read document ≡ formed
     has_form = sym (ap (refused_as of_form) is)
 

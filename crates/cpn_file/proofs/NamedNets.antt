@@ -16,10 +16,10 @@ use Rattle.cpn_file.specs.Reading.{read, each_from}
 use Rattle.cpn_parsing.specs.Trees.{PlaceTrees}
 use Rattle.cpn_file.specs.Accepted.{accepted_at, net_place}
 use Rattle.cpn_file.specs.Loading.{constructor_names, net_from}
-use Rattle.cpn_document.specs.declared.refusals.Pointer.TheVariants as pointers
 use Rattle.cpn_file.proofs.AcceptedTexts.{each_from_all, accepted_is}
 use Rattle.cpn_file.proofs.ListFacts.{both, passes_all}
 use Rattle.cpn_readings.proofs.Readings.{same_read, steps}
+use Rattle.cpn_file.specs.Pointers.{colour_pointer}
 
 -- as many names as constructors
 count_named : (cs : Constructors) (named : List NamedConstructor) → ((k : ℕ) → option_map argument_of (slice_get named k) ≡ argument_types (constructor_at cs k)) → count_of cs ≤ length named
@@ -80,8 +80,8 @@ each_named ds places ts all h = passes_all (IsOfDeclared ds) (is_named (net_from
 place_declared : (ds : Declared) → IsConsistent ds → (top : List ℕ) (i : ℕ) (place : PlaceTrees) (made : Coloured) → net_place ds top i place ≡ read made → IsOfDeclared ds made
 unfolding net_place
 place_declared ds good top i place made h =
-    let colour = steps _ (accepted_at (pointers.Colour i) (colour_of ds place.colour)) made h in
-    let is = accepted_is (pointers.Colour i) (colour_of ds place.colour) colour.0 colour.1 in
+    let colour = steps _ (accepted_at (colour_pointer i) (colour_of ds place.colour)) made h in
+    let is = accepted_is (colour_pointer i) (colour_of ds place.colour) colour.0 colour.1 in
     subst (IsOfDeclared ds) (same_read _ made colour.2) (good.colours_of (sets_of ds) (own_sets ds) place.colour colour.0 (required_is (colour_named place.colour ds) (unknown place.colour) colour.0 is))
 
 all_numbered : (P : Coloured → Type 0) (xs : List Coloured) → ((i : ℕ) → i < length xs → P (slice_index_or xs i nothing)) → AllByRecursion P xs

@@ -3,7 +3,9 @@ use Rattle.std.proofs.Common.{◌≡◌, ◌==◌, ◌<◌, nat_lt, true, false,
 use Rattle.std.specs.Prelude.{Option, Some, None, Contains}
 use Rattle.std.specs.Ordering.{nat_cmp}
 use Rattle.std.proofs.lemmas.Bool.{ltb-true}
-use Rattle.serde_json.specs.Data.{Data}
+use Rattle.cpn_document.specs.Document as whole
+use Rattle.cpn_document.specs.Reading as form
+use Rattle.cpn_document.specs.Reading.{IsDocument}
 use Rattle.cpn_definitions.specs.Lists.{Rises}
 use Rattle.cpn_definitions.specs.Net.{PlainTransition, PlainNet}
 use Rattle.cpn_typing.specs.Names.{Checked, ok}
@@ -20,11 +22,11 @@ use Rattle.cpn_syntax.specs.Declarations.{SpellsDecl}
 use Rattle.cpn_syntax.specs.Guards.{SpellsGuard}
 use Rattle.cpn_syntax.specs.Delays.{SpellsDelay}
 use Rattle.cpn_readings.specs.Reading.{refused_as}
-use Rattle.cpn_document.specs.Json.{HasJson}
 use Rattle.cpn_file.specs.Reading.{Reading, read, refused, of_form}
 use Rattle.cpn_file.specs.Relations.{just, such_that, After, ◌>>=◌}
 use Rattle.cpn_parsing.specs.Parsing.{IsParsedAs, IsDeclaration, IsInscription, IsGuard, IsDelay}
-use Rattle.cpn_document.specs.Document.{RawPlace, RawTransition, JoinedArc, RawDocument, document_in}
+use Rattle.cpn_document.specs.Document.{RawTransition}
+use Rattle.cpn_one_module.specs.Document.{RawPlace, JoinedArc, RawDocument, one_module_in}
 use Rattle.cpn_readings.specs.ItemByItem.{EachIs, OptionIs}
 use Rattle.cpn_parsing.specs.Trees.{PlaceTrees, TransitionTrees, ArcTrees, DocumentTrees, ArePlaceTrees, AreTransitionTrees, AreArcTrees, AreTrees}
 use Rattle.cpn_file.specs.Accepted.{Accepted, accepted_in}
@@ -175,21 +177,15 @@ by_one : (accepted : Accepted) → HasOne (loaded_by accepted)
 unfolding loaded_by
 by_one accepted = then_one (such_that (IsItsNet accepted)) _ (such_one (IsItsNet accepted) (nets_one accepted)) (λ net. then_one (AreBindable net 0 net.transitions) _ (bindable_one net 0 net.transitions) (λ b. just_one (loaded_from net accepted.initials)))
 
-in_one : (d : Data) → HasOne (loaded_in d)
+in_one : (d : whole.RawDocument) → HasOne (loaded_in d)
 unfolding loaded_in
 in_one d =
-    then_one (just (refused_as of_form (document_in d))) _ (just_one (refused_as of_form (document_in d))) (λ document. then_one (such_that (AreTrees document)) _ (such_one (AreTrees document) (trees_one document)) (λ trees. then_one (just (accepted_in trees)) _ (just_one (accepted_in trees)) by_one))
+    then_one (just (refused_as of_form (one_module_in d))) _ (just_one (refused_as of_form (one_module_in d))) (λ document. then_one (such_that (AreTrees document)) _ (such_one (AreTrees document) (trees_one document)) (λ trees. then_one (just (accepted_in trees)) _ (just_one (accepted_in trees)) by_one))
 
--- bytes are one JSON value, or none
-one_value : (bytes : List ℕ) → HasOne (HasJson bytes)
-one_value bytes None None a b = refl
-one_value bytes None (Some d) a b = absurd (a d b)
-one_value bytes (Some d) None a b = absurd (b d a)
-one_value bytes (Some d) (Some e) a b = sym a.1 ∙ b.1
+of_one : (document : form.Reading whole.RawDocument) → HasOne (IsReadingOf document)
+of_one (form.read document) x y h k = in_one document x y h k
+of_one (form.refused refusal) x y h k = h ∙ sym k
 
-of_one : (v : Option Data) → HasOne (IsReadingOf v)
-of_one None x y h k = h ∙ sym k
-of_one (Some d) x y h k = in_one d x y h k
-
-pub one_reading : (bytes : List ℕ) → HasOne (IsReadAs bytes)
-one_reading bytes x y h k = of_one k.0 x y (subst (λ v. IsReadingOf v x) (one_value bytes h.0 k.0 h.1 k.1) h.2) k.2
+-- where bytes are one document, they have one reading
+pub one_reading : (bytes : List ℕ) → HasOne (IsDocument bytes) → HasOne (IsReadAs bytes)
+one_reading bytes one x y h k = of_one k.0 x y (subst (λ v. IsReadingOf v x) (one h.0 k.0 h.1 k.1) h.2) k.2

@@ -2,8 +2,8 @@
 use Rattle.std.proofs.Common.{◌≡◌, ◌<◌, ◌^◌, ℕ, suc, List, [], ◌∷◌, length, map, refl, sym, ap, subst}
 use Rattle.std.specs.List.{AllByRecursion}
 use Rattle.std.proofs.lemmas.List.{length-map}
-use Rattle.cpn_document.specs.Document.{JoinedArc, RawDocument}
-use Rattle.cpn_document.specs.Formed.{IsAmong, IsFormed}
+use Rattle.cpn_one_module.specs.Document.{JoinedArc, RawDocument}
+use Rattle.cpn_one_module.specs.Formed.{IsAmong, IsFormed}
 use Rattle.cpn_readings.specs.ItemByItem.{EachIs}
 use Rattle.cpn_parsing.specs.Trees.{ArePlaceTrees, AreArcTrees, AreTrees}
 use Rattle.cpn_parsing.specs.TreesViews.{place_trees_view, arc_trees_view, document_trees_view}

@@ -10,8 +10,8 @@ use Rattle.cpn_typing.specs.Consistency.{IsConsistent}
 use Rattle.cpn_typing.specs.Names.{nothing_declared}
 use Rattle.cpn_file.specs.Reading.{Reading, read, refused, check, each_from, not_served}
 use Rattle.cpn_file.specs.Relations.{such_that, After, ◌>>=◌}
-use Rattle.cpn_document.specs.Document.{JoinedArc, RawDocument, arcs_at}
-use Rattle.cpn_document.specs.Formed.{IsAmong, IsFormed}
+use Rattle.cpn_one_module.specs.Document.{JoinedArc, RawDocument, arcs_at}
+use Rattle.cpn_one_module.specs.Formed.{IsAmong, IsFormed}
 use Rattle.cpn_readings.specs.ItemByItem.{EachIs}
 use Rattle.cpn_parsing.specs.Trees.{ArcTrees, DocumentTrees, AreArcTrees, ArePlaceTrees, AreTransitionTrees, AreTrees}
 use Rattle.cpn_file.specs.Accepted.{Accepted, declared_from, net_place, initial_of, bare_transition, Sides, arc_of, joined_from, inputs_of, outputs_of, accepted_in}

@@ -20,9 +20,9 @@ use Rattle.cpn_parsing.specs.Parsing.{Parsing, parsed, unparsed}
 use Rattle.cpn_parsing.specs.Trees.{PlaceTrees, TransitionTrees, ArcTrees, DocumentTrees}
 use Rattle.cpn_document.specs.declared.document.Way.{Way}
 use Rattle.cpn_document.specs.declared.document.Way.TheVariants.{ToTransition, ToPlace, Both}
-use Rattle.cpn_document.specs.declared.refusals.Pointer.{Pointer}
-use Rattle.cpn_document.specs.declared.refusals.Pointer.TheVariants.{Declaration, Colour, Guard, Delay, Expr}
-use Rattle.cpn_document.specs.declared.refusals.Pointer.TheVariants as pointers
+use Rattle.cpn_document.specs.declared.pointers.Pointer.{Pointer}
+use Rattle.cpn_document.specs.declared.pointers.Pointer.TheVariants.{Declaration}
+use Rattle.cpn_file.specs.Pointers.{expr_pointer, colour_pointer, initial_pointer, delay_pointer, guard_pointer}
 
 -- the tree of a text at a place, or the refusal of the text
 abbrev pub tree_at : {A : Type 0} → Pointer → Parsing A → Reading A
@@ -58,7 +58,7 @@ flattened top name = top ++ codes "/" ++ name
 -- a place of the net, of a colour set that is declared
 unfoldable pub net_place : Declared → List ℕ → ℕ → PlaceTrees → Reading Coloured
 net_place ds top i place = do
-  colour ← accepted_at (Colour i) (colour_of ds place.colour)
+  colour ← accepted_at (colour_pointer i) (colour_of ds place.colour)
   read (record { name = flattened top place.name; colour = colour })
 
 -- the colour set of the place of a number
@@ -74,8 +74,8 @@ pub record Initial : Type 0 where
 unfoldable pub initial_at : Declared → PlainColour → ℕ → Option (Parsing PlainAst) → Reading (Option Initial)
 initial_at ds colour i None = read None
 initial_at ds colour i (Some text) = do
-  tree ← tree_at (pointers.Initial i) text
-  m ← accepted_at (pointers.Initial i) (checked_init ds colour tree)
+  tree ← tree_at (initial_pointer i) text
+  m ← accepted_at (initial_pointer i) (checked_init ds colour tree)
   read (Some (record { colour = colour; expr = m }))
 
 abbrev pub initial_of : Declared → List Coloured → ℕ → PlaceTrees → Reading (Option Initial)
@@ -87,15 +87,15 @@ initial_of ds places i place = initial_at ds (colour_at places i) i place.initia
 unfoldable pub guard_at : Declared → ℕ → Option (Parsing PlainAsts) → Reading (List PlainExpr)
 guard_at ds i None = read []
 guard_at ds i (Some text) = do
-  tree ← tree_at (Guard i) text
-  accepted_at (Guard i) (checked_guard ds tree)
+  tree ← tree_at (guard_pointer i) text
+  accepted_at (guard_pointer i) (checked_guard ds tree)
 
 -- a delay, where one is written
 unfoldable pub delay_at : Declared → ℕ → Option (Parsing PlainAst) → Reading (Option PlainExpr)
 delay_at ds i None = read None
 delay_at ds i (Some text) = do
-  tree ← tree_at (Delay i) text
-  delay ← accepted_at (Delay i) (checked_delay ds tree)
+  tree ← tree_at (delay_pointer i) text
+  delay ← accepted_at (delay_pointer i) (checked_delay ds tree)
   read (Some delay)
 
 -- A transition before its arcs are joined to it and its variables are listed: its name in the net, its guard and its delay.
@@ -117,18 +117,18 @@ pub record Sides : Type 0 where
 -- an input arc at a place of a colour set, with its binding terms, and an output arc, which has none
 unfoldable pub input_at : Declared → PlainColour → ℕ → ℕ → PlainAst → Reading PlainArc
 input_at ds colour i p tree = do
-  m ← accepted_at (Expr i) (checked_arc ds input colour tree)
+  m ← accepted_at (expr_pointer i) (checked_arc ds input colour tree)
   read (record { place = p; colour = colour; expr = m; terms = binding_terms m })
 
 unfoldable pub output_at : Declared → PlainColour → ℕ → ℕ → PlainAst → Reading PlainArc
 output_at ds colour i p tree = do
-  m ← accepted_at (Expr i) (checked_arc ds output colour tree)
+  m ← accepted_at (expr_pointer i) (checked_arc ds output colour tree)
   read (record { place = p; colour = colour; expr = m; terms = [] })
 
 -- an arc on a side of its transition, with the binding terms that it has there
 unfoldable pub arc_at : Side → Declared → PlainColour → ℕ → ℕ → PlainAst → Reading PlainArc
 arc_at side ds colour i p tree = do
-  m ← accepted_at (Expr i) (checked_arc ds side colour tree)
+  m ← accepted_at (expr_pointer i) (checked_arc ds side colour tree)
   read (record { place = p; colour = colour; expr = m; terms = terms_on side m })
 
 -- An arc that leads both ways is checked as an input arc, then as an output arc.
@@ -146,7 +146,7 @@ sides_of Both ds colour i arc tree = do
 
 unfoldable pub arc_of : Declared → List Coloured → ℕ → ArcTrees → Reading Sides
 arc_of ds places i arc = do
-  tree ← tree_at (Expr i) arc.expr
+  tree ← tree_at (expr_pointer i) arc.expr
   sides_of arc.way ds (colour_at places arc.place) i arc tree
 
 -- ---- the transitions with their arcs

@@ -7,11 +7,11 @@ use Rattle.cpn_types.specs.declared.inscription_errors.InscriptionError.{Inscrip
 use Rattle.cpn_types.specs.declared.inscription_errors.InscriptionError.TheVariants as texts
 pub use Rattle.cpn_readings.specs.Reading.{Refuses}
 use Rattle.cpn_document.specs.Answers.{refusal_of}
-use Rattle.cpn_document.specs.declared.refusals.Pointer.TheVariants.{Colour}
 use Rattle.cpn_parsing.specs.Parsing.{lexical, syntactic}
 use Rattle.cpn_file.specs.Reading.{TextRefusal, no_tree, typing, Refusal, of_form, inscription, init, Reading, read, refused}
 use Rattle.cpn_file.specs.declared.refusals.LoadError.{LoadError}
 use Rattle.cpn_file.specs.declared.refusals.LoadError.TheVariants as loads
+use Rattle.cpn_file.specs.Pointers.{colour_pointer}
 
 -- the refusal of a text that an error is
 abbrev pub text_refusal_of : InscriptionError → Option TextRefusal
@@ -44,7 +44,7 @@ LoadsBy view (Err e) Reads = RefusesBy Reads (load_refusal_of e)
 -- an error that a place's colour set is unknown; want of memory says nothing
 abbrev pub IsUnknownOrNone : ℕ → List ℕ → Option Refusal → Type 0
 IsUnknownOrNone i name None = Unit {0}
-IsUnknownOrNone i name (Some refusal) = refusal ≡ inscription (Colour i) (typing (unknown name))
+IsUnknownOrNone i name (Some refusal) = refusal ≡ inscription (colour_pointer i) (typing (unknown name))
 
 abbrev pub IsUnknown : ℕ → List ℕ → LoadError → Type 0
 IsUnknown i name e = IsUnknownOrNone i name (load_refusal_of e)

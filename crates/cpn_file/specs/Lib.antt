@@ -1,3 +1,4 @@
+pub mod Pointers
 pub mod Reading
 pub mod Refusals
 pub mod Accepted

@@ -16,7 +16,7 @@ use Rattle.cpn_file.specs.Reading.{typing, inscription, init, Reading, read, ref
 use Rattle.cpn_readings.specs.ItemByItem.{EachIs}
 use Rattle.cpn_file.specs.Accepted.{Initial, Accepted}
 use Rattle.cpn_file.specs.Served.{is_served}
-use Rattle.cpn_document.specs.declared.refusals.Pointer.TheVariants.{Transition}
+use Rattle.cpn_file.specs.Pointers.{transition_pointer}
 
 -- A net and its initial marking.
 pub record PlainLoaded : Type 0 where
@@ -61,7 +61,7 @@ pub data AreBindable (n : PlainNet) : ℕ → List PlainTransition → Reading B
   none_left : (i : ℕ) → AreBindable n i [] (read true)
   these_are : (i : ℕ) (t : PlainTransition) (ts : List PlainTransition) (r : Reading Bool) → IsBindableAnswer n t (ok tt) → AreBindable n (suc i) ts r → AreBindable n i (t ∷ ts) r
   one_is_not : (i : ℕ) (t : PlainTransition) (ts : List PlainTransition) (r : checks.Refusal) → IsBindableAnswer n t (checks.refused r)
-      → AreBindable n i (t ∷ ts) (refused (inscription (Transition i) (typing r)))
+      → AreBindable n i (t ∷ ts) (refused (inscription (transition_pointer i) (typing r)))
 
 -- ---- initial markings
 

@@ -5,9 +5,9 @@ use Rattle.cpn_typing.specs.Names.{Refusal as TypeRefusal}
 use Rattle.cpn_readings.specs.Reading as readings
 pub use Rattle.cpn_readings.specs.Reading.{read, refused, ◌>>=◌, check}
 unfoldable pub use Rattle.cpn_readings.specs.Reading.{each_from}
-use Rattle.cpn_document.specs.Reading.{FormRefusal}
-use Rattle.cpn_document.specs.Reading as form
-use Rattle.cpn_document.specs.declared.refusals.Pointer.{Pointer}
+use Rattle.cpn_document.specs.Refusals.{FormRefusal, not_yet}
+use Rattle.cpn_document.specs.declared.pointers.Pointer.{Pointer}
+use Rattle.cpn_document.specs.declared.pointers.Pointer.TheVariants.{Root}
 use Rattle.cpn_parsing.specs.Parsing.{NoTree}
 
 -- Why a text of the inscription language is refused: it has no tree; its tree breaks a rule of typing.
@@ -28,4 +28,4 @@ Reading = readings.Reading Refusal
 
 -- Whatever is not served yet is refused as such, at the whole document.
 abbrev pub not_served : Refusal
-not_served = of_form form.not_served
+not_served = of_form (not_yet Root)

@@ -1,10 +1,10 @@
 -- What the bytes of a document are read as.
-use Rattle.std.specs.Prelude.{◌≡◌, ℕ, List, Option, Some, None}
-use Rattle.serde_json.specs.Data.{Data}
+use Rattle.std.specs.Prelude.{◌≡◌, ℕ, List}
 use Rattle.cpn_readings.specs.Reading.{refused_as}
-use Rattle.cpn_document.specs.Reading.{not_json}
-use Rattle.cpn_document.specs.Json.{HasJson}
-use Rattle.cpn_document.specs.Document.{document_in}
+use Rattle.cpn_document.specs.Document.{RawDocument}
+use Rattle.cpn_document.specs.Reading as form
+use Rattle.cpn_document.specs.Reading.{IsDocument}
+use Rattle.cpn_one_module.specs.Document.{one_module_in}
 use Rattle.cpn_file.specs.Reading.{Reading, refused, of_form}
 use Rattle.cpn_file.specs.Relations.{just, such_that, ◌>>=◌}
 use Rattle.cpn_parsing.specs.Trees.{AreTrees}
@@ -18,21 +18,21 @@ loaded_by accepted = do
   bindable ← AreBindable net 0 net.transitions
   just (loaded_from net accepted.initials)
 
--- What a JSON value is read as: its form first, whole; then its texts, which are parsed as trees and checked in their order;
--- then its net.
-unfoldable pub loaded_in : Data → Reading PlainLoaded → Type 0
-loaded_in d = do
-  document ← just (refused_as of_form (document_in d))
-  trees ← such_that (AreTrees document)
+-- What a document is read as: it has to be of one module; then its texts are parsed as trees and checked in their order; then its
+-- net is made.
+unfoldable pub loaded_in : RawDocument → Reading PlainLoaded → Type 0
+loaded_in document = do
+  single ← just (refused_as of_form (one_module_in document))
+  trees ← such_that (AreTrees single)
   accepted ← just (accepted_in trees)
   loaded_by accepted
 
--- what a JSON value is read as, or no JSON value
-abbrev pub IsReadingOf : Option Data → Reading PlainLoaded → Type 0
-IsReadingOf None reading = reading ≡ refused (of_form not_json)
-IsReadingOf (Some d) reading = loaded_in d reading
+-- what a document is read as, or the refusal of its form
+abbrev pub IsReadingOf : form.Reading RawDocument → Reading PlainLoaded → Type 0
+IsReadingOf (form.read document) reading = loaded_in document reading
+IsReadingOf (form.refused refusal) reading = reading ≡ refused (of_form refusal)
 
--- What the bytes of a document are read as: the net and the initial marking of their JSON value, or the first refusal.
+-- What the bytes of a document are read as: the net and the initial marking of the document that they are, or the first refusal.
 -- Bytes have one reading.
 abbrev pub IsReadAs : List ℕ → Reading PlainLoaded → Type 0
-IsReadAs bytes reading = (value : Option Data) × HasJson bytes value × IsReadingOf value reading
+IsReadAs bytes reading = (document : form.Reading RawDocument) × IsDocument bytes document × IsReadingOf document reading

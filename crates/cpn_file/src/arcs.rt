@@ -16,7 +16,7 @@ ghost use Rattle.cpn_file.specs.Answers.{Loads};
 
 use crate::refusals::{LoadError, not_accepted, not_parsed};
 use cpn_core::{Colour, Place, PlaceArc};
-use cpn_document::{Pointer, Way};
+use cpn_document::{ArcPart, ModulePart, Pointer, Way};
 use cpn_parsing::ArcTrees;
 use cpn_syntax::Inscription;
 use cpn_types::{Decls, Side, check_arc};
@@ -48,7 +48,10 @@ fn side_of(
 {
     match check_arc(alloc, decls, colour, side, tree) {
         Ok(inscription) => Ok(PlaceArc { place, inscription }),
-        Err(error) => Err(not_accepted(Pointer::Expr(number), error)),
+        Err(error) => Err(not_accepted(
+            Pointer::Module(0, ModulePart::Arc(number, ArcPart::Expr)),
+            error,
+        )),
     }
 }
 
@@ -126,7 +129,10 @@ fn arc_of(
     let colour = &places[arc.place as usize].colour;
     match &arc.expr {
         Ok(tree) => sides_of(alloc, decls, colour, number, arc, tree),
-        Err(error) => Err(not_parsed(Pointer::Expr(number), *error)),
+        Err(error) => Err(not_parsed(
+            Pointer::Module(0, ModulePart::Arc(number, ArcPart::Expr)),
+            *error,
+        )),
     }
 }
 

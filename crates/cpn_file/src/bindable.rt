@@ -11,7 +11,7 @@ ghost use Rattle.cpn_file.specs.Joining.{HasItsTerms};
 
 use crate::refusals::{LoadError, not_accepted};
 use cpn_core::Transition;
-use cpn_document::Pointer;
+use cpn_document::{ModulePart, Pointer, TransitionPart};
 use cpn_types::{Decls, check_bindable};
 use std::alloc::Global;
 
@@ -27,7 +27,10 @@ pub(crate) fn check_variables(
     for (number, transition) in transitions.iter().enumerate() {
         match check_bindable(alloc, decls, transition) {
             Ok(()) => {}
-            Err(error) => return Err(not_accepted(Pointer::Transition(number), error)),
+            Err(error) => return Err(not_accepted(
+                Pointer::Module(0, ModulePart::Transition(number, TransitionPart::Whole)),
+                error,
+            )),
         }
     }
     Ok(())

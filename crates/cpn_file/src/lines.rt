@@ -4,48 +4,19 @@ ghost use Rattle.std.specs.Prelude.{◌≡◌, ◌++◌, IfOk, IfSome, codes, st
 ghost use Rattle.std.specs.Fmt.{decimal};
 ghost use Rattle.cpn_core.specs.Faults.{fault_view};
 ghost use Rattle.cpn_declared.specs.Answers.{refusal_of as type_refusal_of};
-ghost use Rattle.cpn_file.specs.Refusals.{key_pointer, pointer_text as text_of_pointer, with_space, lexical_number as number_of_lexical, lexical_name as name_of_lexical, lexical_detail as detail_of_lexical, syntactic_number as number_of_syntactic, syntactic_name as name_of_syntactic, syntactic_detail as detail_of_syntactic, typing_number as number_of_typing, typing_name as name_of_typing, typing_detail as detail_of_typing, limit_name as name_of_limit, fault_name as name_of_fault, document_line, form_line, inscription_line, line_with, init_line, refusal_line};
+ghost use Rattle.cpn_file.specs.Refusals.{pointer_text as text_of_pointer, with_space, lexical_number as number_of_lexical, lexical_name as name_of_lexical, lexical_detail as detail_of_lexical, syntactic_number as number_of_syntactic, syntactic_name as name_of_syntactic, syntactic_detail as detail_of_syntactic, typing_number as number_of_typing, typing_name as name_of_typing, typing_detail as detail_of_typing, limit_name as name_of_limit, counted_name as name_of_counted, fault_name as name_of_fault, document_line, form_line, inscription_line, line_with, init_line, refusal_line};
 ghost use Rattle.cpn_document.specs.Answers.{refusal_of};
 ghost use Rattle.cpn_file.specs.Answers.{text_refusal_of, load_refusal_of};
 ghost use Rattle.cpn_declared.specs.Answers.{limit_view};
 
+use crate::pointer_texts::pointer_text;
 use crate::refusals::LoadError;
 use cpn_core::{EvalFault, Memory};
-use cpn_document::{DocError, Pointer};
+use cpn_document::{DocError, Limit as DocumentLimit, Pointer};
 use cpn_lex::LexError;
 use cpn_syntax::SyntaxError;
 use cpn_types::{InscriptionError, Limit, TypeError};
 use std::alloc::Global;
-
-/// A place in a document as a JSON pointer.
-fn pointer_text(alloc: Global, place: Pointer) -> Result<String, Memory>
-    ensures text { IfOk result (λ text. string_bytes text ≡ text_of_pointer place) }
-{
-    match place {
-        Pointer::Root => Ok(String::new(alloc)),
-        Pointer::Declaration(number) => {
-            let text = format!(in alloc; "/declarations/{number}")?;
-            Ok(text)
-        }
-        Pointer::Colour(number) => key_text(alloc, "places", number, "colour"),
-        Pointer::Initial(number) => key_text(alloc, "places", number, "initial"),
-        Pointer::Guard(number) => key_text(alloc, "transitions", number, "guard"),
-        Pointer::Delay(number) => key_text(alloc, "transitions", number, "delay"),
-        Pointer::Expr(number) => key_text(alloc, "arcs", number, "expr"),
-        Pointer::Transition(number) => {
-            let text = format!(in alloc; "/modules/0/transitions/{number}")?;
-            Ok(text)
-        }
-    }
-}
-
-/// The pointer of what stands at a key of an item of a list of the module.
-fn key_text(alloc: Global, list: &str, number: usize, key: &str) -> Result<String, Memory>
-    ensures text { IfOk result (λ text. string_bytes text ≡ key_pointer list.now number key.now) }
-{
-    let text = format!(in alloc; "/modules/0/{list}/{number}/{key}")?;
-    Ok(text)
-}
 
 /// What stands before a text: a space, or nothing where the text is empty.
 fn space_before(text: &str) -> &'static str
@@ -289,24 +260,47 @@ fn inscription_line_of(
 }
 
 /// The line of a document that is refused, of its parts.
-fn numbered_line(alloc: Global, number: u64, name: &str, place: Pointer) -> Result<String, Memory>
-    ensures line { IfOk result (λ line. string_bytes line ≡ document_line number name.now place) }
+fn numbered_line(alloc: Global, number: u64, name: &str, detail: &str) -> Result<String, Memory>
+    ensures line { IfOk result (λ line. string_bytes line ≡ document_line number name.now detail.now) }
 {
-    let place = pointer_text(alloc, place)?;
-    let place = spaced(alloc, place.as_str())?;
-    let place = place.as_str();
-    let line = format!(in alloc; "error document {number} {name}{place}\n")?;
+    let detail = spaced(alloc, detail)?;
+    let detail = detail.as_str();
+    let line = format!(in alloc; "error document {number} {name}{detail}\n")?;
     Ok(line)
 }
 
-/// The line of a document that is no JSON value, or not served yet.
+/// The same, where the refusal carries a place.
+fn placed_line(alloc: Global, number: u64, name: &str, place: Pointer) -> Result<String, Memory>
+    ensures line { IfOk result (λ line. string_bytes line ≡ document_line number name.now (text_of_pointer place)) }
+{
+    let place = pointer_text(alloc, place)?;
+    numbered_line(alloc, number, name, place.as_str())
+}
+
+/// What there are too many of.
+fn counted_name(kind: DocumentLimit) -> &'static str
+    ensures name { result.now ≡ name_of_counted kind }
+{
+    match kind {
+        DocumentLimit::Declarations => "declarations",
+        DocumentLimit::Modules => "modules",
+        DocumentLimit::Arcs => "arcs",
+    }
+}
+
+/// The line of a document that is refused for its form.
 fn document_line_of(alloc: Global, error: &DocError) -> Result<String, Memory>
     ensures line { IfOk result (λ line. IfSome (refusal_of error.now) (λ r. string_bytes line ≡ form_line r)) }
 {
     match error {
         DocError::Memory => Err(Memory),
-        DocError::NotJson => numbered_line(alloc, 1, "not_json", Pointer::Root),
-        DocError::NotYet(place) => numbered_line(alloc, 7, "not_yet", *place),
+        DocError::NotJson => numbered_line(alloc, 1, "not_json", ""),
+        DocError::Shape(place) => placed_line(alloc, 2, "shape", *place),
+        DocError::BadNumber(place) => placed_line(alloc, 3, "bad_number", *place),
+        DocError::BadName(place) => placed_line(alloc, 4, "bad_name", *place),
+        DocError::Version => numbered_line(alloc, 5, "version", ""),
+        DocError::Limit(kind) => numbered_line(alloc, 6, "limit", counted_name(*kind)),
+        DocError::NotYet(place) => placed_line(alloc, 7, "not_yet", *place),
     }
 }
 

@@ -12,7 +12,7 @@ ghost use Rattle.cpn_file.specs.Answers.{Loads, IsUnknown};
 
 use crate::refusals::{LoadError, not_accepted, not_parsed};
 use cpn_core::{ArcExpr, Colour, Place};
-use cpn_document::Pointer;
+use cpn_document::{ModulePart, PlacePart, Pointer};
 use cpn_parsing::{Parsing, PlaceTrees};
 use cpn_syntax::Inscription;
 use cpn_types::{Decls, InscriptionError, TypeError, check_init};
@@ -34,7 +34,7 @@ fn unknown_colour(alloc: Global, number: usize, name: &str) -> LoadError
 {
     match String::from_str(alloc, name) {
         Ok(name) => LoadError::Inscription(
-            Pointer::Colour(number),
+            Pointer::Module(0, ModulePart::Place(number, PlacePart::Colour)),
             InscriptionError::Typing(TypeError::Unknown(name)),
         ),
         Err(_) => LoadError::Memory,
@@ -89,7 +89,7 @@ fn written_initial(
 ) -> Result<ArcExpr, LoadError>
     ensures reads { Loads (λ initial. Some (initial_view initial)) result (initial_at (decls_view decls.now) (colour_view colour.now) number (Some (tree_view text.now))) }
 {
-    let place = Pointer::Initial(number);
+    let place = Pointer::Module(0, ModulePart::Place(number, PlacePart::Initial));
     match text {
         Ok(tree) => match check_init(alloc, decls, colour, tree) {
             Ok(initial) => Ok(initial),

@@ -22,7 +22,7 @@ pub enum LoadError {
     /// Memory ran out. The one variant that is no refusal.
     #[error("out of memory")]
     Memory,
-    /// The bytes are no document of the form that is served.
+    /// The bytes are no document, or none that is served.
     #[error("{0}")]
     Document(DocError),
     /// The text at this place, or the variables of the transition there, are not accepted.
@@ -43,6 +43,11 @@ impl LoadError {
             LoadError::Document(error) => match error {
                 DocError::Memory => true,
                 DocError::NotJson => false,
+                DocError::Shape(_) => false,
+                DocError::BadNumber(_) => false,
+                DocError::BadName(_) => false,
+                DocError::Version => false,
+                DocError::Limit(_) => false,
                 DocError::NotYet(_) => false,
             },
             LoadError::Inscription(_, error) => match error {
@@ -93,8 +98,7 @@ impl From<DocError> for LoadError {
     fn from(error: DocError) -> LoadError {
         match error {
             DocError::Memory => LoadError::Memory,
-            DocError::NotJson => LoadError::Document(DocError::NotJson),
-            DocError::NotYet(place) => LoadError::Document(DocError::NotYet(place)),
+            error => LoadError::Document(error),
         }
     }
 }

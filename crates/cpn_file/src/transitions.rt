@@ -12,7 +12,7 @@ ghost use Rattle.cpn_file.specs.Answers.{Loads};
 use crate::places::flattened;
 use crate::refusals::{LoadError, not_accepted, not_parsed};
 use cpn_core::{Expr, Guard, Transition};
-use cpn_document::Pointer;
+use cpn_document::{ModulePart, Pointer, TransitionPart};
 use cpn_parsing::{Parsing, TransitionTrees};
 use cpn_syntax::Inscription;
 use cpn_types::{Decls, check_delay, check_guard};
@@ -28,7 +28,7 @@ fn written_guard(
 ) -> Result<Guard, LoadError>
     ensures reads { Loads (λ guard. map expr_view guard.conjuncts.items) result (guard_at (decls_view decls.now) number (Some (conjuncts_view text.now))) }
 {
-    let place = Pointer::Guard(number);
+    let place = Pointer::Module(0, ModulePart::Transition(number, TransitionPart::Guard));
     match text {
         Ok(tree) => match check_guard(alloc, decls, tree) {
             Ok(guard) => Ok(guard),
@@ -66,7 +66,7 @@ fn written_delay(
 ) -> Result<Expr, LoadError>
     ensures reads { Loads (λ delay. Some (expr_view delay)) result (delay_at (decls_view decls.now) number (Some (tree_view text.now))) }
 {
-    let place = Pointer::Delay(number);
+    let place = Pointer::Module(0, ModulePart::Transition(number, TransitionPart::Delay));
     match text {
         Ok(tree) => match check_delay(alloc, decls, tree) {
             Ok(delay) => Ok(delay),

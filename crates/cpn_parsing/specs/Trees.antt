@@ -3,7 +3,8 @@ use Rattle.std.specs.Prelude.{◌≡◌, ℕ, List, Option}
 use Rattle.cpn_trees.specs.Trees.{PlainAst, PlainAsts}
 use Rattle.cpn_trees.specs.DeclTrees.{PlainDecl}
 use Rattle.cpn_readings.specs.ItemByItem.{EachIs, OptionIs}
-use Rattle.cpn_document.specs.Document.{RawPlace, RawTransition, JoinedArc, RawDocument}
+use Rattle.cpn_document.specs.Document.{RawTransition}
+use Rattle.cpn_one_module.specs.Document.{RawPlace, JoinedArc, RawDocument}
 use Rattle.cpn_parsing.specs.Parsing.{Parsing, IsDeclaration, IsInscription, IsGuard, IsDelay}
 use Rattle.cpn_document.specs.declared.document.Way.{Way}
 

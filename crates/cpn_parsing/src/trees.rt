@@ -1,16 +1,17 @@
 //! A document with the trees of its texts.
 
 ghost use Rattle.std.specs.Prelude.{map, option_map, IfOk};
-ghost use Rattle.cpn_document.specs.Names.{texts_of as bytes_of};
+ghost use Rattle.cpn_one_module.specs.Names.{texts_of as bytes_of};
 ghost use Rattle.cpn_parsing.specs.Parsing.{IsDeclaration, IsInscription, IsGuard, IsDelay};
 ghost use Rattle.cpn_readings.specs.ItemByItem.{EachIs, OptionIs};
 ghost use Rattle.cpn_parsing.specs.Trees.{ArePlaceTrees, AreTransitionTrees, AreArcTrees, AreTrees};
-ghost use Rattle.cpn_document.specs.Views.{place_view, places_view, written_view, written_views, joined_view, joined_views, document_view};
+ghost use Rattle.cpn_one_module.specs.Views.{place_view, places_view, written_view, written_views, joined_view, joined_views, document_view};
 ghost use Rattle.cpn_parsing.specs.TreesViews.{tree_view, conjuncts_view, declared_view, place_trees_view, transition_trees_view, arc_trees_view, document_trees_view};
 
 use crate::parsing::{Parsing, declaration_in, delay_in, guard_in, inscription_in};
-use cpn_document::{Document, Joined, PlaceTexts, TransitionTexts, Way};
+use cpn_document::Way;
 use cpn_memory::Memory;
+use cpn_one_module::{Joined, PlaceTexts, SingleDocument, TransitionTexts};
 use cpn_syntax::{Declaration, Guard, Inscription};
 use std::alloc::Global;
 
@@ -188,7 +189,7 @@ fn arcs_trees(alloc: Global, arcs: &[Joined]) -> Result<Vec<ArcTrees>, Memory>
 /// [`Memory`]: memory ran out. A text that has no tree is no error: why it has none stands in its place.
 pub fn document_trees<'v>(
     alloc: Global,
-    document: &Document<'v>,
+    document: &SingleDocument<'v>,
 ) -> Result<DocumentTrees<'v>, Memory>
     ensures parsed { IfOk result (λ trees. AreTrees (document_view document.now) (document_trees_view trees)) }
 {

@@ -52,8 +52,7 @@ error_line read_fault = codes "error read\n"
 error_line too_long = codes "error long\n"
 error_line (bad_document refusal) = refusal_line refusal
 
--- The status of a refusal of the document: of what is no JSON value or is not served yet, of a text or the variables of a
--- transition, or of an initial marking.
+-- The status of a refusal of the document: for its form, of a text or the variables of a transition, or of an initial marking.
 abbrev pub status_of_document : Refusal → Status
 status_of_document (of_form reason) = statuses.BadDocument
 status_of_document (inscription place reason) = statuses.BadInscription

@@ -15,7 +15,7 @@ pub enum Status {
     BadWords = 1,
     /// The source had a fault.
     ReadFault = 2,
-    /// The document is no JSON value, or none that is served yet.
+    /// The document is no JSON value, breaks a rule of its form, or is not served yet.
     BadDocument = 3,
     /// A text of the document, or the variables of a transition, are not accepted.
     BadInscription = 4,

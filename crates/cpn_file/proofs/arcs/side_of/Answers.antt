@@ -7,10 +7,10 @@ use Rattle.cpn_forms.specs.PlaceViews.{side_view}
 use Rattle.cpn_typing.specs.Multisets.{checked_arc}
 use Rattle.cpn_file.specs.Answers.{load_refusal_of}
 use Rattle.cpn_file.specs.Accepted.{arc_at}
-use Rattle.cpn_document.specs.declared.refusals.Pointer.TheVariants.{Expr}
 use Rattle.cpn_file.proofs.CheckedTexts.{refused_then}
 use Rattle.cpn_file.proofs.arcs.side_of.Goals as goal
+use Rattle.cpn_file.specs.Pointers.{expr_pointer}
 
 pub returns-in-Err : goal.returns-in-Err
 unfolding arc_at
-returns-in-Err c = record { reads = refused_then (Expr c.args.number) (checked_arc (decls_view c.args.decls.now) (side_view c.args.side) (colour_view c.args.colour.now) (inscription_view c.args.tree.now)) _ (refusal_of c.in-Err.error) (load_refusal_of c.not_accepted.result) c.not_accepted.ensures.refused c.in-Err.ensures.exact }
+returns-in-Err c = record { reads = refused_then (expr_pointer c.args.number) (checked_arc (decls_view c.args.decls.now) (side_view c.args.side) (colour_view c.args.colour.now) (inscription_view c.args.tree.now)) _ (refusal_of c.in-Err.error) (load_refusal_of c.not_accepted.result) c.not_accepted.ensures.refused c.in-Err.ensures.exact }

@@ -6,10 +6,10 @@ use Rattle.cpn_declared.specs.DeclsViews.{decls_view}
 use Rattle.cpn_typing.specs.Multisets.{checked_init}
 use Rattle.cpn_file.specs.Answers.{load_refusal_of}
 use Rattle.cpn_file.specs.Accepted.{initial_at}
-use Rattle.cpn_document.specs.declared.refusals.Pointer.TheVariants.{Initial}
 use Rattle.cpn_file.proofs.CheckedTexts.{refused_then}
 use Rattle.cpn_file.proofs.places.written_initial.Goals as goal
+use Rattle.cpn_file.specs.Pointers.{initial_pointer}
 
 pub returns-in-Err-check_init : goal.returns-in-Err-check_init
 unfolding initial_at
-returns-in-Err-check_init c = record { reads = rw c.in-Ok.is (refused_then (Initial c.args.number) (checked_init (decls_view c.args.decls.now) (colour_view c.args.colour.now) (inscription_view c.in-Ok.tree)) _ (refusal_of c.in-Err-check_init.error) (load_refusal_of c.not_accepted.result) c.not_accepted.ensures.refused c.in-Err-check_init.ensures.exact) }
+returns-in-Err-check_init c = record { reads = rw c.in-Ok.is (refused_then (initial_pointer c.args.number) (checked_init (decls_view c.args.decls.now) (colour_view c.args.colour.now) (inscription_view c.in-Ok.tree)) _ (refusal_of c.in-Err-check_init.error) (load_refusal_of c.not_accepted.result) c.not_accepted.ensures.refused c.in-Err-check_init.ensures.exact) }

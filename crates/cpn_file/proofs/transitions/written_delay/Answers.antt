@@ -5,10 +5,10 @@ use Rattle.cpn_declared.specs.DeclsViews.{decls_view}
 use Rattle.cpn_typing.specs.GuardsAndDelays.{checked_delay}
 use Rattle.cpn_file.specs.Answers.{load_refusal_of}
 use Rattle.cpn_file.specs.Accepted.{delay_at}
-use Rattle.cpn_document.specs.declared.refusals.Pointer.TheVariants.{Delay}
 use Rattle.cpn_file.proofs.CheckedTexts.{refused_then}
 use Rattle.cpn_file.proofs.transitions.written_delay.Goals as goal
+use Rattle.cpn_file.specs.Pointers.{delay_pointer}
 
 pub returns-in-Err-check_delay : goal.returns-in-Err-check_delay
 unfolding delay_at
-returns-in-Err-check_delay c = record { reads = rw c.in-Ok.is (refused_then (Delay c.args.number) (checked_delay (decls_view c.args.decls.now) (inscription_view c.in-Ok.tree)) _ (refusal_of c.in-Err-check_delay.error) (load_refusal_of c.not_accepted.result) c.not_accepted.ensures.refused c.in-Err-check_delay.ensures.exact) }
+returns-in-Err-check_delay c = record { reads = rw c.in-Ok.is (refused_then (delay_pointer c.args.number) (checked_delay (decls_view c.args.decls.now) (inscription_view c.in-Ok.tree)) _ (refusal_of c.in-Err-check_delay.error) (load_refusal_of c.not_accepted.result) c.not_accepted.ensures.refused c.in-Err-check_delay.ensures.exact) }

@@ -5,10 +5,10 @@ use Rattle.cpn_declared.specs.DeclsViews.{decls_view}
 use Rattle.cpn_typing.specs.GuardsAndDelays.{checked_guard}
 use Rattle.cpn_file.specs.Answers.{load_refusal_of}
 use Rattle.cpn_file.specs.Accepted.{guard_at}
-use Rattle.cpn_document.specs.declared.refusals.Pointer.TheVariants.{Guard}
 use Rattle.cpn_file.proofs.CheckedTexts.{refused_there}
 use Rattle.cpn_file.proofs.transitions.written_guard.Goals as goal
+use Rattle.cpn_file.specs.Pointers.{guard_pointer}
 
 pub returns-in-Err-check_guard : goal.returns-in-Err-check_guard
 unfolding guard_at
-returns-in-Err-check_guard c = record { reads = rw c.in-Ok.is (refused_there (Guard c.args.number) (checked_guard (decls_view c.args.decls.now) (guard_view c.in-Ok.tree)) (refusal_of c.in-Err-check_guard.error) (load_refusal_of c.not_accepted.result) c.not_accepted.ensures.refused c.in-Err-check_guard.ensures.exact) }
+returns-in-Err-check_guard c = record { reads = rw c.in-Ok.is (refused_there (guard_pointer c.args.number) (checked_guard (decls_view c.args.decls.now) (guard_view c.in-Ok.tree)) (refusal_of c.in-Err-check_guard.error) (load_refusal_of c.not_accepted.result) c.not_accepted.ensures.refused c.in-Err-check_guard.ensures.exact) }

@@ -1,6 +1,6 @@
 -- The tree of the next text comes behind those so far.
 use Rattle.cpn_parsing.specs.Trees.{AreArcTrees}
-use Rattle.cpn_document.specs.Views.{joined_view}
+use Rattle.cpn_one_module.specs.Views.{joined_view}
 use Rattle.cpn_parsing.specs.TreesViews.{arc_trees_view}
 use Rattle.cpn_readings.proofs.ItemByItem.{each_is_next}
 use Rattle.cpn_parsing.proofs.trees.arcs_trees.Goals as goal

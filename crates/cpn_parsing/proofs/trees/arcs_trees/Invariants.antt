@@ -2,7 +2,7 @@
 use Rattle.std.proofs.Common.{map, take}
 use Rattle.cpn_readings.specs.ItemByItem.{EachIs}
 use Rattle.cpn_parsing.specs.Trees.{AreArcTrees}
-use Rattle.cpn_document.specs.Views.{joined_views}
+use Rattle.cpn_one_module.specs.Views.{joined_views}
 use Rattle.cpn_parsing.specs.TreesViews.{arc_trees_view}
 use Rattle.cpn_parsing.proofs.trees.arcs_trees.Given as goal
 

@@ -2,7 +2,7 @@
 use Rattle.std.proofs.Common.{map, take}
 use Rattle.cpn_readings.specs.ItemByItem.{EachIs}
 use Rattle.cpn_parsing.specs.Parsing.{IsDeclaration}
-use Rattle.cpn_document.specs.Names.{texts_of}
+use Rattle.cpn_one_module.specs.Names.{texts_of}
 use Rattle.cpn_parsing.specs.TreesViews.{declared_view}
 use Rattle.cpn_parsing.proofs.trees.declarations_trees.Given as goal
 

@@ -1,6 +1,6 @@
 -- The tree of the next text comes behind those so far.
 use Rattle.cpn_parsing.specs.Trees.{ArePlaceTrees}
-use Rattle.cpn_document.specs.Views.{place_view}
+use Rattle.cpn_one_module.specs.Views.{place_view}
 use Rattle.cpn_parsing.specs.TreesViews.{place_trees_view}
 use Rattle.cpn_readings.proofs.ItemByItem.{each_is_next}
 use Rattle.cpn_parsing.proofs.trees.places_trees.Goals as goal

@@ -2,7 +2,7 @@
 use Rattle.std.proofs.Common.{map, take}
 use Rattle.cpn_readings.specs.ItemByItem.{EachIs}
 use Rattle.cpn_parsing.specs.Trees.{ArePlaceTrees}
-use Rattle.cpn_document.specs.Views.{places_view}
+use Rattle.cpn_one_module.specs.Views.{places_view}
 use Rattle.cpn_parsing.specs.TreesViews.{place_trees_view}
 use Rattle.cpn_parsing.proofs.trees.places_trees.Given as goal
 

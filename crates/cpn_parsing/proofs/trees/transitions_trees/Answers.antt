@@ -1,6 +1,6 @@
 -- The tree of the next text comes behind those so far.
 use Rattle.cpn_parsing.specs.Trees.{AreTransitionTrees}
-use Rattle.cpn_document.specs.Views.{written_view}
+use Rattle.cpn_one_module.specs.Views.{written_view}
 use Rattle.cpn_parsing.specs.TreesViews.{transition_trees_view}
 use Rattle.cpn_readings.proofs.ItemByItem.{each_is_next}
 use Rattle.cpn_parsing.proofs.trees.transitions_trees.Goals as goal

@@ -2,7 +2,7 @@
 use Rattle.std.proofs.Common.{map, take}
 use Rattle.cpn_readings.specs.ItemByItem.{EachIs}
 use Rattle.cpn_parsing.specs.Trees.{AreTransitionTrees}
-use Rattle.cpn_document.specs.Views.{written_views}
+use Rattle.cpn_one_module.specs.Views.{written_views}
 use Rattle.cpn_parsing.specs.TreesViews.{transition_trees_view}
 use Rattle.cpn_parsing.proofs.trees.transitions_trees.Given as goal
 

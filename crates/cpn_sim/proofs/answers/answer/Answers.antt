@@ -1,9 +1,20 @@
--- The document that was read has one reading.
-use Rattle.std.proofs.Common.{ℕ, List, subst}
+-- What refuses a document has its cause, and the document that was read has one reading.
+use Rattle.std.proofs.Common.{ℕ, List, IfSome, map, string_bytes, subst}
 use Rattle.cpn_file.specs.Answers.{load_refusal_of}
-use Rattle.cpn_sim.specs.Causes.{HaveOneReading}
-use Rattle.cpn_sim.proofs.RefusedDocuments.{read_once, its_reading}
+use Rattle.cpn_file.specs.Reading.{refused}
+use Rattle.cpn_file.specs.Reads.{IsReadAs}
+use Rattle.cpn_sim.specs.Causes.{GiveOptions, HaveOneReading}
+use Rattle.cpn_sim.specs.OptionsView.{options_view}
+use Rattle.cpn_sim.proofs.RefusedDocuments.{read_once, its_cause, its_reading}
 use Rattle.cpn_sim.proofs.answers.answer.Goals as goal
+
+pub returns-in-Err-clause-cause : goal.returns-in-Err-clause-cause
+returns-in-Err-clause-cause g c =
+    let left = g.S.Source.left c.args.source.now in
+    let bytes : List ℕ = c.in-Ok-read_all.bytes.items in
+    let refuses : IfSome (load_refusal_of c.in-Err.error) (λ r. IsReadAs bytes (refused r)) = subst (λ (bs : List ℕ). IfSome (load_refusal_of c.in-Err.error) (λ r. IsReadAs bs (refused r))) c.deref.ensures.value c.in-Err.ensures.refuses in
+    let given : GiveOptions (map string_bytes c.args.words.now) = (options_view c.in-Ok.options, c.in-Ok.ensures.options) in
+    its_cause (load_refusal_of c.in-Err.error) c.of_document.result left bytes c.of_document.ensures.refusal c.in-Ok-read_all.ensures.bytes (map string_bytes c.args.words.now) _ _ c.of_document.ensures.memory given c.in-Ok-read_all.ensures.short refuses
 
 pub returns-in-Err-clause-read_once : goal.returns-in-Err-clause-read_once
 returns-in-Err-clause-read_once g c =

@@ -1,0 +1,13 @@
+-- The values so far and those of the rest are those of the list, and the rules of the rest decide.
+use Rattle.std.proofs.Common.{◌≡◌, ◌++◌, drop, map}
+use Rattle.serde_json.specs.View.{view}
+use Rattle.cpn_document.specs.Rules.{first_broken}
+use Rattle.cpn_document.specs.Document.{each_named, each_fusion, fusion_in, fusion_rules}
+use Rattle.cpn_document.specs.Views.{fusion_view}
+use Rattle.cpn_document.proofs.fusions.fusions_of.Given as goal
+
+abbrev pub invariant-loop-number : goal.invariant-loop-number
+invariant-loop-number l = record {
+  values : map fusion_view l.fusions.items ++ map fusion_in (map view (drop l.number l.list)) ≡ map fusion_in (map view l.list);
+  rest : first_broken (each_named fusion_rules l.number l.names (map view (drop l.number l.list))) ≡ first_broken (each_fusion (map view l.list));
+}

@@ -1,0 +1,13 @@
+-- The values so far and those of the rest are those of the list, and the rules of the rest decide.
+use Rattle.std.proofs.Common.{◌≡◌, ◌++◌, drop, map}
+use Rattle.serde_json.specs.View.{view}
+use Rattle.cpn_document.specs.Rules.{first_broken}
+use Rattle.cpn_document.specs.Document.{each_item, each_member, member_in, member_rules}
+use Rattle.cpn_document.specs.Views.{member_view}
+use Rattle.cpn_document.proofs.fusions.members_of.Given as goal
+
+abbrev pub invariant-loop-number : goal.invariant-loop-number
+invariant-loop-number l = record {
+  values : map member_view l.members.items ++ map member_in (map view (drop l.number l.list)) ≡ map member_in (map view l.list);
+  rest : first_broken (each_item (member_rules l.in_fusion) l.number (map view (drop l.number l.list))) ≡ first_broken (each_member l.in_fusion (map view l.list));
+}

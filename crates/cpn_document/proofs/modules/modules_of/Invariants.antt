@@ -1,0 +1,13 @@
+-- The values so far and those of the rest are those of the list, and the rules of the rest decide.
+use Rattle.std.proofs.Common.{◌≡◌, ◌++◌, drop, map}
+use Rattle.serde_json.specs.View.{view}
+use Rattle.cpn_document.specs.Rules.{first_broken}
+use Rattle.cpn_document.specs.Document.{each_named, each_module, module_in, module_rules}
+use Rattle.cpn_document.specs.Views.{module_view}
+use Rattle.cpn_document.proofs.modules.modules_of.Given as goal
+
+abbrev pub invariant-loop-number : goal.invariant-loop-number
+invariant-loop-number l = record {
+  values : map module_view l.modules.items ++ map module_in (map view (drop l.number l.list)) ≡ map module_in (map view l.list);
+  rest : first_broken (each_named module_rules l.number l.names (map view (drop l.number l.list))) ≡ first_broken (each_module (map view l.list));
+}

@@ -1,0 +1,13 @@
+-- The values so far and those of the rest are those of the list, and the rules of the rest decide.
+use Rattle.std.proofs.Common.{◌≡◌, ◌++◌, drop, map}
+use Rattle.serde_json.specs.View.{view}
+use Rattle.cpn_document.specs.Rules.{first_broken}
+use Rattle.cpn_document.specs.Document.{each_named, each_sub, sub_in, sub_rules}
+use Rattle.cpn_document.specs.Views.{sub_view}
+use Rattle.cpn_document.proofs.subs.subs_of.Given as goal
+
+abbrev pub invariant-loop-number : goal.invariant-loop-number
+invariant-loop-number l = record {
+  values : map sub_view l.subs.items ++ map sub_in (map view (drop l.number l.list)) ≡ map sub_in (map view l.list);
+  rest : first_broken (each_named (sub_rules l.in_module) l.number l.names (map view (drop l.number l.list))) ≡ first_broken (each_sub l.in_module l.fn.names (map view l.list));
+}

@@ -1,0 +1,25 @@
+-- The rules are looked at one group behind the other.
+use Rattle.std.proofs.Common.{rules}
+use Rattle.cpn_document.specs.Document.{transition_rules}
+use Rattle.cpn_document.proofs.BrokenRules.{broken_append}
+use Rattle.cpn_document.proofs.transitions.transition_of.Goals as goal
+
+pub returns-in_err-check_keys-clause-gives : goal.returns-in_err-check_keys-clause-gives
+unfolding transition_rules
+returns-in_err-check_keys-clause-gives c = search (rules, broken_append)
+
+pub returns-in_err-name-clause-gives : goal.returns-in_err-name-clause-gives
+unfolding transition_rules
+returns-in_err-name-clause-gives c = search (rules, broken_append)
+
+pub returns-in_err-guard-clause-gives : goal.returns-in_err-guard-clause-gives
+unfolding transition_rules
+returns-in_err-guard-clause-gives c = search (rules, broken_append)
+
+pub returns-in_err-delay-clause-gives : goal.returns-in_err-delay-clause-gives
+unfolding transition_rules
+returns-in_err-delay-clause-gives c = search (rules, broken_append)
+
+pub returns-clause-gives : goal.returns-clause-gives
+unfolding transition_rules
+returns-clause-gives c = search (rules, broken_append)

@@ -1,0 +1,95 @@
+//! The arcs of a module.
+
+ghost use Rattle.std.specs.Prelude.{◌≡◌, ℕ, List, [], ◌∷◌, map, codes, IfOk};
+ghost use Rattle.serde_json.specs.View.{view};
+ghost use Rattle.cpn_document.specs.Parts.{items_at};
+ghost use Rattle.cpn_document.specs.Document.{at_arc as part_of_arc, each_arc, way_of as way_of_word, arc_in, arc_rules, arcs_rules};
+ghost use Rattle.cpn_document.specs.Views.{arc_view};
+ghost use Rattle.cpn_document.specs.Answers.{Gives};
+
+use crate::arc_counts::have_few_arcs;
+use crate::document::{Arc, Way};
+use crate::names::Names;
+use crate::parts::{
+    check_keys, check_limit, list_at_key, name_at_key, optional_text_at_key, word_at_key,
+};
+use crate::pointers::{ArcPart, ModulePart, Pointer};
+use crate::refusals::{DocError, Limit};
+use crate::texts::{copied, copied_or_none};
+use serde_json::Value;
+use std::alloc::Global;
+
+/// The way of a word.
+#[tactic(auto, unfolding(crate::specs::Document::way_of))]
+fn way_of(word: &str) -> Way
+    ensures exact { result ≡ way_of_word word.now }
+{
+    if word == "transition" {
+        Way::ToTransition
+    } else if word == "place" {
+        Way::ToPlace
+    } else {
+        Way::Both
+    }
+}
+
+/// A part of an arc, by the numbers of its module and the arc.
+fn at_arc(in_module: usize, number: usize, part: ArcPart) -> Pointer
+    ensures exact { result ≡ part_of_arc in_module number part }
+{
+    Pointer::Module(in_module, ModulePart::Arc(number, part))
+}
+
+/// The arc of a number.
+fn arc_of(alloc: Global, in_module: usize, number: usize, value: &Value) -> Result<Arc, DocError>
+    ensures gives { Gives arc_view result (arc_in (view value.now)) (arc_rules in_module number (view value.now)) }
+{
+    let whole = at_arc(in_module, number, ArcPart::Whole);
+    check_keys(value, &["place", "transition", "to", "expr"], whole)?;
+    let at_place = at_arc(in_module, number, ArcPart::Place);
+    let place = name_at_key(value, "place", whole, at_place)?;
+    let at_transition = at_arc(in_module, number, ArcPart::Transition);
+    let transition = name_at_key(value, "transition", whole, at_transition)?;
+    let at_way = at_arc(in_module, number, ArcPart::To);
+    let way = word_at_key(value, &["transition", "place", "both"], "to", whole, at_way)?;
+    let at_expr = at_arc(in_module, number, ArcPart::Expr);
+    let expr = optional_text_at_key(value, "expr", whole, at_expr)?;
+    Ok(Arc {
+        place: copied(alloc, place)?,
+        transition: copied(alloc, transition)?,
+        way: way_of(way),
+        expr: copied_or_none(alloc, expr)?,
+    })
+}
+
+/// The arcs of a list, in order.
+#[tactic(auto, unfolding(crate::specs::Document::each_arc))]
+fn arcs_of(alloc: Global, in_module: usize, list: &[Value]) -> Result<Vec<Arc>, DocError>
+    ensures gives { Gives (λ arcs. map arc_view arcs.items) result (map arc_in (map view list.now)) (each_arc in_module (map view list.now)) }
+{
+    let mut arcs = Vec::with_capacity(alloc, list.len())?;
+    for (number, value) in list.iter().enumerate() {
+        arcs.push(arc_of(alloc, in_module, number, value)?)?;
+    }
+    Ok(arcs)
+}
+
+/// The arcs of a module, not too many at any of the transitions of these names.
+pub(crate) fn arcs_in(
+    alloc: Global,
+    in_module: usize,
+    transitions: &Names,
+    value: &Value,
+) -> Result<Vec<Arc>, DocError>
+    ensures gives { Gives (λ arcs. map arc_view arcs.items) result (map arc_in (items_at (codes "arcs") (view value.now))) (arcs_rules in_module transitions.now (view value.now)) }
+{
+    let whole = Pointer::Module(in_module, ModulePart::Whole);
+    let here = Pointer::Module(in_module, ModulePart::Arcs);
+    let list = list_at_key(value, "arcs", whole, here)?;
+    let arcs = arcs_of(alloc, in_module, list)?;
+    check_limit(
+        have_few_arcs(alloc, transitions, arcs.as_slice())?,
+        Limit::Arcs,
+    )?;
+    Ok(arcs)
+}

@@ -1,0 +1,135 @@
+//! The substitution transitions of a module.
+
+ghost use Rattle.std.specs.Prelude.{◌≡◌, [], ◌∷◌, ◌++◌, map, codes, OnOk};
+ghost use Rattle.serde_json.specs.View.{view};
+ghost use Rattle.cpn_document.specs.Parts.{text_at, items_at};
+ghost use Rattle.cpn_document.specs.Document.{at_sub as part_of_sub, each_assignment, each_sub, assignment_in, assignment_rules, sub_in, sub_rules, subs_rules};
+ghost use Rattle.cpn_document.specs.Views.{assignment_view, sub_view};
+ghost use Rattle.cpn_document.specs.Answers.{Gives};
+
+use crate::document::{Assignment, Sub};
+use crate::names::{Names, new_name_at_key};
+use crate::parts::{check_keys, list_at_key, name_at_key, optional_list_at_key};
+use crate::pointers::{AssignmentPart, ModulePart, Pointer, SubPart};
+use crate::refusals::DocError;
+use crate::texts::copied;
+use serde_json::Value;
+use std::alloc::Global;
+
+/// A part of a substitution transition, by the numbers of its module and its own.
+fn at_sub(in_module: usize, number: usize, part: SubPart) -> Pointer
+    ensures exact { result ≡ part_of_sub in_module number part }
+{
+    Pointer::Module(in_module, ModulePart::Sub(number, part))
+}
+
+/// The assignment of a number.
+fn assignment_of(
+    alloc: Global,
+    in_module: usize,
+    in_sub: usize,
+    number: usize,
+    value: &Value,
+) -> Result<Assignment, DocError>
+    ensures gives { Gives assignment_view result (assignment_in (view value.now)) (assignment_rules in_module in_sub number (view value.now)) }
+{
+    let whole = at_sub(
+        in_module,
+        in_sub,
+        SubPart::Assignment(number, AssignmentPart::Whole),
+    );
+    check_keys(value, &["port", "socket"], whole)?;
+    let at_port = at_sub(
+        in_module,
+        in_sub,
+        SubPart::Assignment(number, AssignmentPart::Port),
+    );
+    let port = name_at_key(value, "port", whole, at_port)?;
+    let at_socket = at_sub(
+        in_module,
+        in_sub,
+        SubPart::Assignment(number, AssignmentPart::Socket),
+    );
+    let socket = name_at_key(value, "socket", whole, at_socket)?;
+    Ok(Assignment {
+        port: copied(alloc, port)?,
+        socket: copied(alloc, socket)?,
+    })
+}
+
+/// The assignments of a list, in order.
+#[tactic(auto, unfolding(crate::specs::Document::each_assignment))]
+fn assignments_of(
+    alloc: Global,
+    in_module: usize,
+    in_sub: usize,
+    list: &[Value],
+) -> Result<Vec<Assignment>, DocError>
+    ensures gives { Gives (λ assign. map assignment_view assign.items) result (map assignment_in (map view list.now)) (each_assignment in_module in_sub (map view list.now)) }
+{
+    let mut assign = Vec::with_capacity(alloc, list.len())?;
+    for (number, value) in list.iter().enumerate() {
+        assign.push(assignment_of(alloc, in_module, in_sub, number, value)?)?;
+    }
+    Ok(assign)
+}
+
+/// The substitution transition of a number.
+fn sub_of<'v>(
+    alloc: Global,
+    in_module: usize,
+    number: usize,
+    names: &mut Names<'v>,
+    value: &'v Value,
+) -> Result<Sub, DocError>
+    ensures gives { Gives sub_view result (sub_in (view value.now)) (sub_rules in_module number names.old (view value.now)) }
+    ensures names { OnOk result (names.new ≡ names.old ++ text_at (codes "name") (view value.now) ∷ []) }
+{
+    let whole = at_sub(in_module, number, SubPart::Whole);
+    check_keys(value, &["name", "module", "assign"], whole)?;
+    let at_name = at_sub(in_module, number, SubPart::Name);
+    let name = new_name_at_key(value, names, "name", whole, at_name)?;
+    let at_module = at_sub(in_module, number, SubPart::Module);
+    let submodule = name_at_key(value, "module", whole, at_module)?;
+    let at_assign = at_sub(in_module, number, SubPart::Assign);
+    let list = list_at_key(value, "assign", whole, at_assign)?;
+    let assign = assignments_of(alloc, in_module, number, list)?;
+    Ok(Sub {
+        name: copied(alloc, name)?,
+        submodule: copied(alloc, submodule)?,
+        assign,
+    })
+}
+
+/// The substitution transitions of a list, in order.
+#[tactic(auto, unfolding(crate::specs::Document::each_sub))]
+fn subs_of<'v>(
+    alloc: Global,
+    in_module: usize,
+    names: &mut Names<'v>,
+    list: &'v [Value],
+) -> Result<Vec<Sub>, DocError>
+    ensures gives { Gives (λ subs. map sub_view subs.items) result (map sub_in (map view list.now)) (each_sub in_module names.old (map view list.now)) }
+{
+    let mut subs = Vec::with_capacity(alloc, list.len())?;
+    for (number, value) in list.iter().enumerate() {
+        subs.push(sub_of(alloc, in_module, number, names, value)?)?;
+    }
+    Ok(subs)
+}
+
+/// The substitution transitions of a module. Their names are added to those of its transitions.
+pub(crate) fn subs_in<'v>(
+    alloc: Global,
+    in_module: usize,
+    names: &mut Names<'v>,
+    value: &'v Value,
+) -> Result<Vec<Sub>, DocError>
+    ensures gives { Gives (λ subs. map sub_view subs.items) result (map sub_in (items_at (codes "subs") (view value.now))) (subs_rules in_module names.old (view value.now)) }
+{
+    let whole = Pointer::Module(in_module, ModulePart::Whole);
+    let here = Pointer::Module(in_module, ModulePart::Subs);
+    let list = optional_list_at_key(value, "subs", whole, here)?;
+    let subs = subs_of(alloc, in_module, names, list)?;
+    Ok(subs)
+}
