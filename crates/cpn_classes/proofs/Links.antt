@@ -6,7 +6,7 @@ use Rattle.std.proofs.lemmas.List.{get_or_default}
 use Rattle.std.proofs.lemmas.List.FromFn.{length-enumerate_from, get_or-enumerate_from, get_or-range_with_len, length-range_with_len}
 use Rattle.cpn_classes.specs.Joined.{IsJoined, paired, itself}
 use Rattle.cpn_classes.specs.Trees.{AreTrees, links, JoinTheSame}
-use Rattle.cpn_classes.proofs.JoinedPairs.{joined_by}
+use Rattle.cpn_classes.specs.JoinedPairs.{joined_by}
 
 module _ (parents : List ℕ) where
   -- an item and its parent are linked

@@ -4,7 +4,7 @@ use Rattle.std.proofs.lemmas.Bool.{cases_eq, cases_lt}
 use Rattle.std.proofs.lemmas.List.{get_or-set_same, get_or-set_other, get_or_read, length-set}
 use Rattle.cpn_classes.specs.Joined.{IsJoined, itself, turned, through}
 use Rattle.cpn_classes.specs.Trees.{AreTrees, links, JoinTheSame}
-use Rattle.cpn_classes.proofs.JoinedPairs.{joined_more, first_joined, joined_first_and_rest, same_through, same_itself}
+use Rattle.cpn_classes.specs.JoinedPairs.{joined_more, first_joined, joined_first_and_rest, same_through, same_itself}
 use Rattle.cpn_classes.proofs.Links.{to_parent, links_within}
 
 -- ---- one item gets another parent

@@ -4,7 +4,7 @@ use Rattle.std.proofs.lemmas.List.{get_or_append_left, get_or_push, length_push}
 use Rattle.cpn_classes.specs.Joined.{IsJoined, itself, turned, through}
 use Rattle.cpn_classes.specs.Numbering.{Numbering, number_of, first_of, IsInOrder, IsNumbering}
 use Rattle.cpn_classes.specs.Trees.{AreTrees, links, JoinTheSame}
-use Rattle.cpn_classes.proofs.JoinedPairs.{alike}
+use Rattle.cpn_classes.specs.JoinedPairs.{alike}
 use Rattle.cpn_classes.proofs.Links.{to_parent, linked}
 
 -- The first items are numbered: each has its parent's class, and is joined to the first member of its class.
@@ -140,13 +140,5 @@ all_numbered parents k n all is = record {
     λ same. through i _ j (is.to_first i i_in) (rw same (turned j _ (is.to_first j j_in))),
     alike (links parents) (number_of n) (λ a b h. let link = linked parents a b h in rw link.1 (is.of_parent a (rw (← all) link.0))) i j,
   );
-  in_order = is.in_order;
-}
-
--- a numbering by pairs is one by others that join the same
-pub numbering_by_same : (count : ℕ) (pairs others : List (ℕ × ℕ)) (n : Numbering) → JoinTheSame pairs others → IsNumbering count pairs n → IsNumbering count others n
-numbering_by_same count pairs others n same is = record {
-  each = is.each;
-  joined = λ i j i_in j_in. (λ e. (same i j).0 ((is.joined i j i_in j_in).0 e), λ h. (is.joined i j i_in j_in).1 ((same i j).1 h));
   in_order = is.in_order;
 }

@@ -3,7 +3,7 @@ use Rattle.std.proofs.Common.{◌≡◌, ℕ, zero, suc, ◌<◌, ◌≤◌, Lis
 use Rattle.cpn_classes.specs.Joined.{IsJoined, paired, itself, turned, through}
 use Rattle.cpn_classes.specs.Numbering.{Numbering, number_of, first_of, IsNumbering}
 use Rattle.cpn_classes.specs.OneNumbering.{numbering_same}
-use Rattle.cpn_classes.proofs.JoinedPairs.{alike}
+use Rattle.cpn_classes.specs.JoinedPairs.{alike}
 
 abbrev three_pairs : List (ℕ × ℕ)
 three_pairs = (0, 3) ∷ (3, 5) ∷ (1, 2) ∷ []

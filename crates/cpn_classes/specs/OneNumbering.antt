@@ -2,6 +2,7 @@
 use Rattle.std.proofs.Common.{◌≡◌, ℕ, zero, suc, ◌<◌, ◌≤◌, List, length, get_or, refl, sym, ap, ap₂, subst, ◌∙◌, inl, inr, arith}
 use Rattle.std.proofs.lemmas.Bool.{cases_order}
 use Rattle.std.proofs.lemmas.List.{ext_get_or}
+use Rattle.cpn_classes.specs.Trees.{JoinTheSame}
 use Rattle.cpn_classes.specs.Numbering.{Numbering, number_of, first_of, IsInOrder, IsNumbering}
 
 -- two classes with one first member are the same
@@ -103,3 +104,11 @@ numbering_same count pairs n m is is' = ap₂ (λ (numbers : List ℕ) (firsts :
             let other_class_in : number_of m i < length n.firsts = rw as_many (is'.in_order.in_class i (rw is'.each item)) in
             let first_of_other : first_of m (number_of m i) ≡ first_of n (number_of m i) = ap (λ (firsts : List ℕ). get_or firsts (number_of m i) 0) (sym firsts_same) in
             one_first n is.in_order (number_of n i) (number_of m i) (is.in_order.in_class i lt) other_class_in (same_first count pairs n m is is' i item ∙ first_of_other)
+
+-- a numbering by pairs is one by others that join the same
+pub numbering_by_same : (count : ℕ) (pairs others : List (ℕ × ℕ)) (n : Numbering) → JoinTheSame pairs others → IsNumbering count pairs n → IsNumbering count others n
+numbering_by_same count pairs others n same is = record {
+  each = is.each;
+  joined = λ i j i_in j_in. (λ e. (same i j).0 ((is.joined i j i_in j_in).0 e), λ h. (is.joined i j i_in j_in).1 ((same i j).1 h));
+  in_order = is.in_order;
+}

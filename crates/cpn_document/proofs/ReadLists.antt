@@ -6,7 +6,7 @@ use Rattle.serde_json.specs.Data.{Data}
 use Rattle.cpn_document.specs.Refusals.{FormRefusal}
 use Rattle.cpn_document.specs.Rules.{Rule, first_broken}
 use Rattle.cpn_document.specs.Parts.{text_at}
-use Rattle.cpn_document.specs.Document.{each_item, each_named, names_in}
+use Rattle.cpn_document.specs.Document.{each_named, names_in}
 use Rattle.cpn_document.specs.Answers.{Breaks}
 use Rattle.cpn_document.proofs.BrokenRules.{broken_later, breaks_here, none_broken}
 
@@ -31,21 +31,11 @@ module _ {V : Type 0} (seen : V → Data) (vs : List V) where
     named_more rules names more whole added kept h =
         rw (added, add-one i) (sym (broken_later (rules i names (seen v)) _ kept) ∙ (rw (front_item, add-one i) at h))
 
-    pub numbered_more : (rules : ℕ → Data → List Rule) (whole : Option FormRefusal) → first_broken (rules i (seen v)) ≡ None → first_broken (each_item rules i (map seen (drop i vs))) ≡ whole → first_broken (each_item rules (i + 1) (map seen (drop (i + 1) vs))) ≡ whole
-    unfolding each_item
-    numbered_more rules whole kept h =
-        rw (add-one i) (sym (broken_later (rules i (seen v)) _ kept) ∙ (rw (front_item, add-one i) at h))
-
     -- where one of them is broken, so is it in the whole
     pub named_broken : (rules : ℕ → List (List ℕ) → Data → List Rule) (names : List (List ℕ)) (whole : List Rule) (refusal : Option FormRefusal) → first_broken (each_named rules i names (map seen (drop i vs))) ≡ first_broken whole → Breaks refusal (rules i names (seen v)) → Breaks refusal whole
     unfolding each_named
     named_broken rules names whole refusal h broken =
         rw (← h, front_item) (breaks_here refusal (rules i names (seen v)) _ broken)
-
-    pub numbered_broken : (rules : ℕ → Data → List Rule) (whole : List Rule) (refusal : Option FormRefusal) → first_broken (each_item rules i (map seen (drop i vs))) ≡ first_broken whole → Breaks refusal (rules i (seen v)) → Breaks refusal whole
-    unfolding each_item
-    numbered_broken rules whole refusal h broken =
-        rw (← h, front_item) (breaks_here refusal (rules i (seen v)) _ broken)
 
   module _ (i : ℕ) (past : length vs ≤ i) where
     -- all of them were read
@@ -58,7 +48,3 @@ module _ {V : Type 0} (seen : V → Data) (vs : List V) where
     pub named_done : (rules : ℕ → List (List ℕ) → Data → List Rule) (names : List (List ℕ)) (whole : Option FormRefusal) → first_broken (each_named rules i names (map seen (drop i vs))) ≡ whole → whole ≡ None
     unfolding each_named
     named_done rules names whole h = sym h ∙ rw (drop_all i vs past) none_broken
-
-    pub numbered_done : (rules : ℕ → Data → List Rule) (whole : Option FormRefusal) → first_broken (each_item rules i (map seen (drop i vs))) ≡ whole → whole ≡ None
-    unfolding each_item
-    numbered_done rules whole h = sym h ∙ rw (drop_all i vs past) none_broken

@@ -6,7 +6,8 @@ use Rattle.cpn_document.specs.Refusals.{shape, bad_number, bad_name, version, no
 use Rattle.cpn_document.specs.Rules.{first_broken}
 use Rattle.cpn_document.specs.Texts.{is_name}
 use Rattle.cpn_document.specs.Parts.{text_in, text_at, items_at, optional_text_at, object_rules, text_in_rules, text_rules, name_rules, new_name_rules, word_rules, list_rules, where_there}
-use Rattle.cpn_document.specs.Document.{RawArc, each_item, each_named, limit_rules, port_of, place_rules, transition_rules, way_of, arc_rules, arcs_at, assignment_rules, each_assignment, sub_rules, each_place, places_rules, each_transition, transitions_rules, each_arc, arcs_rules, each_sub, subs_rules, module_rules, member_rules, each_member, fusion_rules, version_rules, each_declaration, declarations_rules, each_module, modules_rules, each_fusion, fusions_rules, unserved_rules, document_rules}
+use Rattle.cpn_document.specs.Document.{RawArc, each_named, limit_rules, port_of, place_rules, transition_rules, way_of, arc_rules, arcs_at, assignment_rules, each_assignment, sub_rules, each_place, places_rules, each_transition, transitions_rules, each_arc, arcs_rules, each_sub, subs_rules, module_rules, member_rules, each_member, fusion_rules, version_rules, each_declaration, declarations_rules, each_module, modules_rules, each_fusion, fusions_rules, unserved_rules, document_rules}
+use Rattle.cpn_readings.specs.Rules.{each_item}
 use Rattle.cpn_document.specs.Reading.{read, refused, document_of}
 use Rattle.cpn_document.specs.declared.pointers.Pointer.TheVariants as at
 use Rattle.cpn_document.specs.declared.pointers.ModulePart.TheVariants as of_module

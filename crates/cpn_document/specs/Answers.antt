@@ -1,6 +1,6 @@
 -- How a call answers for what has to keep rules.
 use Rattle.std.specs.Prelude.{◌≡◌, List, Option, Some, None, Result, Ok, Err}
-use Rattle.std.specs.Option.{option_or}
+pub use Rattle.cpn_readings.specs.Rules.{Breaks}
 use Rattle.cpn_document.specs.Refusals.{FormRefusal, not_json, shape, bad_number, bad_name, version, limit, not_yet}
 use Rattle.cpn_document.specs.Rules.{Rule, first_broken}
 use Rattle.cpn_document.specs.declared.refusals.Refused.{Refused}
@@ -27,10 +27,6 @@ refusal_of (errors.BadName place) = Some (bad_name place)
 refusal_of errors.Version = Some version
 refusal_of (errors.Limit kind) = Some (limit kind)
 refusal_of (errors.NotYet place) = Some (not_yet place)
-
--- where there is a refusal, it is that of the first of the rules that is broken
-abbrev pub Breaks : Option FormRefusal → List Rule → Type 0
-Breaks refusal rules = option_or refusal (first_broken rules) ≡ first_broken rules
 
 -- An answer is the value, as it is seen, where the rules are all kept; else the refusal of the first that is broken.
 abbrev pub Gives : {X Y : Type 0} → (X → Y) → Result X DocError → Y → List Rule → Type 0

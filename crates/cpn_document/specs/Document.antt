@@ -7,7 +7,7 @@ use Rattle.std.specs.Str.{bytes_eq}
 use Rattle.serde_json.specs.Data.{Data}
 use Rattle.serde_json.specs.Find.{get, as_number, as_u64, as_i64}
 use Rattle.cpn_document.specs.Refusals.{bad_number, version, limit, not_yet}
-use Rattle.cpn_document.specs.Rules.{Rule}
+use Rattle.cpn_document.specs.Rules.{Rule, each_item}
 use Rattle.cpn_document.specs.Parts.{text_in, text_at, items_at, optional_text_at, object_rules, text_in_rules, there_rule, text_rules, name_rules, new_name_rules, word_rules, list_rules, where_there}
 use Rattle.cpn_document.specs.declared.pointers.Pointer.{Pointer}
 use Rattle.cpn_document.specs.declared.pointers.Pointer.TheVariants as at
@@ -92,12 +92,7 @@ pub record RawDocument : Type 0 where
 
 -- ---- the items of lists
 
--- the rules of each item of a list, by its number from a number on
-unfoldable pub each_item : (ℕ → Data → List Rule) → ℕ → List Data → List Rule
-each_item rules i [] = []
-each_item rules i (d ∷ ds) = rules i d ++ each_item rules (suc i) ds
-
--- the same of items that have names, each by the names of those before it too
+-- the rules of each item of a list of things that have names, by its number from a number on and the names of those before it
 unfoldable pub each_named : (ℕ → List (List ℕ) → Data → List Rule) → ℕ → List (List ℕ) → List Data → List Rule
 each_named rules i earlier [] = []
 each_named rules i earlier (d ∷ ds) = rules i earlier d ++ each_named rules (suc i) (earlier ++ text_at (codes "name") d ∷ []) ds

@@ -1,21 +1,17 @@
 -- What a JSON value, and what bytes, are read as: a document, or the first refusal. Source: own choice.
-use Rattle.std.specs.Prelude.{ℕ, List, Option, Some, None}
+use Rattle.std.specs.Prelude.{ℕ, List, Option, None}
 use Rattle.cpn_readings.specs.Reading as readings
 pub use Rattle.cpn_readings.specs.Reading.{read, refused}
 use Rattle.serde_json.specs.Data.{Data}
 use Rattle.cpn_document.specs.Document.{RawDocument, document_in, document_rules}
 use Rattle.cpn_document.specs.Json.{IsJson, HasJson}
 use Rattle.cpn_document.specs.Refusals.{FormRefusal, not_json}
+use Rattle.cpn_readings.specs.Rules.{unless_broken}
 use Rattle.cpn_document.specs.Rules.{first_broken}
 
 -- A reading: a value, or such a refusal.
 abbrev pub Reading : Type 0 → Type 0
 Reading = readings.Reading FormRefusal
-
--- a value, where no rule is broken
-abbrev pub unless_broken : {A : Type 0} → A → Option FormRefusal → Reading A
-unless_broken x None = read x
-unless_broken x (Some refusal) = refused refusal
 
 -- a JSON value is read as the document that it is, where it keeps all the rules of documents; else the first that it breaks is
 -- the refusal

@@ -2,3 +2,5 @@ pub mod Readings
 pub mod ReadLists
 pub mod NumberedLists
 pub mod ItemByItem
+pub mod BrokenRules
+pub mod RelatedReadings

@@ -1,2 +1,4 @@
 pub mod Reading
 pub mod ItemByItem
+pub mod Rules
+pub mod Relations

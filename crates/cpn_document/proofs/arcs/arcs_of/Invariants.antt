@@ -2,7 +2,8 @@
 use Rattle.std.proofs.Common.{◌≡◌, ◌++◌, drop, map}
 use Rattle.serde_json.specs.View.{view}
 use Rattle.cpn_document.specs.Rules.{first_broken}
-use Rattle.cpn_document.specs.Document.{each_item, each_arc, arc_in, arc_rules}
+use Rattle.cpn_document.specs.Document.{each_arc, arc_in, arc_rules}
+use Rattle.cpn_readings.specs.Rules.{each_item}
 use Rattle.cpn_document.specs.Views.{arc_view}
 use Rattle.cpn_document.proofs.arcs.arcs_of.Given as goal
 

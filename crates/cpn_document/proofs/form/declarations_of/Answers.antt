@@ -4,22 +4,23 @@ use Rattle.std.proofs.lemmas.Result.{err_from_is_err_and}
 use Rattle.serde_json.specs.View.{view}
 use Rattle.cpn_document.specs.Parts.{text_in}
 use Rattle.cpn_document.specs.Answers.{refusal_of}
-use Rattle.cpn_document.proofs.ReadLists.{values_more, values_done, numbered_more, numbered_broken, numbered_done}
+use Rattle.cpn_document.proofs.ReadLists.{values_more, values_done}
+use Rattle.cpn_readings.proofs.BrokenRules.{item_kept, item_broken, items_kept}
 use Rattle.cpn_document.proofs.form.declarations_of.Goals as goal
 
 pub returns-in_err-text : goal.returns-in_err-text
 returns-in_err-text c = record {
   gives = (let p = err_from_is_err_and c.from_residual-in_err-text.result c.from_residual-in_err-text.ensures.1 in
-      rw p.1 (numbered_broken view c.args.list.now c.loop-number.number c.index-list-number.result c.loop-number-test.true c.index-list-number.is _ _ (refusal_of p.0) c.loop-number.invariant.rest (rw (p.2, c.in_err-text.ensures.finds) refl)));
+      rw p.1 (item_broken view c.args.list.now c.loop-number.number c.index-list-number.result c.loop-number-test.true c.index-list-number.is _ _ (refusal_of p.0) c.loop-number.invariant.rest (rw (p.2, c.in_err-text.ensures.finds) refl)));
 }
 
 pub loop-number-preserved : goal.loop-number-preserved
 loop-number-preserved c = record {
   values = rw c.in_ok-push.ensures.items (values_more view c.args.list.now c.loop-number.number c.index-list-number.result c.loop-number-test.true c.index-list-number.is text_in string_bytes c.loop-number.texts.items c.in_ok-copied.field-0 _ (c.in_ok-copied.ensures.text ∙ c.in_ok-text.ensures.finds.0) c.loop-number.invariant.values);
-  rest = numbered_more view c.args.list.now c.loop-number.number c.index-list-number.result c.loop-number-test.true c.index-list-number.is _ _ c.in_ok-text.ensures.finds.1 c.loop-number.invariant.rest;
+  rest = item_kept view c.args.list.now c.loop-number.number c.index-list-number.result c.loop-number-test.true c.index-list-number.is _ _ c.in_ok-text.ensures.finds.1 c.loop-number.invariant.rest;
 }
 
 pub returns : goal.returns
 returns c = record {
-  gives = (values_done view c.args.list.now c.loop-number.number (omega arith) text_in string_bytes c.loop-number.texts.items _ c.loop-number.invariant.values, numbered_done view c.args.list.now c.loop-number.number (omega arith) _ _ c.loop-number.invariant.rest);
+  gives = (values_done view c.args.list.now c.loop-number.number (omega arith) text_in string_bytes c.loop-number.texts.items _ c.loop-number.invariant.values, items_kept view c.args.list.now c.loop-number.number (omega arith) _ _ c.loop-number.invariant.rest);
 }

@@ -3,7 +3,8 @@ use Rattle.std.proofs.Common.{◌≡◌, ◌++◌, drop, map, string_bytes}
 use Rattle.serde_json.specs.View.{view}
 use Rattle.cpn_document.specs.Rules.{first_broken}
 use Rattle.cpn_document.specs.Parts.{text_in, text_in_rules}
-use Rattle.cpn_document.specs.Document.{each_item, each_declaration}
+use Rattle.cpn_document.specs.Document.{each_declaration}
+use Rattle.cpn_readings.specs.Rules.{each_item}
 use Rattle.cpn_document.specs.declared.pointers.Pointer.TheVariants as at
 use Rattle.cpn_document.proofs.form.declarations_of.Given as goal
 

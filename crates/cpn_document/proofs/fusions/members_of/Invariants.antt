@@ -2,7 +2,8 @@
 use Rattle.std.proofs.Common.{◌≡◌, ◌++◌, drop, map}
 use Rattle.serde_json.specs.View.{view}
 use Rattle.cpn_document.specs.Rules.{first_broken}
-use Rattle.cpn_document.specs.Document.{each_item, each_member, member_in, member_rules}
+use Rattle.cpn_document.specs.Document.{each_member, member_in, member_rules}
+use Rattle.cpn_readings.specs.Rules.{each_item}
 use Rattle.cpn_document.specs.Views.{member_view}
 use Rattle.cpn_document.proofs.fusions.members_of.Given as goal
 

@@ -2,7 +2,8 @@
 use Rattle.std.proofs.Common.{◌≡◌, ◌++◌, drop, map}
 use Rattle.serde_json.specs.View.{view}
 use Rattle.cpn_document.specs.Rules.{first_broken}
-use Rattle.cpn_document.specs.Document.{each_item, each_assignment, assignment_in, assignment_rules}
+use Rattle.cpn_document.specs.Document.{each_assignment, assignment_in, assignment_rules}
+use Rattle.cpn_readings.specs.Rules.{each_item}
 use Rattle.cpn_document.specs.Views.{assignment_view}
 use Rattle.cpn_document.proofs.subs.assignments_of.Given as goal
 

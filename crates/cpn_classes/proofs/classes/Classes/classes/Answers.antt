@@ -1,6 +1,6 @@
 -- There are no more classes than items.
 use Rattle.std.proofs.Common.{arith}
-use Rattle.cpn_classes.proofs.ClassCounts.{no_more_classes}
+use Rattle.cpn_classes.specs.ClassCounts.{no_more_classes}
 use Rattle.cpn_classes.proofs.classes.Classes.classes.Goals as goal
 
 pub overflow_cast-result : goal.overflow_cast-result

@@ -4,9 +4,9 @@ use Rattle.std.proofs.lemmas.List.{take_more, take_all}
 use Rattle.std.proofs.lemmas.List.FromFn.{length-range_with_len}
 use Rattle.std.proofs.lemmas.Result.{IfOk-weaker}
 use Rattle.cpn_classes.specs.Trees.{links, JoinTheSame}
-use Rattle.cpn_classes.proofs.JoinedPairs.{same_through, same_with_more}
+use Rattle.cpn_classes.specs.JoinedPairs.{same_through, same_with_more}
 use Rattle.cpn_classes.proofs.Links.{alone_joins}
-use Rattle.cpn_classes.proofs.NumberedTrees.{numbering_by_same}
+use Rattle.cpn_classes.specs.OneNumbering.{numbering_by_same}
 use Rattle.cpn_classes.specs.OneNumbering.{numbering_same}
 use Rattle.cpn_classes.proofs.classes.Classes.of.Goals as goal
 

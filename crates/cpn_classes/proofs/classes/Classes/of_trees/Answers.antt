@@ -2,7 +2,7 @@
 use Rattle.std.proofs.Common.{◌≡◌, ◌<◌, length, get_or, arith}
 use Rattle.std.proofs.lemmas.List.{get_or_read}
 use Rattle.cpn_classes.specs.Numbering.{Numbering}
-use Rattle.cpn_classes.proofs.ClassCounts.{no_more_classes}
+use Rattle.cpn_classes.specs.ClassCounts.{no_more_classes}
 use Rattle.cpn_classes.proofs.NumberedTrees.{root_numbered, member_numbered, all_numbered}
 use Rattle.cpn_classes.proofs.classes.Classes.of_trees.Goals as goal
 use Rattle.cpn_classes.proofs.classes.Classes.of_trees.Goals.{then-parent-item+in_ok-push+in_ok-push-2, else-parent-item+in_ok-push-3}

@@ -1,7 +1,7 @@
 -- Both items are joined to their roots, and these by the new parent.
 use Rattle.std.proofs.Common.{◌<◌, length, arith}
 use Rattle.cpn_classes.specs.Trees.{links}
-use Rattle.cpn_classes.proofs.JoinedPairs.{same_through}
+use Rattle.cpn_classes.specs.JoinedPairs.{same_through}
 use Rattle.cpn_classes.proofs.NewParents.{roots_joined}
 use Rattle.cpn_classes.proofs.trees.Trees.join.Goals as goal
 

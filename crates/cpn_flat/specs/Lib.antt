@@ -1,0 +1,14 @@
+pub mod Refusals
+pub mod Names
+pub mod FlatNet
+pub mod InitialMarking
+pub mod Flat
+pub mod Placed
+pub mod Items
+pub mod WrittenViews
+pub mod Answers
+pub mod Values
+pub mod Parts
+pub mod WellLoaded
+pub mod Views
+pub mod Agreeing

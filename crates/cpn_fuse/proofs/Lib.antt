@@ -1,0 +1,12 @@
+pub mod ComingFirst
+pub mod InstanceLaws
+pub mod SeenHierarchies
+pub mod WaitingParts
+pub mod PlaceCounts
+pub mod PlaceLaws
+pub mod Members
+pub mod JoinedPlaces
+pub mod FewerPairs
+pub mod LoopSteps
+pub mod SeenPlaces
+pub mod Rows

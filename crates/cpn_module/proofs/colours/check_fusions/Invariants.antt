@@ -1,0 +1,13 @@
+-- The rules of the fusion sets that are left decide.
+use Rattle.std.proofs.Common.{◌≡◌, drop, map}
+use Rattle.cpn_readings.specs.Rules.{first_broken, each_item}
+use Rattle.cpn_declared.specs.DeclsViews.{decls_view}
+use Rattle.cpn_document.specs.Views.{document_view}
+use Rattle.cpn_module.specs.ModuleRules.{fusion_colour_rules}
+use Rattle.cpn_module.specs.Views.{fusion_set_view}
+use Rattle.cpn_module.proofs.colours.check_fusions.Given as goal
+
+abbrev pub invariant-loop-number : goal.invariant-loop-number
+invariant-loop-number l = record {
+  rest : first_broken (each_item (fusion_colour_rules (decls_view l.decls) (document_view l.document)) l.number (map fusion_set_view (drop l.number l.fusions))) ≡ first_broken (each_item (fusion_colour_rules (decls_view l.decls) (document_view l.document)) 0 (map fusion_set_view l.fusions));
+}

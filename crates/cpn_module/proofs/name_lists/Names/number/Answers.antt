@@ -1,0 +1,9 @@
+-- The map has the number of each name that is there.
+use Rattle.std.proofs.Common.{rules}
+use Rattle.cpn_module.proofs.NameNumbers.{number_found}
+use Rattle.cpn_module.proofs.name_lists.Names.number.Goals as goal
+
+pub returns : goal.returns
+returns c = record {
+  number = rw (← c.self.view_is) (number_found c.args.name.now c.self.inside.names.items c.self.inside.numbers c.len.result c.unwrap_or.result c.self.invariant (search rules) (search rules));
+}

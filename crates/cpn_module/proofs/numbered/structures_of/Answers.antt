@@ -1,0 +1,9 @@
+-- The names at a position are those of the module there.
+use Rattle.std.proofs.Common.{arith}
+use Rattle.cpn_module.proofs.NamedHierarchy.{places_at}
+use Rattle.cpn_module.proofs.numbered.structures_of.Goals as goal
+
+pub structure_of-requires : goal.structure_of-requires
+structure_of-requires c = record {
+  places = rw c.index-places.ensures (places_at c.args.names.now.places.items c.args.modules.now c.loop-number.number c.index-modules-number.result _ (omega arith) c.index-modules-number.is c.requires.places);
+}

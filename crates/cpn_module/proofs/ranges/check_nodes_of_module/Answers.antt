@@ -1,0 +1,24 @@
+-- The rule of the next item is kept, or broken.
+use Rattle.std.proofs.Common.{arith, ap, ◌∙◌, sym}
+use Rattle.std.specs.Prelude.{Some}
+use Rattle.cpn_module.specs.Refusals.{unknown_transition}
+use Rattle.cpn_module.specs.NumberRules.{node_rule, node_rules}
+use Rattle.cpn_module.specs.Views.{ends_view, structure_view}
+use Rattle.cpn_document.specs.declared.document.Way.TheVariants as ways
+use Rattle.cpn_module.specs.declared.hierarchy.Node.TheVariants as nodes
+use Rattle.cpn_module.proofs.CheckedItems.{next_kept, next_broken, all_kept, broken_at, at_position}
+use Rattle.cpn_module.proofs.OneRule.{rule_kept}
+use Rattle.cpn_module.proofs.ranges.check_nodes_of_module.Goals as goal
+
+pub returns-then-not-is_there : goal.returns-then-not-is_there
+unfolding node_rules
+returns-then-not-is_there c = record {
+  checks = next_broken ends_view (node_rule (structure_view c.args.structure.now) c.args.in_module) c.args.structure.now.arcs.items c.deref-ends-items.result.now c.deref-ends-items.ensures.value c.loop-number.number _ c.loop-number-test.true (at_position c.deref-ends-items.result.now c.loop-number.number (record { place = 0; node = nodes.Transition 0; way = ways.ToTransition }) c.loop-number-test.true) (Some (unknown_transition c.at_arc-here.result)) c.loop-number.invariant (broken_at _ _ _ (sym c.is_there.ensures.tells ∙ c.if-not-is_there.true) (ap unknown_transition c.at_arc-here.ensures.exact));
+}
+
+pub loop-number-preserved : goal.loop-number-preserved
+loop-number-preserved c = next_kept ends_view (node_rule (structure_view c.args.structure.now) c.args.in_module) c.args.structure.now.arcs.items c.deref-ends-items.result.now c.deref-ends-items.ensures.value c.loop-number.number _ c.loop-number-test.true (at_position c.deref-ends-items.result.now c.loop-number.number (record { place = 0; node = nodes.Transition 0; way = ways.ToTransition }) c.loop-number-test.true) c.loop-number.invariant (rule_kept _ _ (sym c.is_there.ensures.tells ∙ c.if-not-is_there.false))
+
+pub returns : goal.returns
+unfolding node_rules
+returns c = record { checks = all_kept ends_view (node_rule (structure_view c.args.structure.now) c.args.in_module) c.args.structure.now.arcs.items c.deref-ends-items.result.now c.deref-ends-items.ensures.value c.loop-number.number (omega arith) c.loop-number.invariant }

@@ -1,0 +1,15 @@
+pub mod Refusals
+pub mod Hierarchy
+pub mod Submodules
+pub mod Named
+pub mod Names
+pub mod Colours
+pub mod ModuleRules
+pub mod NumberRules
+pub mod Checked
+pub mod Ranges
+pub mod Views
+pub mod Answers
+pub mod Pairs
+pub mod OneHierarchy
+pub mod SameColours

@@ -1,0 +1,271 @@
+//! Colour sets that agree: of sockets and ports, and of the members of fusion sets.
+
+ghost use Rattle.std.specs.Prelude.{◌≡◌, ◌↔◌, IsTrue, map, option_map};
+ghost use Rattle.cpn_readings.specs.Rules.{each_item};
+ghost use Rattle.cpn_core.specs.Colours.{shape_view, shapes_view, constructors_view, colour_view};
+ghost use Rattle.cpn_declared.specs.DeclsViews.{decls_view};
+ghost use Rattle.cpn_document.specs.Views.{document_view};
+ghost use Rattle.cpn_module.specs.Answers.{Checks};
+ghost use Rattle.cpn_module.specs.ModuleRules.{colour_rules, sub_colour_rules, structure_colour_rules, fusion_colour_rules, colour_name as colour_of, agrees_with_first as agrees_with_the_first};
+ghost use Rattle.cpn_module.specs.Views.{substitution_view, structure_view, fused_view, fusion_set_view, hierarchy_view};
+ghost use Rattle.cpn_module.specs.Colours.{same_shape as one_shape, same_shapes as one_by_one, same_argument as one_argument, same_constructors as one_union, same_colour as one_colour, colours_agree as names_agree};
+
+use crate::hierarchy::{FusedPlace, FusionSet, Hierarchy, Structure, Substitution};
+use crate::pointing::{at_assignment, at_member};
+use crate::refusals::ModuleError;
+use cpn_core::{Colour, Shape};
+use cpn_declared::Decls;
+use cpn_document::{AssignmentPart, Document, MemberPart};
+
+/// Whether shapes are equal.
+#[cycle(same)]
+#[tactic(auto, using(crate::proofs::ShapeLevels::view_list, crate::proofs::ShapeLevels::view_union))]
+fn same_shape(one: &Shape, other: &Shape) -> bool
+    ensures exact { result ≡ one_shape (shape_view one.now) (shape_view other.now) }
+{
+    match one {
+        Shape::Unit => match other {
+            Shape::Unit => true,
+            _ => false,
+        },
+        Shape::Bool => match other {
+            Shape::Bool => true,
+            _ => false,
+        },
+        Shape::Int { low, high } => match other {
+            Shape::Int {
+                low: other_low,
+                high: other_high,
+            } => *low == *other_low && *high == *other_high,
+            _ => false,
+        },
+        Shape::Text => match other {
+            Shape::Text => true,
+            _ => false,
+        },
+        Shape::Enum(number, count) => match other {
+            Shape::Enum(other_number, other_count) => {
+                *number == *other_number && *count == *other_count
+            }
+            _ => false,
+        },
+        Shape::Tuple(shapes) => match other {
+            Shape::Tuple(others) => same_shapes(shapes, others),
+            _ => false,
+        },
+        Shape::Union(number, constructors) => match other {
+            Shape::Union(other_number, others) => {
+                *number == *other_number && same_constructors(constructors, others)
+            }
+            _ => false,
+        },
+        Shape::List(item) => match other {
+            Shape::List(other_item) => same_shape(item, other_item),
+            _ => false,
+        },
+    }
+}
+
+// Whether the shapes are equal, one for one, and as many.
+#[cycle(same)]
+#[tactic(auto, using(crate::proofs::ShapeLists::shapes_more, crate::proofs::ShapeLists::shapes_end))]
+fn same_shapes(ones: &Vec<Shape>, others: &Vec<Shape>) -> bool
+    ensures exact { result ≡ one_by_one (shapes_view ones.now.items) (shapes_view others.now.items) }
+{
+    let shorter = ones.len().min(others.len());
+    for i in 0..shorter {
+        if !same_shape(&ones[i], &others[i]) {
+            return false;
+        }
+    }
+    ones.len() == others.len()
+}
+
+// Whether the constructors are equal, one for one, and as many.
+#[cycle(same)]
+#[tactic(auto, using(crate::proofs::ShapeLists::constructors_more, crate::proofs::ShapeLists::constructors_end))]
+fn same_constructors(ones: &Vec<Option<Shape>>, others: &Vec<Option<Shape>>) -> bool
+    ensures exact { result ≡ one_union (constructors_view ones.now.items) (constructors_view others.now.items) }
+{
+    let shorter = ones.len().min(others.len());
+    for i in 0..shorter {
+        if !same_argument(&ones[i], &others[i]) {
+            return false;
+        }
+    }
+    ones.len() == others.len()
+}
+
+// Whether the arguments are equal, where there is one.
+#[cycle(same)]
+fn same_argument(one: &Option<Shape>, other: &Option<Shape>) -> bool
+    ensures exact { result ≡ one_argument (option_map shape_view one.now) (option_map shape_view other.now) }
+{
+    match one {
+        None => match other {
+            None => true,
+            Some(_) => false,
+        },
+        Some(shape) => match other {
+            None => false,
+            Some(other_shape) => same_shape(shape, other_shape),
+        },
+    }
+}
+
+/// Whether colour sets are equal.
+pub(crate) fn same_colour(one: &Colour, other: &Colour) -> bool
+    ensures exact { result ≡ one_colour (colour_view one.now) (colour_view other.now) }
+    ensures equal { IsTrue result ↔ (colour_view one.now ≡ colour_view other.now) }
+{
+    same_shape(&one.shape, &other.shape) && one.timed == other.timed
+}
+
+/// Whether the colour sets of two names agree.
+fn colours_agree(decls: &Decls, name: &str, other: &str) -> bool
+    ensures exact { result ≡ names_agree (decls_view decls.now) name.now other.now }
+{
+    if name == other {
+        return true;
+    }
+    match decls.colour(name) {
+        None => false,
+        Some(colour) => match decls.colour(other) {
+            None => false,
+            Some(other_colour) => same_colour(colour, other_colour),
+        },
+    }
+}
+
+/// The name of the colour set of a place of a module, by their numbers.
+fn colour_name(document: &Document, of_module: usize, place: usize) -> &str
+    ensures exact { result.now ≡ colour_of (document_view document.now) of_module place }
+{
+    match document.modules.get(of_module) {
+        None => "",
+        Some(found) => match found.places.get(place) {
+            None => "",
+            Some(there) => there.colour.as_str(),
+        },
+    }
+}
+
+/// Checks a substitution transition, by the numbers of its module and its own.
+fn check_substitution(
+    document: &Document,
+    decls: &Decls,
+    in_module: usize,
+    in_sub: usize,
+    substitution: &Substitution,
+) -> Result<(), ModuleError>
+    ensures checks { Checks result (sub_colour_rules (decls_view decls.now) (document_view document.now) in_module in_sub (substitution_view substitution.now)) }
+{
+    let assignments = substitution.assignments.as_slice();
+    for (number, assigned) in assignments.iter().enumerate() {
+        let socket = colour_name(document, in_module, assigned.socket);
+        let port = colour_name(document, substitution.submodule, assigned.port);
+        if !colours_agree(decls, socket, port) {
+            let here = at_assignment(in_module, in_sub, number, AssignmentPart::Whole);
+            return Err(ModuleError::ColourDiffers(here));
+        }
+    }
+    Ok(())
+}
+
+/// Checks a module, by its number.
+fn check_structure(
+    document: &Document,
+    decls: &Decls,
+    in_module: usize,
+    structure: &Structure,
+) -> Result<(), ModuleError>
+    ensures checks { Checks result (structure_colour_rules (decls_view decls.now) (document_view document.now) in_module (structure_view structure.now)) }
+{
+    let substitutions = structure.substitutions.as_slice();
+    for (number, substitution) in substitutions.iter().enumerate() {
+        check_substitution(document, decls, in_module, number, substitution)?;
+    }
+    Ok(())
+}
+
+/// Checks the modules.
+fn check_structures(
+    document: &Document,
+    decls: &Decls,
+    hierarchy: &Hierarchy,
+) -> Result<(), ModuleError>
+    ensures checks { Checks result (each_item (structure_colour_rules (decls_view decls.now) (document_view document.now)) 0 (hierarchy_view hierarchy.now).modules) }
+{
+    let modules = hierarchy.modules.as_slice();
+    for (number, structure) in modules.iter().enumerate() {
+        check_structure(document, decls, number, structure)?;
+    }
+    Ok(())
+}
+
+/// Whether the colour set of a place agrees with that of the first of these members.
+fn agrees_with_first(
+    document: &Document,
+    decls: &Decls,
+    member: FusedPlace,
+    members: &[FusedPlace],
+) -> bool
+    ensures exact { result ≡ agrees_with_the_first (decls_view decls.now) (document_view document.now) (fused_view member) (map fused_view members.now) }
+{
+    match members.first() {
+        None => true,
+        Some(first) => {
+            let name = colour_name(document, first.of_module, first.place);
+            let other = colour_name(document, member.of_module, member.place);
+            colours_agree(decls, name, other)
+        }
+    }
+}
+
+/// Checks a fusion set, by its number.
+fn check_fusion(
+    document: &Document,
+    decls: &Decls,
+    in_fusion: usize,
+    fusion: &FusionSet,
+) -> Result<(), ModuleError>
+    ensures checks { Checks result (fusion_colour_rules (decls_view decls.now) (document_view document.now) in_fusion (fusion_set_view fusion.now)) }
+{
+    let members = fusion.members.as_slice();
+    for (number, member) in members.iter().enumerate() {
+        if !agrees_with_first(document, decls, *member, members) {
+            let here = at_member(in_fusion, number, MemberPart::Whole);
+            return Err(ModuleError::ColourDiffers(here));
+        }
+    }
+    Ok(())
+}
+
+/// Checks the fusion sets.
+fn check_fusions(
+    document: &Document,
+    decls: &Decls,
+    hierarchy: &Hierarchy,
+) -> Result<(), ModuleError>
+    ensures checks { Checks result (each_item (fusion_colour_rules (decls_view decls.now) (document_view document.now)) 0 (hierarchy_view hierarchy.now).fusions) }
+{
+    let fusions = hierarchy.fusions.as_slice();
+    for (number, fusion) in fusions.iter().enumerate() {
+        check_fusion(document, decls, number, fusion)?;
+    }
+    Ok(())
+}
+
+/// Checks that the colour sets of sockets agree with those of their ports, and those of the members of a fusion set with that of
+/// the first.
+#[tactic(auto, using(cpn_readings::proofs::BrokenRules::in_order), unfolding(crate::specs::ModuleRules::colour_rules))]
+pub(crate) fn check_colours(
+    document: &Document,
+    decls: &Decls,
+    hierarchy: &Hierarchy,
+) -> Result<(), ModuleError>
+    ensures checks { Checks result (colour_rules (decls_view decls.now) (document_view document.now) (hierarchy_view hierarchy.now)) }
+{
+    check_structures(document, decls, hierarchy)?;
+    check_fusions(document, decls, hierarchy)
+}

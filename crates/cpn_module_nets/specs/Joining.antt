@@ -1,0 +1,8 @@
+-- A transition to which an arc of the document is joined.
+use Rattle.std.specs.Prelude.{[], ◌++◌}
+use Rattle.cpn_definitions.specs.Net.{PlainTransition}
+use Rattle.cpn_module_nets.specs.Accepted.{Sides, with_first}
+
+abbrev pub joined_with : PlainTransition → Sides → PlainTransition
+joined_with t arc =
+    record { name = t.name; guard = t.guard; delay = t.delay; inputs = t.inputs ++ with_first arc.input []; outputs = t.outputs ++ with_first arc.output []; vars = t.vars }

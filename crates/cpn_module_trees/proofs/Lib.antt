@@ -1,0 +1,2 @@
+pub mod Parsings
+pub mod NextTrees

@@ -1,0 +1,4 @@
+pub mod Parsing
+pub mod Trees
+pub mod ParsingViews
+pub mod TreesViews
