@@ -1,31 +1,22 @@
--- What the bytes of a document are read as.
+-- What the bytes of a document are read as. Source: own choice.
 use Rattle.std.specs.Prelude.{◌≡◌, ℕ, List}
-use Rattle.cpn_readings.specs.Reading.{refused_as}
+use Rattle.cpn_readings.specs.Reading.{check}
+use Rattle.cpn_readings.specs.Relations.{just, ◌>>=◌, refused_by}
 use Rattle.cpn_document.specs.Document.{RawDocument}
 use Rattle.cpn_document.specs.Reading as form
 use Rattle.cpn_document.specs.Reading.{IsDocument}
-use Rattle.cpn_one_module.specs.Document.{one_module_in}
-use Rattle.cpn_file.specs.Reading.{Reading, refused, of_form}
-use Rattle.cpn_file.specs.Relations.{just, such_that, ◌>>=◌}
-use Rattle.cpn_parsing.specs.Trees.{AreTrees}
-use Rattle.cpn_file.specs.Accepted.{Accepted, accepted_in}
-use Rattle.cpn_file.specs.Loading.{PlainLoaded, IsItsNet, AreBindable, loaded_from}
+use Rattle.cpn_module_nets.specs.Documents.{accepted_in}
+use Rattle.cpn_flat.specs.Flat.{PlainLoaded, flat_in}
+use Rattle.cpn_file.specs.Reading.{Reading, refused, of_form, of_net, of_flat, not_served}
+use Rattle.cpn_file.specs.Served.{is_served}
 
--- What the net of what is accepted is read as: first the variables of its transitions, then what is served.
-unfoldable pub loaded_by : Accepted → Reading PlainLoaded → Type 0
-loaded_by accepted = do
-  net ← such_that (IsItsNet accepted)
-  bindable ← AreBindable net 0 net.transitions
-  just (loaded_from net accepted.initials)
-
--- What a document is read as: it has to be of one module; then its texts are parsed as trees and checked in their order; then its
--- net is made.
+-- What a document is read as: its declarations, modules and texts are accepted in their order; then its flat net is made, with the
+-- initial marking.
 unfoldable pub loaded_in : RawDocument → Reading PlainLoaded → Type 0
-loaded_in document = do
-  single ← just (refused_as of_form (one_module_in document))
-  trees ← such_that (AreTrees single)
-  accepted ← just (accepted_in trees)
-  loaded_by accepted
+loaded_in d = do
+  accepted ← refused_by of_net (accepted_in d)
+  served ← just (check (is_served accepted.declared) not_served)
+  refused_by of_flat (flat_in d accepted)
 
 -- what a document is read as, or the refusal of its form
 abbrev pub IsReadingOf : form.Reading RawDocument → Reading PlainLoaded → Type 0

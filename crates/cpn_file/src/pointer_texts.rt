@@ -1,7 +1,7 @@
 //! Places in a document as JSON pointers.
 
 ghost use Rattle.std.specs.Prelude.{◌≡◌, IfOk, string_bytes};
-ghost use Rattle.cpn_file.specs.Refusals.{place_text as text_of_place, transition_text as text_of_transition, arc_text as text_of_arc, assignment_text as text_of_assignment, member_text as text_of_member, item_text as text_of_item, sub_text as text_of_sub, module_text as text_of_module, fusion_text as text_of_fusion, pointer_text as text_of_pointer};
+ghost use Rattle.cpn_file.specs.PointerTexts.{place_text as text_of_place, transition_text as text_of_transition, arc_text as text_of_arc, assignment_text as text_of_assignment, member_text as text_of_member, item_text as text_of_item, sub_text as text_of_sub, module_text as text_of_module, fusion_text as text_of_fusion, pointer_text as text_of_pointer};
 
 use cpn_core::Memory;
 use cpn_document::{

@@ -1,44 +1,63 @@
 //! From the bytes of a document to its net.
 
 ghost use Rattle.std.specs.Prelude.{◌≡◌, ℕ, List, IfOk, IfErr, IfSome};
+ghost use Rattle.cpn_declared.specs.DeclsViews.{decls_view};
+ghost use Rattle.cpn_document.specs.FewArcs.{HaveFewArcs};
 ghost use Rattle.cpn_document.specs.Views.{document_view};
+ghost use Rattle.cpn_flat.specs.Flat.{PlainLoaded};
+ghost use Rattle.cpn_flat.specs.Views.{loaded_view};
+ghost use Rattle.cpn_flat.specs.WellLoaded.{IsWellLoaded};
 ghost use Rattle.cpn_file.specs.Reading.{Reading, read, refused};
-ghost use Rattle.cpn_file.specs.Loading.{PlainLoaded};
-ghost use Rattle.cpn_file.specs.Loads.{loaded_view};
 ghost use Rattle.cpn_file.specs.Reads.{loaded_in, IsReadAs};
-ghost use Rattle.cpn_file.specs.WellLoaded.{IsWellLoaded};
+ghost use Rattle.cpn_file.specs.Served.{is_served as served};
 ghost use Rattle.cpn_file.specs.Answers.{Loads, LoadsBy, load_refusal_of};
 
-use crate::loading::{Loaded, accepted_of, loaded_from_accepted};
 use crate::refusals::LoadError;
-use cpn_document::{Document, read_document};
-use cpn_one_module::one_module_of;
-use cpn_parsing::document_trees;
+use cpn_document::{DocError, Document, Pointer, read_document};
+use cpn_flat::{Loaded, flatten, one_flat_net};
+use cpn_module_nets::{accept, one_acceptance};
+use cpn_types::Decls;
 use std::alloc::Global;
 
-/// That the document is of one module; then its texts, parsed and checked; then its net.
+/// How many numbers of 32 bits there are.
+const NUMBERS: usize = 4_294_967_296;
+
+/// Whether each variable has a number of 32 bits.
+#[tactic(auto, unfolding(crate::specs::Served::is_served))]
+fn is_served(decls: &Decls) -> bool
+    ensures exact { result ≡ served (decls_view decls.now) }
+{
+    decls.counts().variables < NUMBERS
+}
+
+/// What a document is read as: what is accepted of it, then its flat net.
+#[tactic(auto, unfolding(crate::specs::Served::is_served))]
 fn loaded_of(alloc: Global, document: &Document) -> Result<Loaded, LoadError>
+    requires few_arcs { HaveFewArcs (document_view document.now) }
     ensures reads { LoadsBy loaded_view result (loaded_in (document_view document.now)) }
     ensures well_loaded { IfOk result (λ loaded. IsWellLoaded (loaded_view loaded)) }
 {
-    let single = one_module_of(alloc, document)?;
-    let trees = document_trees(alloc, &single)?;
-    let accepted = accepted_of(alloc, &trees)?;
-    loaded_from_accepted(alloc, accepted)
+    let accepted = accept(alloc, document)?;
+    if !is_served(&accepted.decls) {
+        return Err(LoadError::Document(DocError::NotYet(Pointer::Root)));
+    }
+    let loaded = flatten(alloc, document, accepted)?;
+    Ok(loaded)
 }
 
-/// Reads a net document: its net and its initial marking.
+/// Reads a net document: its flat net and its initial marking.
 ///
-/// The document is one JSON value, at most 127 levels deep, in version 1. Its form is read first, whole. It has to be of one
-/// module. Its texts are checked in this order, and the first refusal counts: the declarations; the colour set of each place; the
-/// initial marking of each place; the guard and the delay of each transition in turn; the inscription of each arc; the variables
-/// of each transition.
+/// The document is one JSON value, at most 127 levels deep, in version 1. It is read in this order, and the first refusal counts: its
+/// form, whole; the declarations, one after another; the colour set of each place; how the modules are put together; then, module
+/// after module, the initial marking of each place, the guard and the delay of each transition in turn, the inscription of each arc,
+/// and the variables of each transition; then the flat net: how many instances there are, and the initial markings.
 ///
 /// # Errors
 ///
 /// - [`LoadError::Document`]: the bytes are no document, or one that is not served yet.
 /// - [`LoadError::Inscription`]: a text, or the variables of a transition, are not accepted.
-/// - [`LoadError::Init`]: an initial marking has a fault.
+/// - [`LoadError::Module`]: the modules make no hierarchy.
+/// - [`LoadError::Flat`]: there are too many instances, or an initial marking has a fault or differs from another.
 /// - [`LoadError::Memory`]: memory ran out.
 pub fn load(alloc: Global, bytes: &[u8]) -> Result<Loaded, LoadError>
     ensures reads { IfOk result (λ loaded. IsReadAs bytes.now (read (loaded_view loaded))) }
@@ -49,6 +68,8 @@ pub fn load(alloc: Global, bytes: &[u8]) -> Result<Loaded, LoadError>
     // Whatever the bytes are read as is answered, but for want of memory.
     ensures complete { (reading : Reading PlainLoaded) → IsReadAs bytes.now reading → Loads loaded_view result reading }
 {
+    one_acceptance();
+    one_flat_net();
     let document = read_document(alloc, bytes)?;
     let loaded = loaded_of(alloc, &document)?;
     Ok(loaded)

@@ -1,17 +1,18 @@
 //! Why a document is not read.
 
-ghost use Rattle.std.specs.Prelude.{◌≡◌, Some};
-ghost use Rattle.std.specs.Prelude.{option_map, not, is_some};
-ghost use Rattle.cpn_declared.specs.Answers.{refusal_of as type_refusal_of};
+ghost use Rattle.std.specs.Prelude.{◌≡◌, option_map, not, is_some};
 ghost use Rattle.cpn_document.specs.Answers.{refusal_of};
-ghost use Rattle.cpn_file.specs.Reading.{inscription, no_tree, typing, of_form};
-ghost use Rattle.cpn_parsing.specs.ParsingViews.{unparsed_view};
+ghost use Rattle.cpn_module_nets.specs.Answers.{net_refusal_of};
+ghost use Rattle.cpn_flat.specs.Answers.{refusal_of as flat_refusal_of};
+ghost use Rattle.cpn_file.specs.Reading.{of_form, of_net, of_flat};
 ghost use Rattle.cpn_file.specs.Answers.{load_refusal_of};
 ghost use Rattle.cpn_file.specs.declared.refusals.LoadError.TheVariants.{Memory as WantsMemory};
 
-use cpn_core::{EvalFault, Memory};
+use cpn_core::Memory;
 use cpn_document::{DocError, Pointer};
-use cpn_parsing::Unparsed;
+use cpn_flat::FlatError;
+use cpn_module::ModuleError;
+use cpn_module_nets::NetError;
 use cpn_types::{InscriptionError, TypeError};
 use std::alloc::{AllocError, AllocFailed};
 use thiserror::Error;
@@ -28,9 +29,12 @@ pub enum LoadError {
     /// The text at this place, or the variables of the transition there, are not accepted.
     #[error("{1}")]
     Inscription(Pointer, InscriptionError),
-    /// The initial marking of the place of this name has a fault.
-    #[error("the initial marking of {0} has a fault")]
-    Init(String, EvalFault),
+    /// Its modules make no hierarchy.
+    #[error("{0}")]
+    Module(ModuleError),
+    /// It has no flat net with an initial marking.
+    #[error("{0}")]
+    Flat(FlatError),
 }
 
 impl LoadError {
@@ -39,56 +43,17 @@ impl LoadError {
         ensures tells { result ≡ not (is_some (load_refusal_of self.now)) }
     {
         match self {
-            LoadError::Memory => true,
-            LoadError::Document(error) => match error {
-                DocError::Memory => true,
-                DocError::NotJson => false,
-                DocError::Shape(_) => false,
-                DocError::BadNumber(_) => false,
-                DocError::BadName(_) => false,
-                DocError::Version => false,
-                DocError::Limit(_) => false,
-                DocError::NotYet(_) => false,
-            },
-            LoadError::Inscription(_, error) => match error {
-                InscriptionError::Memory => true,
-                InscriptionError::Lex(_) => false,
-                InscriptionError::Syntax(_) => false,
-                InscriptionError::Typing(error) => match error {
-                    TypeError::Memory => true,
-                    TypeError::Unknown(_) => false,
-                    TypeError::Duplicate(_) => false,
-                    TypeError::Mismatch { .. } => false,
-                    TypeError::NotClosed(_) => false,
-                    TypeError::NotBindable(_) => false,
-                    TypeError::InputDelay(_) => false,
-                    TypeError::TimeNotAllowed(_) => false,
-                    TypeError::TooMany(_) => false,
-                    TypeError::EmptyColour(_) => false,
-                },
-            },
-            LoadError::Init(_, _) => false,
+            LoadError::Memory
+            | LoadError::Document(DocError::Memory)
+            | LoadError::Inscription(_, InscriptionError::Memory)
+            | LoadError::Inscription(_, InscriptionError::Typing(TypeError::Memory))
+            | LoadError::Module(ModuleError::Memory)
+            | LoadError::Flat(FlatError::Memory) => true,
+            LoadError::Document(_)
+            | LoadError::Inscription(_, _)
+            | LoadError::Module(_)
+            | LoadError::Flat(_) => false,
         }
-    }
-}
-
-/// The refusal of the text at a place that has no tree.
-pub(crate) fn not_parsed(place: Pointer, error: Unparsed) -> LoadError
-    ensures refused { load_refusal_of result ≡ Some (inscription place (no_tree (unparsed_view error))) }
-{
-    match error {
-        Unparsed::Lex(error) => LoadError::Inscription(place, InscriptionError::Lex(error)),
-        Unparsed::Syntax(error) => LoadError::Inscription(place, InscriptionError::Syntax(error)),
-    }
-}
-
-/// The refusal of what stands at a place by a rule of typing.
-pub(crate) fn not_accepted(place: Pointer, error: TypeError) -> LoadError
-    ensures refused { load_refusal_of result ≡ option_map (λ r. inscription place (typing r)) (type_refusal_of error) }
-{
-    match error {
-        TypeError::Memory => LoadError::Memory,
-        error => LoadError::Inscription(place, InscriptionError::Typing(error)),
     }
 }
 
@@ -99,6 +64,29 @@ impl From<DocError> for LoadError {
         match error {
             DocError::Memory => LoadError::Memory,
             error => LoadError::Document(error),
+        }
+    }
+}
+
+impl From<NetError> for LoadError {
+    ghost from_gives = { λ error e. load_refusal_of e ≡ option_map of_net (net_refusal_of error) };
+
+    fn from(error: NetError) -> LoadError {
+        match error {
+            NetError::Memory => LoadError::Memory,
+            NetError::Modules(error) => LoadError::Module(error),
+            NetError::Inscription(place, error) => LoadError::Inscription(place, error),
+        }
+    }
+}
+
+impl From<FlatError> for LoadError {
+    ghost from_gives = { λ error e. load_refusal_of e ≡ option_map of_flat (flat_refusal_of error) };
+
+    fn from(error: FlatError) -> LoadError {
+        match error {
+            FlatError::Memory => LoadError::Memory,
+            error => LoadError::Flat(error),
         }
     }
 }

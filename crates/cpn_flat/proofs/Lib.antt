@@ -18,7 +18,6 @@ pub mod NetPlaces
 pub mod AddedTokens
 pub mod EqualGroups
 pub mod SharedTokens
-pub mod RelatedLists
 pub mod SharedMarkings
 pub mod StartedMarkings
 pub mod StartedWell

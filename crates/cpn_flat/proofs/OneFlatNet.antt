@@ -18,21 +18,13 @@ use Rattle.cpn_module.specs.Hierarchy.{PlainSubstitution, PlainHierarchy, struct
 use Rattle.cpn_module_nets.specs.Nets.{Initial, PlainAccepted}
 use Rattle.cpn_readings.specs.Reading as readings
 use Rattle.cpn_readings.specs.Relations.{just, such_that, After, ◌>>=◌, HasOne}
-use Rattle.cpn_readings.proofs.RelatedReadings.{IsOne, just_one, such_one, then_one, each_so_one}
+use Rattle.cpn_readings.proofs.RelatedReadings.{IsOne, just_one, such_one, then_one_at, then_one, each_so_one}
 use Rattle.cpn_flat.specs.Refusals.{FlatRefusal, Reading, read, refused, each_from}
 use Rattle.cpn_flat.specs.Names.{joined_name, sub_name_at, name_at, name_where, AreNames}
 use Rattle.cpn_flat.specs.Placed.{IsBehind, StandBehind}
 use Rattle.cpn_flat.specs.FlatNet.{flat_net}
 use Rattle.cpn_flat.specs.InitialMarking.{tokens_of, values_of, IsShared, none_written, all_same, one_differs, started}
 use Rattle.cpn_flat.specs.Flat.{IsUnfoldedAs, unfolded, not_unfolded, too_many, all_written, flat_in}
-
--- the second step has one outcome at each value that the first may give
-then_one_at : {A B : Type 0} (first : Reading A → Type 0) (next : A → Reading B → Type 0) → HasOne first → ((x : A) → first (read x) → HasOne (next x)) → HasOne (first >>= next)
-then_one_at {A} {B} first next one ones y z h k = by k.0 k.1 (subst (λ r. After r next y) (one h.0 k.0 h.1 k.1) h.2) k.2
-  where
-    by : (r : Reading A) → first r → After r next y → After r next z → y ≡ z
-    by (readings.read x) f a b = ones x f y z a b
-    by (readings.refused refusal) f a b = a ∙ sym b
 
 -- ---- instances
 

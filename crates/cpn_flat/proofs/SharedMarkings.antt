@@ -12,7 +12,7 @@ use Rattle.cpn_core.specs.declared.nets.Place.{Place}
 use Rattle.cpn_core.specs.declared.nets.Net.{Net}
 use Rattle.cpn_eval.specs.declared.term.Term.{Term}
 use Rattle.cpn_readings.specs.Relations.{each_so, RefusesBy}
-use Rattle.cpn_flat.proofs.RelatedLists.{AreRead, related_more, related_refused, related_done}
+use Rattle.cpn_readings.proofs.RelatedLists.{AreRead, related_more, related_refused, related_done}
 use Rattle.cpn_flat.specs.Refusals.{FlatRefusal, Reading, read, refused}
 use Rattle.cpn_flat.specs.InitialMarking.{IsShared}
 use Rattle.cpn_flat.specs.Values.{values_view, value_lists_view}

@@ -30,7 +30,7 @@ use Rattle.cpn_readings.specs.Reading.{each}
 use Rattle.cpn_readings.specs.Relations.{just}
 use Rattle.cpn_readings.proofs.Readings.{same_read, steps}
 use Rattle.cpn_readings.proofs.RelatedReadings.{step_parts}
-use Rattle.cpn_flat.proofs.RelatedLists.{AreRead, each_read}
+use Rattle.cpn_readings.proofs.RelatedLists.{AreRead, each_read}
 use Rattle.cpn_flat.specs.Refusals.{Reading, read, each_from}
 use Rattle.cpn_flat.specs.InitialMarking.{token_of, tokens_of, terms_at, value_of, values_of, IsShared, none_written, all_same, one_differs, started}
 use Rattle.cpn_flat.specs.Values.{AreOfColour, HaveColours}

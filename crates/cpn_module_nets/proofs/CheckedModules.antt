@@ -1,8 +1,8 @@
 -- What a document is checked as is one thing; and a hierarchy that it is checked as is the one that it names, with all rules kept.
 use Rattle.std.proofs.Common.{◌≡◌, refl, sym, ap, ◌∙◌}
 use Rattle.std.specs.Prelude.{Option, Some, None}
-use Rattle.cpn_readings.specs.Reading as readings
-use Rattle.cpn_readings.specs.Relations.{HasOne}
+use Rattle.cpn_readings.specs.Relations.{refused_by, HasOne}
+use Rattle.cpn_readings.proofs.RelatedReadings.{refused_by_one}
 use Rattle.cpn_readings.specs.Rules.{first_broken, unless_broken}
 use Rattle.cpn_typing.specs.Names.{Declared}
 use Rattle.cpn_document.specs.Document.{RawDocument}
@@ -12,7 +12,6 @@ use Rattle.cpn_module.specs.ModuleRules.{name_rules, relation_rules}
 use Rattle.cpn_module.specs.Named.{hierarchy_in}
 use Rattle.cpn_module.specs.Refusals.{ModuleRefusal}
 use Rattle.cpn_module.specs.OneHierarchy.{one_checked}
-use Rattle.cpn_module_nets.specs.Documents.{refused_by}
 
 -- ---- what is checked
 
@@ -38,10 +37,6 @@ pub kept : (ds : Declared) (d : RawDocument) (h : PlainHierarchy) → IsChecked 
 kept ds d h checked = kept_by ds d h (read h) checked refl
 
 -- ---- one answer
-
--- readings that are one are one with their refusals as those of another kind
-pub refused_by_one : {R S A : Type 0} (kind : R → S) (Reads : readings.Reading R A → Type 0) → HasOne Reads → HasOne (refused_by kind Reads)
-refused_by_one kind Reads one r s h k = h.2 ∙ ap (readings.refused_as kind) (one h.0 k.0 h.1 k.1) ∙ sym k.2
 
 pub checks_one : {S : Type 0} (kind : ModuleRefusal → S) (ds : Declared) (d : RawDocument) → HasOne (refused_by kind (IsChecked ds d))
 checks_one kind ds d = refused_by_one kind (IsChecked ds d) (one_checked ds d)

@@ -9,7 +9,6 @@ pub mod AcceptedTexts
 pub mod AcceptedArcs
 pub mod AcceptedTransitions
 pub mod ReadNets
-pub mod RelatedLists
 pub mod NumberedModules
 pub mod CheckedModules
 pub mod ModuleParts

@@ -13,7 +13,7 @@ use Rattle.cpn_typing.specs.Names as checks
 use Rattle.cpn_typing.specs.AcceptedTransitions.{transition_variables}
 use Rattle.cpn_typing.proofs.BindableAnswers.{one_answer}
 use Rattle.cpn_readings.specs.ItemByItem.{EachIs}
-use Rattle.cpn_readings.specs.Relations.{just, such_that, HasOne}
+use Rattle.cpn_readings.specs.Relations.{just, such_that, refused_by, HasOne}
 use Rattle.cpn_readings.proofs.RelatedReadings.{IsOne, just_one, such_one, then_one, each_so_one, each_one}
 use Rattle.cpn_document.specs.Document.{RawDocument}
 use Rattle.cpn_module.specs.Checked.{IsChecked}
@@ -24,7 +24,7 @@ use Rattle.cpn_module_nets.specs.Reading.{of_modules, read, each_from}
 use Rattle.cpn_module_nets.specs.Nets.{places_at, net_from}
 use Rattle.cpn_module_nets.specs.Accepted.{declared_from, places_of, initial_of, bare_transition, arc_of, joined_from}
 use Rattle.cpn_module_nets.specs.Transitions.{with_variables, IsCompleted, AreBindable, none_left, these_are, one_is_not}
-use Rattle.cpn_module_nets.specs.Documents.{refused_by, transitions_so, net_so, nets_so, accepted_in}
+use Rattle.cpn_module_nets.specs.Documents.{transitions_so, net_so, nets_so, accepted_in}
 use Rattle.cpn_module_nets.proofs.CheckedModules.{checks_one}
 
 -- ---- variables

@@ -3,7 +3,7 @@ use Rattle.std.proofs.Common.{◌≡◌, List, refl, sym}
 use Rattle.std.specs.Prelude.{Option, Some, None, option_map}
 use Rattle.cpn_definitions.specs.Net.{Coloured}
 use Rattle.cpn_document.specs.Document.{RawDocument}
-use Rattle.cpn_readings.specs.Relations.{just, such_that, ◌>>=◌}
+use Rattle.cpn_readings.specs.Relations.{just, such_that, ◌>>=◌, refused_by}
 use Rattle.cpn_readings.proofs.RelatedReadings.{then_read, refused_first, refused_next, just_refused}
 use Rattle.cpn_module.specs.Checked as modules
 use Rattle.cpn_module.specs.Checked.{IsChecked}
@@ -14,7 +14,7 @@ use Rattle.cpn_typing.specs.Names.{Declared, nothing_declared}
 use Rattle.cpn_module_nets.specs.Reading.{NetRefusal, of_modules, Reading, read, each_from}
 use Rattle.cpn_module_nets.specs.Nets.{PlainModuleNet, PlainAccepted}
 use Rattle.cpn_module_nets.specs.Accepted.{declared_from, places_of}
-use Rattle.cpn_module_nets.specs.Documents.{refused_by, nets_so, accepted_in}
+use Rattle.cpn_module_nets.specs.Documents.{nets_so, accepted_in}
 use Rattle.cpn_module_nets.specs.Answers.{Refuses, RefusesBy}
 
 module _ (d : RawDocument) (trees : DocumentTrees) (are : AreTrees d trees) where

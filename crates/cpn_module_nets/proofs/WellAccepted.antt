@@ -10,14 +10,14 @@ use Rattle.cpn_module.specs.Named.{no_module}
 use Rattle.cpn_module.specs.Ranges.{HasItsNumbers}
 use Rattle.cpn_module_trees.specs.Trees.{DocumentTrees, AreTrees}
 use Rattle.cpn_readings.specs.Reading as readings
-use Rattle.cpn_readings.specs.Relations.{just, such_that, each_so}
+use Rattle.cpn_readings.specs.Relations.{just, such_that, refused_by, each_so}
 use Rattle.cpn_readings.proofs.Readings.{same_read}
 use Rattle.cpn_readings.proofs.RelatedReadings.{step_parts, such_holds}
 use Rattle.cpn_typing.specs.Names.{Declared, nothing_declared}
 use Rattle.cpn_module_nets.specs.Reading.{Reading, read, of_modules, each_from}
 use Rattle.cpn_module_nets.specs.Nets.{PlainModuleNet, PlainAccepted, places_at, no_module_net, IsWellNet, IsWellAccepted}
 use Rattle.cpn_module_nets.specs.Accepted.{declared_from, places_of}
-use Rattle.cpn_module_nets.specs.Documents.{refused_by, net_so, nets_so, accepted_in}
+use Rattle.cpn_module_nets.specs.Documents.{net_so, nets_so, accepted_in}
 use Rattle.cpn_module_nets.specs.Fitting.{no_trees, trees_at}
 use Rattle.cpn_module_nets.specs.Answers.{LoadsBy}
 use Rattle.cpn_module_nets.specs.declared.refusals.NetError.{NetError}

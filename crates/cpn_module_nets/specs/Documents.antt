@@ -6,9 +6,7 @@
 use Rattle.std.specs.Prelude.{◌≡◌, ℕ, List}
 use Rattle.cpn_definitions.specs.Net.{PlainTransition, Coloured}
 use Rattle.cpn_readings.specs.ItemByItem.{EachIs}
-use Rattle.cpn_readings.specs.Reading as readings
-use Rattle.cpn_readings.specs.Reading.{refused_as}
-use Rattle.cpn_readings.specs.Relations.{just, such_that, ◌>>=◌, each_so}
+use Rattle.cpn_readings.specs.Relations.{just, such_that, ◌>>=◌, refused_by, each_so}
 use Rattle.cpn_document.specs.Document.{RawDocument}
 use Rattle.cpn_module.specs.Checked.{IsChecked}
 use Rattle.cpn_module.specs.Hierarchy.{PlainStructure, PlainHierarchy, structure_at}
@@ -18,10 +16,6 @@ use Rattle.cpn_module_nets.specs.Reading.{of_modules, Reading, read, each_from}
 use Rattle.cpn_module_nets.specs.Nets.{PlainModuleNet, PlainAccepted, places_at, net_from}
 use Rattle.cpn_module_nets.specs.Accepted.{declared_from, places_of, initial_of, bare_transition, arc_of, joined_from}
 use Rattle.cpn_module_nets.specs.Transitions.{IsCompleted, AreBindable}
-
--- the same readings, their refusals seen as of another kind
-abbrev pub refused_by : {R S A : Type 0} → (R → S) → (readings.Reading R A → Type 0) → readings.Reading S A → Type 0
-refused_by {R} {S} {A} kind Reads r = (reading : readings.Reading R A) × Reads reading × (r ≡ refused_as kind reading)
 
 -- the transitions of a module with their arcs and their variables, which are bindable
 unfoldable pub transitions_so : Declared → List Coloured → ℕ → PlainStructure → ModuleTrees → Reading (List PlainTransition) → Type 0

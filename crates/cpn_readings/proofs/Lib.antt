@@ -4,3 +4,4 @@ pub mod NumberedLists
 pub mod ItemByItem
 pub mod BrokenRules
 pub mod RelatedReadings
+pub mod RelatedLists

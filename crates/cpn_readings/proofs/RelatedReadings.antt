@@ -1,9 +1,9 @@
 -- The steps of a reading that is told by relations, and that each has at most one outcome.
 use Rattle.std.proofs.Common.{◌≡◌, ℕ, suc, List, [], ◌∷◌, refl, sym, ap, ◌∙◌, subst}
 use Rattle.std.specs.Prelude.{Option, Some, None}
-use Rattle.cpn_readings.specs.Reading.{Reading, read, refused, Refuses}
+use Rattle.cpn_readings.specs.Reading.{Reading, read, refused, refused_as, Refuses}
 use Rattle.cpn_readings.specs.ItemByItem.{EachIs, OptionIs}
-use Rattle.cpn_readings.specs.Relations.{just, such_that, After, ◌>>=◌, each_so, RefusesBy, HasOne}
+use Rattle.cpn_readings.specs.Relations.{just, such_that, After, ◌>>=◌, refused_by, each_so, RefusesBy, HasOne}
 
 module _ {R A B : Type 0} (first : Reading R A → Type 0) (next : A → Reading R B → Type 0) where
   -- the first step gives a value
@@ -66,14 +66,21 @@ module _ {R A : Type 0} where
   such_one Holds one x y h k = h.2 ∙ ap read (one h.0 k.0 h.1 k.1) ∙ sym k.2
 
 module _ {R A B : Type 0} where
-  after_one : (r : Reading R A) (next : A → Reading R B → Type 0) → ((x : A) → HasOne (next x)) → HasOne (After r next)
-  after_one (read x) next one y z h k = one x y z h k
-  after_one (refused refusal) next one y z h k = h ∙ sym k
+  -- the second step has one outcome at each value that the first may give
+  pub then_one_at : (first : Reading R A → Type 0) (next : A → Reading R B → Type 0) → HasOne first → ((x : A) → first (read x) → HasOne (next x)) → HasOne (first >>= next)
+  then_one_at first next one ones y z h k = by k.0 k.1 (subst (λ r. After r next y) (one h.0 k.0 h.1 k.1) h.2) k.2
+    where
+      by : (r : Reading R A) → first r → After r next y → After r next z → y ≡ z
+      by (read x) f a b = ones x f y z a b
+      by (refused refusal) f a b = a ∙ sym b
 
+  -- it has one at each value
   pub then_one : (first : Reading R A → Type 0) (next : A → Reading R B → Type 0) → HasOne first → ((x : A) → HasOne (next x)) → HasOne (first >>= next)
-  then_one first next one ones y z h k =
-      let same = one h.0 k.0 h.1 k.1 in
-      after_one k.0 next ones y z (subst (λ r. After r next y) same h.2) k.2
+  then_one first next one ones = then_one_at first next one (λ x h. ones x)
+
+-- readings whose refusals are seen as of another kind are one, where the readings are
+pub refused_by_one : {R S A : Type 0} (kind : R → S) (Reads : Reading R A → Type 0) → HasOne Reads → HasOne (refused_by kind Reads)
+refused_by_one kind Reads one r s h k = h.2 ∙ ap (refused_as kind) (one h.0 k.0 h.1 k.1) ∙ sym k.2
 
 module _ {R A B : Type 0} where
   pub each_so_one : (Reads : ℕ → A → Reading R B → Type 0) → ((i : ℕ) (x : A) → HasOne (Reads i x)) → (i : ℕ) (xs : List A) → HasOne (each_so Reads i xs)

@@ -1,6 +1,6 @@
 -- Readings that are told by relations: which readings something may have. Source: own choice.
 use Rattle.std.specs.Prelude.{◌≡◌, ℕ, suc, List, [], ◌∷◌, Option, Some, None}
-use Rattle.cpn_readings.specs.Reading.{Reading, read, refused}
+use Rattle.cpn_readings.specs.Reading.{Reading, read, refused, refused_as}
 
 -- one reading and no other
 abbrev pub just : {R A : Type 0} → Reading R A → Reading R A → Type 0
@@ -19,6 +19,10 @@ After (refused refusal) next r = r ≡ refused refusal
 infixl 10 ◌>>=◌
 abbrev pub ◌>>=◌ : {R A B : Type 0} → (Reading R A → Type 0) → (A → Reading R B → Type 0) → Reading R B → Type 0
 ◌>>=◌ {R} {A} first next r = (reading : Reading R A) × first reading × After reading next r
+
+-- the same readings, their refusals seen as of another kind
+abbrev pub refused_by : {R S A : Type 0} → (R → S) → (Reading R A → Type 0) → Reading S A → Type 0
+refused_by {R} {S} {A} kind Reads r = (reading : Reading R A) × Reads reading × (r ≡ refused_as kind reading)
 
 -- what each item of a list, numbered from a number on, may be read as, in order, or the first refusal
 unfoldable pub each_so : {R A B : Type 0} → (ℕ → A → Reading R B → Type 0) → ℕ → List A → Reading R (List B) → Type 0

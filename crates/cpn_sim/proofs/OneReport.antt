@@ -2,7 +2,7 @@
 use Rattle.std.proofs.Common.{◌≡◌, ℕ, ◌≤◌, List, length, Some, None, Option, IfSome, sym, ◌∙◌, ap, subst, arith}
 use Rattle.std.proofs.lemmas.Option.{same_Some}
 use Rattle.cpn_runs.proofs.OneRun.{one_run}
-use Rattle.cpn_file.specs.Loading.{PlainLoaded}
+use Rattle.cpn_flat.specs.Flat.{PlainLoaded}
 use Rattle.cpn_file.specs.Reading.{Refusal, read, refused}
 use Rattle.cpn_file.specs.Reads.{IsReadAs}
 use Rattle.cpn_report.specs.Report.{report_text}

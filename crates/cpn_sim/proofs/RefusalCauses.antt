@@ -3,8 +3,9 @@ use Rattle.std.proofs.Common.{◌≡◌, Bool, true, false, ℕ, ◌<◌, ◌≤
 use Rattle.std.proofs.lemmas.Option.{same_Some}
 use Rattle.std.specs.Option.{MatchOption}
 use Rattle.std.specs.Io.KnownBytes.{Appends}
-use Rattle.cpn_file.specs.Loading.{PlainLoaded}
-use Rattle.cpn_file.specs.Reading.{Refusal, of_form, inscription, init, Reading, read, refused}
+use Rattle.cpn_flat.specs.Flat.{PlainLoaded}
+use Rattle.cpn_module_nets.specs.Reading.{of_modules, inscription}
+use Rattle.cpn_file.specs.Reading.{Refusal, of_form, of_net, of_flat, Reading, read, refused}
 use Rattle.cpn_file.specs.Reads.{IsReadAs}
 use Rattle.cpn_file.specs.Refusals.{refusal_line}
 use Rattle.cpn_io.specs.Outside.{Rose}
@@ -73,8 +74,9 @@ is_of_document statuses.TooLong = false
 
 of_its_status : (r : Refusal) → is_of_document (status_of_document r) ≡ true
 of_its_status (of_form reason) = refl
-of_its_status (inscription place reason) = refl
-of_its_status (init place fault) = refl
+of_its_status (of_net (inscription place reason)) = refl
+of_its_status (of_net (of_modules reason)) = refl
+of_its_status (of_flat reason) = refl
 
 -- a status that is no document's is not that of one
 no_document : {A : Type 0} (r : Refusal) (status : Status) → is_of_document status ≡ false → status_of_document r ≡ status → A

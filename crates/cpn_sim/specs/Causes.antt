@@ -1,8 +1,9 @@
 -- Why there is no report, and the line and the status that say so. The causes are tried in their order: the words, the
 -- reading of the source, its length, the document. Source: own choice.
 use Rattle.std.specs.Prelude.{◌≡◌, ℕ, ◌<◌, ◌≤◌, ◌⊎◌, List, length, codes, Option, Some, None, IfSome}
-use Rattle.cpn_file.specs.Loading.{PlainLoaded}
-use Rattle.cpn_file.specs.Reading.{Refusal, of_form, inscription, init, Reading, refused}
+use Rattle.cpn_flat.specs.Flat.{PlainLoaded}
+use Rattle.cpn_module_nets.specs.Reading.{NetRefusal, of_modules, inscription}
+use Rattle.cpn_file.specs.Reading.{Refusal, of_form, of_net, of_flat, Reading, refused}
 use Rattle.cpn_file.specs.Reads.{IsReadAs}
 use Rattle.cpn_file.specs.Refusals.{refusal_line}
 use Rattle.cpn_io.specs.Outside.{Rose, AppendsProperPrefix}
@@ -52,11 +53,16 @@ error_line read_fault = codes "error read\n"
 error_line too_long = codes "error long\n"
 error_line (bad_document refusal) = refusal_line refusal
 
--- The status of a refusal of the document: for its form, of a text or the variables of a transition, or of an initial marking.
+-- The status of a refusal of the document: for its form, of a text or the variables of a transition, or of its modules or its flat
+-- net.
+abbrev pub status_of_net : NetRefusal → Status
+status_of_net (inscription place reason) = statuses.BadInscription
+status_of_net (of_modules reason) = statuses.BadNet
+
 abbrev pub status_of_document : Refusal → Status
 status_of_document (of_form reason) = statuses.BadDocument
-status_of_document (inscription place reason) = statuses.BadInscription
-status_of_document (init place fault) = statuses.BadNet
+status_of_document (of_net reason) = status_of_net reason
+status_of_document (of_flat reason) = statuses.BadNet
 
 -- the status of a refusal
 abbrev pub status_of : PlainRefusal → Status

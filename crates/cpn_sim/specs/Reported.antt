@@ -2,7 +2,7 @@
 use Rattle.std.specs.Prelude.{◌≡◌, ℕ, ◌⊎◌, List, Some}
 use Rattle.cpn_runs.specs.State.{PlainSetup, PlainEnd, dead, steps_made, until_passed, fault_end}
 use Rattle.cpn_runs.specs.Run.{PlainFinished, IsRun}
-use Rattle.cpn_file.specs.Loading.{PlainLoaded}
+use Rattle.cpn_flat.specs.Flat.{PlainLoaded}
 use Rattle.cpn_file.specs.Reading.{read}
 use Rattle.cpn_file.specs.Reads.{IsReadAs}
 use Rattle.cpn_report.specs.Report.{report_text}

@@ -1,8 +1,8 @@
 //! From the words and the source to the report, or to the reason why there is none.
 
 ghost use Rattle.std.specs.Prelude.{◌≡◌, ◌≤◌, ◌⊎◌, [], length, Some, None, Err, map, string_bytes, IfOk, IfErr, OnOk, IfSome, MatchOption};
-ghost use Rattle.cpn_file.specs.Loads.{loaded_view};
-ghost use Rattle.cpn_file.specs.WellLoaded.{IsWellLoaded};
+ghost use Rattle.cpn_flat.specs.Views.{loaded_view};
+ghost use Rattle.cpn_flat.specs.WellLoaded.{IsWellLoaded};
 ghost use Rattle.cpn_sim.specs.Limits.{most_bytes};
 ghost use Rattle.cpn_sim.specs.Options.{PlainOptions, options_from};
 ghost use Rattle.cpn_sim.specs.OptionsView.{options_view};

@@ -76,6 +76,7 @@ fn status_of_document(error: &LoadError) -> Status
         LoadError::Memory => Status::Memory,
         LoadError::Document(_) => Status::BadDocument,
         LoadError::Inscription(_, _) => Status::BadInscription,
-        LoadError::Init(_, _) => Status::BadNet,
+        LoadError::Module(_) => Status::BadNet,
+        LoadError::Flat(_) => Status::BadNet,
     }
 }

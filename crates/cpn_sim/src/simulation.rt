@@ -2,7 +2,7 @@
 
 ghost use Rattle.std.specs.Prelude.{◌≡◌, ◌<◌, ◌≤◌, ◌⊎◌, ℕ, List, [], length, map, string_bytes, Some, None, IfSome};
 ghost use Rattle.std.specs.Io.KnownBytes.{Appends};
-ghost use Rattle.cpn_file.specs.Loading.{PlainLoaded};
+ghost use Rattle.cpn_flat.specs.Flat.{PlainLoaded};
 ghost use Rattle.cpn_file.specs.Reading.{Refusal as DocumentRefusal, read, refused};
 ghost use Rattle.cpn_file.specs.Reads.{IsReadAs};
 ghost use Rattle.cpn_file.specs.Refusals.{refusal_line};

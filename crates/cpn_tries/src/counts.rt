@@ -1,6 +1,6 @@
 //! The tries of a search, in a table that was filled in by hand from the definition of `IsFull`.
-ghost use Rattle.cpn_file.specs.Loads.{loaded_view};
-ghost use Rattle.cpn_file.specs.WellLoaded.{IsWellLoaded};
+ghost use Rattle.cpn_flat.specs.Views.{loaded_view};
+ghost use Rattle.cpn_flat.specs.WellLoaded.{IsWellLoaded};
 
 use crate::documents::{document, parted};
 use cpn_core::Memory;

@@ -8,7 +8,7 @@ use Rattle.cpn_runs.specs.FinishedViews.{setup_view, finished_view}
 use Rattle.cpn_core.specs.declared.nets.Net.{Net}
 use Rattle.cpn_core.specs.Nets.{net_view}
 use Rattle.std.specs.Arc.{arc_value}
-use Rattle.cpn_file.specs.Loads.{loaded_view}
+use Rattle.cpn_flat.specs.Views.{loaded_view}
 use Rattle.cpn_sim.proofs.PrintableReports.{is_printable}
 use Rattle.cpn_sim.proofs.answers.report_of.Goals as goal
 

@@ -1,4 +1,0 @@
-pub mod Parsing
-pub mod Trees
-pub mod ParsingViews
-pub mod TreesViews
