@@ -19,22 +19,17 @@ use Rattle.cpn_definitions.proofs.UntimedPlaces.{MadeStamped, stamped_subtracted
 use Rattle.cpn_definitions.proofs.Markings.{held_at}
 use Rattle.cpn_definitions.proofs.Needs.{needs_in_order}
 use Rattle.cpn_definitions.proofs.Subtraction.{AllAreSorted}
-use Rattle.cpn_definitions.proofs.Addition.{sorted_added}
-use Rattle.cpn_definitions.proofs.RicherMarkings.{IsRicher, richer_covers, richer_subtracted, richer_added, richer_with_more, sorted_subtracted}
 use Rattle.cpn_runs.specs.HoleRun.{PlainClaim, Status, open_claim, done_with, faulted_with, added, after_claim, marking_left, is_open, is_done, done_prefix}
 use Rattle.cpn_runs.specs.State.{PlainSetup, PlainState, PlainEvent, claim_made, claim_completed, clock_moved, cut_made, PlainEnd, dead, steps_made, until_passed, fault_end, PlainCut, first_state, unclaimed_in, settled_in, committed, owed_cut, cut_at, cut_by, given_needs, new_claim, status_after, MayClaim, MayComplete, MayMove, MayCut, Happens, Leads, IsState, timed, numbered, committed_occurrences, HasCause, EndsBy}
 use Rattle.cpn_runs.specs.Run.{Outlook, HasOutlook, IsTrueFault, IsRun}
 use Rattle.cpn_runs.proofs.Items.{split_at, all_joined, all_parts}
 use Rattle.cpn_runs.proofs.Sequences.{legal_joined, legal_moved, left_parts, left_from, left_split, marking_left_more}
 use Rattle.cpn_runs.proofs.CoveredElements.{covered_needs, covered_too, after_is, least_now}
+use Rattle.cpn_runs.proofs.FilledRuns.{HasOrder, completed, filled_leaves}
 use Rattle.cpn_runs.proofs.Cuts.{no_cut_at_any, AreDone, committed_are_done, open_is_not_done, done_owe_none, done_are_closed, owed_is}
 use Rattle.cpn_runs.proofs.States.{IsClaimOf, drawn_now, IsReached, event_reaches, every_state, no_completion_after_a_cut}
 
--- ---- a hole is filled
-
--- the needs of a claim stand in their order
-abbrev pub HasOrder : PlainClaim → Type 0
-HasOrder claim = IsInOrder needed_cmp claim.needs
+-- ---- the needs of claims stand in their order
 
 given_in_order : (n : PlainNet) (e : PlainElement) (o : Outcome (List Needed)) → needs_of n e ≡ o → IsInOrder needed_cmp (given_needs o)
 given_in_order n e (gives needs) is = needs_in_order n e needs is
@@ -44,49 +39,9 @@ given_in_order n e no_meaning is = tt
 has_order : (setup : PlainSetup) (claim : PlainClaim) → IsClaimOf setup claim → HasOrder claim
 has_order setup claim is = subst (IsInOrder needed_cmp) (sym is.needs_are) (given_in_order setup.net claim.element (needs_of setup.net claim.element) refl)
 
-have_order : (setup : PlainSetup) (claims : List PlainClaim) → AllByRecursion (IsClaimOf setup) claims → AllByRecursion HasOrder claims
+pub have_order : (setup : PlainSetup) (claims : List PlainClaim) → AllByRecursion (IsClaimOf setup) claims → AllByRecursion HasOrder claims
 have_order setup [] all = tt
 have_order setup (claim ∷ claims) all = (has_order setup claim all.0, have_order setup claims all.1)
-
-sorted_after : (claim : PlainClaim) (m : Marking) → AllAreSorted m → AllAreSorted (after_claim claim m)
-sorted_after claim m sorted = sorted_added (added claim.status) (subtract (threshold claim.time) claim.needs m) (sorted_subtracted (threshold claim.time) claim.needs m sorted)
-
-richer_after : (claim : PlainClaim) (k m : Marking) → AllAreSorted k → AllAreSorted m → HasOrder claim → IsRicher k m → are_covered (threshold claim.time) m claim.needs ≡ true → IsRicher (after_claim claim k) (after_claim claim m)
-richer_after claim k m sorted_k sorted_m ordered richer all =
-    richer_added (added claim.status) (subtract (threshold claim.time) claim.needs k) (subtract (threshold claim.time) claim.needs m) (sorted_subtracted (threshold claim.time) claim.needs k sorted_k) (sorted_subtracted (threshold claim.time) claim.needs m sorted_m)
-    (richer_subtracted claim.time k m claim.needs sorted_k sorted_m ordered richer all)
-
--- claims that leave a marking leave one from each richer marking too
-leaves_from_richer : (k m : Marking) (claims : List PlainClaim) (last : Marking) → AllAreSorted k → AllAreSorted m → AllByRecursion HasOrder claims → IsRicher k m → marking_left m claims ≡ Some last → (end : Marking) × (marking_left k claims ≡ Some end)
-leaves_from_richer k m [] last sorted_k sorted_m ordered richer is = (k, refl)
-leaves_from_richer k m (claim ∷ claims) last sorted_k sorted_m ordered richer is =
-    let parts = left_parts m claim claims last is in
-    let rest = leaves_from_richer (after_claim claim k) (after_claim claim m) claims last (sorted_after claim k sorted_k) (sorted_after claim m sorted_m) ordered.1 (richer_after claim k m sorted_k sorted_m ordered.0 richer parts.0) parts.1 in
-    (rest.0, left_from k claim claims rest.0 (richer_covers (threshold claim.time) k m claim.needs richer parts.0) rest.1)
-
--- a claim of which something became
-abbrev pub completed : Status → PlainClaim → PlainClaim
-completed status claim = record claim { status = status }
-
--- A hole among claims that leave a marking may be filled with whatever outputs: the claims leave a marking still.
-pub filled_leaves
-    : (m : Marking) (before : List PlainClaim) (claim : PlainClaim) (later : List PlainClaim) (status : Status) (last : Marking)
-    → AllAreSorted m
-    → AllByRecursion HasOrder (before ++ claim ∷ later)
-    → added claim.status ≡ []
-    → marking_left m (before ++ claim ∷ later) ≡ Some last
-    → (end : Marking) × (marking_left m (before ++ completed status claim ∷ later) ≡ Some end)
-filled_leaves m [] claim later status last sorted ordered none is =
-    let parts = left_parts m claim later last is in
-    let left = subtract (threshold claim.time) claim.needs m in
-    let sorted_left = sorted_subtracted (threshold claim.time) claim.needs m sorted in
-    let nothing_added : marking_left left later ≡ Some last = ap (λ made. marking_left (add_made made left) later) (sym none) ∙ parts.1 in
-    let rest = leaves_from_richer (add_made (added status) left) left later last (sorted_added (added status) left sorted_left) sorted_left ordered.1 (richer_with_more (added status) left sorted_left) nothing_added in
-    (rest.0, left_from m (completed status claim) later rest.0 parts.0 rest.1)
-filled_leaves m (first ∷ before) claim later status last sorted ordered none is =
-    let parts = left_parts m first (before ++ claim ∷ later) last is in
-    let rest = filled_leaves (after_claim first m) before claim later status last (sorted_after first m sorted) ordered.1 none parts.1 in
-    (rest.0, left_from m first (before ++ completed status claim ∷ later) rest.0 parts.0 rest.1)
 
 -- ---- what claims add
 
@@ -173,7 +128,7 @@ is_behind (d ∷ done) since (b ∷ before) claim later all not_done same =
     let rest = is_behind done since before claim later all.1 not_done others in
     record { ahead = rest.ahead; before_is = ap₂ (λ c cs. c ∷ cs) (sym first) rest.before_is; since_is = rest.since_is }
 
-open_adds_none : (status : Status) → is_open status ≡ true → added status ≡ []
+pub open_adds_none : (status : Status) → is_open status ≡ true → added status ≡ []
 open_adds_none open_claim h = refl
 open_adds_none (done_with outputs) h = cc
 open_adds_none (faulted_with fault) h = refl
@@ -205,12 +160,12 @@ completion_leaves setup journal old seat number new sorted reached leaves c =
     let claim = c.held_claim in
     let parts = split_at old.claims number claim c.claim_is in
     let none = open_adds_none claim.status (and_parts (is_open claim.status) (claim.seat == seat) c.held).0 in
-    let ordered = subst (AllByRecursion HasOrder) parts.is (have_order setup old.claims reached.claims_are) in
+    let ordered = all_parts HasOrder parts.before (claim ∷ parts.later) (subst (AllByRecursion HasOrder) parts.is (have_order setup old.claims reached.claims_are)) in
     let opened = (and_parts (is_open claim.status) (claim.seat == seat) c.held).0 in
     let moved = leaves.moved in
     let behind = is_behind moved.before moved.since parts.before claim parts.later moved.before_done (open_is_not_done claim.status opened) (sym moved.claims_are ∙ parts.is) in
     let now = all_parts (λ k. k.time ≡ old.clock) behind.ahead (claim ∷ parts.later) (subst (WereMadeAt old.clock) behind.since_is moved.made_now) in
-    let filled = filled_leaves setup.start parts.before claim parts.later c.status leaves.last sorted ordered none (subst (λ cs. marking_left setup.start cs ≡ Some leaves.last) parts.is leaves.is) in
+    let filled = filled_leaves setup.start parts.before claim parts.later c.status leaves.last sorted ordered.1.1 none (subst (λ cs. marking_left setup.start cs ≡ Some leaves.last) parts.is leaves.is) in
     subst (LeavesMarking setup) (sym (c.new_is ∙ ap (λ cs. record old { claims = cs }) (parts.changed (completed c.status claim)))) (record {
       last = filled.0;
       is = filled.1;

@@ -9,7 +9,15 @@ pub mod OneJournal
 pub mod OneRun
 pub mod Journals
 pub mod Picks
+pub mod CarriedStamps
+pub mod KnownTokens
+pub mod TwoPlaces
+pub mod CarriedTokens
+pub mod FilledRuns
+pub mod KeptPicks
+pub mod FilledStates
 pub mod Rows
+pub mod FilledRows
 pub mod WorkedNet
 pub mod TwoSeats
 pub mod FaultyRuns

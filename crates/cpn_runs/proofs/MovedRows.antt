@@ -6,7 +6,7 @@ use Rattle.cpn_definitions.specs.Occurrence.{Made, covered, needs_of, outputs_of
 use Rattle.cpn_definitions.specs.Legal.{LeastTime}
 use Rattle.cpn_runs.specs.HoleRun.{PlainClaim, done_with}
 use Rattle.cpn_runs.specs.State.{PlainSetup, claim_made, claim_completed, clock_moved, dead, steps_made, until_passed, PlainState, first_state, new_claim, MayClaim, MayComplete, MayMove, EndsBy}
-use Rattle.cpn_runs.specs.Run.{HasOutlook, IsRun}
+use Rattle.cpn_runs.specs.Run.{IsRun}
 use Rattle.cpn_runs.proofs.States.{least_is_unique}
 use Rattle.cpn_runs.proofs.TwoSeats.{drawn_alone, enabled_now}
 use Rattle.cpn_runs.proofs.WorkedNet.{seven, worked, move, seven_at_three, moved, entry, clash, covered_at_three, covered_no_earlier, after_three, least_is_three, one_is_enabled, no_other, moved_is_dead, none_is_enabled}

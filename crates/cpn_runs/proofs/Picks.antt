@@ -28,7 +28,7 @@ abbrev pub taken_by : List ℕ → List ℕ → List ℕ
 taken_by [] ss = []
 taken_by (t ∷ ts) ss = latest_stamp t ss ∷ taken_by ts (without_latest t ss)
 
-latest_at_least : (t s : ℕ) (ss : List ℕ) → IsAtMostEach s ss → begins_by t ss ≡ true → s ≤ latest_stamp t ss
+pub latest_at_least : (t s : ℕ) (ss : List ℕ) → IsAtMostEach s ss → begins_by t ss ≡ true → s ≤ latest_stamp t ss
 latest_at_least t s [] below found = absurd cc
 latest_at_least t s (r ∷ rs) below found = cond_both (begins_by t rs) (latest_stamp t rs) r (λ x. s ≤ x) (λ h. latest_at_least t s rs below.1 h) (λ _. below.0)
 
@@ -37,14 +37,14 @@ latest_by : (t : ℕ) (ss : List ℕ) → begins_by t ss ≡ true → latest_sta
 latest_by t [] found = absurd cc
 latest_by t (s ∷ ss) found = cond_both (begins_by t ss) (latest_stamp t ss) s (λ r. r ≤ t) (λ h. latest_by t ss h) (λ _. leb-true s t found)
 
-is_behind : (l s : ℕ) → s ≤ l → is_lt (nat_cmp l s) ≡ false
+pub is_behind : (l s : ℕ) → s ≤ l → is_lt (nat_cmp l s) ≡ false
 is_behind l s le = grind (arith, nat_tests)
 
-is_ahead : (s r : ℕ) → s < r → is_lt (nat_cmp s r) ≡ true
+pub is_ahead : (s r : ℕ) → s < r → is_lt (nat_cmp s r) ≡ true
 is_ahead s r lt = grind (arith, nat_tests)
 
 -- a stamp stands ahead of those that are all above a threshold that it is not above
-ahead_of : (t s : ℕ) (rs : List ℕ) → s ≤ t → begins_by t rs ≡ false → with_stamp s rs ≡ s ∷ rs
+pub ahead_of : (t s : ℕ) (rs : List ℕ) → s ≤ t → begins_by t rs ≡ false → with_stamp s rs ≡ s ∷ rs
 ahead_of t s [] low none = refl
 ahead_of t s (r ∷ rs) low none = cond-true (is_lt (nat_cmp s r)) (s ∷ r ∷ rs) (r ∷ with_stamp s rs) (is_ahead s r (let above : t < r = leb-false r t none in omega arith))
 

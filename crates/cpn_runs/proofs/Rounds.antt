@@ -13,7 +13,7 @@ use Rattle.cpn_definitions.specs.Legal.{TimedElement, Legal}
 use Rattle.cpn_definitions.specs.Enabled.{PlainEntry}
 use Rattle.cpn_definitions.specs.Sound.{IsStamped}
 use Rattle.cpn_definitions.proofs.UntimedPlaces.{stamped_subtracted, stamped_added, outputs_stamped}
-use Rattle.cpn_runs.specs.HoleRun.{PlainClaim, Status, open_claim, done_with, faulted_with, marking_left, is_open, is_done, done_prefix}
+use Rattle.cpn_runs.specs.HoleRun.{PlainClaim, Status, open_claim, done_with, faulted_with, marking_left, is_open, done_prefix}
 use Rattle.cpn_runs.specs.State.{PlainSetup, PlainEvent, claim_made, claim_completed, clock_moved, cut_made, fault_end, PlainCut, PlainState, PlainOccurrence, first_state, cut_by, is_held_by, given_needs, new_claim, MayClaim, MayComplete, MayMove, MayCut, Leads, IsState, timed, numbered}
 use Rattle.cpn_runs.specs.Rounds.{given_outputs, done_claim, done_claims, state_with, IsUnderWay, IsMoved, IsClaimed, IsRound, IsFaultyRound, next_occurrence, marking_after, played_journal, faulted_journal}
 use Rattle.cpn_runs.proofs.Items.{last_is_at, last_changed_at, map_more}

@@ -12,23 +12,23 @@ use Rattle.cpn_definitions.specs.Enabled.{PlainEntry}
 use Rattle.cpn_runs.specs.State.{PlainSetup, PlainState, IsDrawn, fault_end, committed, owed_cut, is_held_by, status_after, committed_occurrences}
 
 -- the value 7, and a need, an output and a pick of it on a place
-abbrev seven : PlainValue
+abbrev pub seven : PlainValue
 seven = int (pos 7)
 
-abbrev need : ℕ → ℕ → Needed
+abbrev pub need : ℕ → ℕ → Needed
 need place offset = record { place = place; value = seven; offset = offset }
 
-abbrev output : ℕ → ℕ → Made
+abbrev pub output : ℕ → ℕ → Made
 output place stamp = record { place = place; value = seven; stamp = stamp }
 
-abbrev pick : ℕ → ℕ → ℕ → PlainPick
+abbrev pub pick : ℕ → ℕ → ℕ → PlainPick
 pick place threshold stamp = record { place = place; value = seven; threshold = threshold; stamp = stamp }
 
 -- an element, and a claim on it of a seat at a time
-abbrev element : PlainElement
+abbrev pub element : PlainElement
 element = record { transition = 4; binding = [] }
 
-abbrev claim : ℕ → ℕ → List Needed → Status → PlainClaim
+abbrev pub claim : ℕ → ℕ → List Needed → Status → PlainClaim
 claim seat time needs status = record { seat = seat; element = element; time = time; needs = needs; status = status }
 
 -- 7 at 0 and 7 at 3 on place 0, and nothing on place 1

@@ -95,6 +95,14 @@ run_on m claim claims run is =
     let rest = made_of (begun_with (picks_of claim.time claim.needs m)) (hole_run (after_claim claim m) claims) run first.1 in
     record { is_covered = first.0; rest = rest.0; goes_on = rest.1; run_is = rest.2 }
 
+-- and where the first finds its needs, the run that the rest makes from there begins with its picks
+pub run_from
+    : (m : Marking) (claim : PlainClaim) (claims : List PlainClaim) (rest : PlainHoleRun)
+    → are_covered (threshold claim.time) m claim.needs ≡ true
+    → hole_run (after_claim claim m) claims ≡ Some rest
+    → hole_run m (claim ∷ claims) ≡ Some (begun_with (picks_of claim.time claim.needs m) rest)
+run_from m claim claims rest covers goes_on = rw covers (ap (option_map (begun_with (picks_of claim.time claim.needs m))) goes_on)
+
 -- a run of claims goes on by one more claim whose needs are covered where it stands: the claim takes its needs and adds its
 -- outputs, and what it takes stands last
 pub hole_run_more

@@ -1,4 +1,5 @@
 pub mod HoleRun
+pub mod Filling
 pub mod State
 pub mod Run
 pub mod Rounds

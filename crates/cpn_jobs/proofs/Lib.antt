@@ -1,0 +1,4 @@
+pub mod AddedTokens
+pub mod ArcsLeft
+pub mod NumberedWork
+pub mod WorkedOutputs

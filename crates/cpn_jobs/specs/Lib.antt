@@ -1,0 +1,7 @@
+pub mod Work
+pub mod OutputsByWork
+pub mod Views
+pub mod SameJobs
+pub mod Gathered
+pub mod Same
+pub mod WorkedJob

@@ -1,0 +1,3 @@
+pub mod ComparedLists
+pub mod Rows
+pub mod ConstructorLevels

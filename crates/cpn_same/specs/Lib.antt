@@ -1,0 +1,10 @@
+pub mod Rows
+pub mod Constructed
+pub mod Equality
+pub mod SameColours
+pub mod SamePatterns
+pub mod SameOperations
+pub mod SameInscriptions
+pub mod SameTokens
+pub mod SameArcs
+pub mod SameElements
