@@ -5,9 +5,10 @@ ghost use Rattle.cpn_core.specs.Inscriptions.{expr_view};
 ghost use Rattle.cpn_jobs.specs.Views.{work_arc_view, work_view};
 ghost use Rattle.cpn_jobs.specs.WorkedJob.{IsWorked, IsWorkedArc, IsWorkedDelay};
 
-use crate::{Job, Work, WorkArc};
+use crate::{Job, Work, WorkArc, works_of};
 use cpn_core::{
-    ArcExpr, Binding, Colour, Element, Expr, Function, Funs, MExpr, Memory, Shape, Value,
+    ArcExpr, Binding, Colour, Element, Expr, Function, Funs, Guard, MExpr, Memory, Net, Place,
+    PlaceArc, Shape, Transition, Value,
 };
 use cpn_eval::Refused;
 use std::alloc::Global;
@@ -166,5 +167,60 @@ fn a_job_makes_its_outputs(rt: HostRuntime) -> Result<(), Fail> {
         Ok(is_made) => assert!(rt; is_made),
         Err(_) => assert!(rt; false),
     }
+    Ok(())
+}
+
+// A transition with a delay and one output arc.
+fn transition(alloc: Global) -> Result<Transition, Memory> {
+    let WorkArc {
+        place: _,
+        timed: _,
+        inscription,
+    } = work_arc(alloc, FIRST);
+    let outputs = vec![in alloc;
+        PlaceArc {
+            place: 0,
+            inscription
+        },
+    ]?;
+    Ok(Transition {
+        name: String::new(alloc),
+        guard: Guard {
+            conjuncts: Vec::new(alloc),
+        },
+        delay: Some(Expr::Time),
+        inputs: Vec::new(alloc),
+        outputs,
+        vars: Vec::new(alloc),
+    })
+}
+
+// A net of a timed place and that transition.
+fn net(alloc: Global) -> Result<Net, Memory> {
+    let functions = Vec::new(alloc);
+    let place = Place {
+        name: String::new(alloc),
+        colour: Colour {
+            shape: Shape::Bool,
+            timed: true,
+        },
+    };
+    let places = vec![in alloc; place]?;
+    let transitions = vec![in alloc; transition(alloc)?]?;
+    Ok(Net {
+        places,
+        transitions,
+        variables: Vec::new(alloc),
+        constants: Vec::new(alloc),
+        constructors: Vec::new(alloc),
+        funs: Arc::new(alloc, Funs { functions })?,
+    })
+}
+
+#[test]
+fn the_work_of_a_net_is_made(rt: HostRuntime) -> Result<(), Fail> {
+    let net = net(rt.alloc())?;
+    let works = works_of(rt.alloc(), &net)?;
+    assert!(rt; works.len() == 1);
     Ok(())
 }

@@ -1,0 +1,111 @@
+-- When an open claim of a log is completed: the log stays kept, and the changes are those told.
+use Rattle.std.proofs.Common.{◌≡◌, ℕ, ◌+◌, ◌-◌, ◌<◌, ◌≤◌, List, [], ◌∷◌, map, length, take, drop, refl, sym, ap, subst, ◌∙◌, arith}
+use Rattle.std.specs.List.{AllByRecursion, filter}
+use Rattle.std.proofs.Math.Seq.{take-length}
+use Rattle.std.proofs.lemmas.List.{length-append, length-take, take-append-drop}
+use Rattle.cpn_definitions.specs.Bounds.{most_made}
+use Rattle.cpn_definitions.specs.Lists.{IsInOrder}
+use Rattle.cpn_definitions.specs.Marking.{Marking}
+use Rattle.cpn_definitions.specs.Occurrence.{Made, made_cmp, add_made}
+use Rattle.cpn_tmset.specs.Limits.{HaveRoomFor}
+use Rattle.cpn_runs.specs.HoleRun.{PlainClaim, Status, done_with, added}
+use Rattle.cpn_runs.proofs.Items.{all_parts}
+use Rattle.cpn_log.specs.Logs.{PlainLog, claims_made, with_status}
+use Rattle.cpn_log.specs.Kept.{IsInRange, IsKept}
+use Rattle.cpn_log.specs.Changed.{each_once, differs, made_change, AreChanges}
+use Rattle.cpn_log.specs.Exchanges.{after_claims, number_added}
+use Rattle.cpn_log.proofs.ChangeOrder.{outputs_stand_in_order}
+use Rattle.cpn_log.proofs.EachOnce.{told_once, once_in_order}
+use Rattle.cpn_log.proofs.TouchedStamps.{added_changes, differing_changes}
+use Rattle.cpn_log.proofs.KeptLogs.{IsAmong, among_at, unclaimed_sorted, room_for_all, with_completed, kept_with_completed, left_where_nothing_is_added, left_where_last, room_where_last, others_stay}
+use Rattle.cpn_log.proofs.LogParts.{IsOpen}
+use Rattle.cpn_log.proofs.LogSteps.{kept_alike}
+
+-- ---- some of the claims
+
+fewer_taken : (n : ℕ) (cs : List PlainClaim) → length (take n cs) ≤ length cs
+fewer_taken n cs = let lengths = length-take n cs in omega (arith, lengths)
+
+pub taken_in_range : (log : PlainLog) (n : ℕ) → IsKept log → AllByRecursion IsInRange (take n log.claims)
+taken_in_range log n kept = (all_parts IsInRange (take n log.claims) (drop n log.claims) (subst (AllByRecursion IsInRange) (sym (take-append-drop n log.claims)) kept.each)).0
+
+pub room_for_taken : (log : PlainLog) (n : ℕ) → IsKept log → HaveRoomFor (number_added (take n log.claims)) log.settled
+room_for_taken log n kept =
+    let number = kept.number in
+    let fewer = fewer_taken n log.claims in
+    room_for_all log.settled (length log.committed) (take n log.claims) kept.few (omega (arith, number, fewer)) (taken_in_range log n kept)
+
+-- all of them
+pub all_taken : (cs : List PlainClaim) (n : ℕ) → n ≡ length cs → take n cs ≡ cs
+all_taken cs n is = ap (λ (k : ℕ). take k cs) is ∙ take-length cs
+
+-- ---- an open claim
+
+module _ (log : PlainLog) (number : ℕ) (kept : IsKept log) (o : IsOpen log number) where
+  abbrev place : ℕ
+  place = number - length log.committed
+
+  abbrev parts : IsAmong log place o.claim
+  parts = among_at log place o.claim o.is
+
+  -- with the claim completed the log is kept
+  pub completed_is_kept : (status : Status) → length (added status) ≤ most_made → IsKept (with_completed log place status (after_claims (with_status status place log.claims) log.settled))
+  completed_is_kept status few = kept_with_completed log place o.claim status kept o.is o.is_open few
+
+  -- and so is each log like that one
+  pub kept_completed : (new : PlainLog) (status : Status) → length (added status) ≤ most_made → new.committed ≡ log.committed → new.settled ≡ log.settled → new.claims ≡ with_status status place log.claims → new.unclaimed ≡ after_claims (with_status status place log.claims) log.settled
+      → IsKept new
+  kept_completed new status few committed settled claims unclaimed =
+      kept_alike new (with_completed log place status (after_claims (with_status status place log.claims) log.settled)) committed settled claims unclaimed (completed_is_kept status few)
+
+  -- a claim that adds nothing leaves the unclaimed marking
+  pub left_by_none : (status : Status) → added status ≡ [] → log.unclaimed ≡ after_claims (with_status status place log.claims) log.settled
+  left_by_none status none = sym (left_where_nothing_is_added log place o.claim kept parts o.is_open status none)
+
+  -- none is behind the last one
+  none_behind : number + 1 ≡ claims_made log → parts.later ≡ []
+  none_behind last =
+      let lengths : length log.claims ≡ length parts.before + length (o.claim ∷ parts.later) = ap (λ (cs : List PlainClaim). length cs) parts.is ∙ length-append parts.before (o.claim ∷ parts.later) in
+      let at = parts.place_is in
+      let behind = o.behind in
+      empty parts.later (omega (arith, last, lengths, at, behind))
+    where
+      empty : (cs : List PlainClaim) → length cs ≡ 0 → cs ≡ []
+      empty [] none = refl
+      empty (c ∷ cs) none = absurd (omega arith)
+
+  -- the last claim adds its outputs to the unclaimed marking, where there is room for them
+  pub left_by_last : (outputs : List Made) → number + 1 ≡ claims_made log → add_made outputs log.unclaimed ≡ after_claims (with_status (done_with outputs) place log.claims) log.settled
+  left_by_last outputs last = sym (left_where_last log place o.claim kept parts o.is_open (done_with outputs) (none_behind last))
+
+  pub room_behind_last : (outputs : List Made) → number + 1 ≡ claims_made log → length outputs ≤ most_made → HaveRoomFor (length outputs) log.unclaimed
+  room_behind_last outputs last few = room_where_last log place o.claim kept parts o.is_open outputs (none_behind last) few
+
+  -- what changes then
+  pub last_changes : (outputs : List Made) → IsInOrder made_cmp outputs → AllByRecursion (λ (made : Made). made.place < length log.unclaimed) outputs → AreChanges log.unclaimed (add_made outputs log.unclaimed) (each_once (map made_change outputs))
+  last_changes outputs ordered within = added_changes outputs log.unclaimed (unclaimed_sorted log kept) ordered within
+
+  -- and what changes by the outputs of an earlier claim
+  pub earlier_changes : (outputs : List Made) (left : Marking) → IsInOrder made_cmp outputs → left ≡ after_claims (with_status (done_with outputs) place log.claims) log.settled
+      → AreChanges log.unclaimed left (each_once (filter (differs log.unclaimed left) (each_once (map made_change outputs))))
+  earlier_changes outputs left ordered is =
+      let P : Marking → Type 0 = λ m. AreChanges log.unclaimed m (each_once (filter (differs log.unclaimed m) (each_once (map made_change outputs)))) in
+      let made = after_claims (with_status (done_with outputs) place log.claims) log.settled in
+      subst P (sym is)
+      (differing_changes log.unclaimed made (each_once (map made_change outputs)) (once_in_order (map made_change outputs) (outputs_stand_in_order outputs ordered))
+      (λ p v none. others_stay log place o.claim kept parts o.is_open outputs p v (sym (told_once p v (map made_change outputs)) ∙ none)))
+
+  -- all the claims with one completed leave what they leave one after another
+  pub left_by_all : (new : PlainLog) (status : Status) (n : ℕ) (left : Marking) → new.claims ≡ with_status status place log.claims → new.settled ≡ log.settled → n ≡ length new.claims → left ≡ after_claims (take n new.claims) new.settled
+      → left ≡ after_claims (with_status status place log.claims) log.settled
+  left_by_all new status n left claims settled all is = is ∙ ap (λ m. after_claims (take n new.claims) m) settled ∙ ap (λ cs. after_claims cs log.settled) (all_taken new.claims n all ∙ claims)
+
+  -- they are in range, and there is room for what they add
+  pub all_in_range : (new : PlainLog) (outputs : List Made) (n : ℕ) → length outputs ≤ most_made → new.claims ≡ with_status (done_with outputs) place log.claims → AllByRecursion IsInRange (take n new.claims)
+  all_in_range new outputs n few claims =
+      subst (λ (cs : List PlainClaim). AllByRecursion IsInRange (take n cs)) (sym claims) (taken_in_range (with_completed log place (done_with outputs) (after_claims (with_status (done_with outputs) place log.claims) log.settled)) n (completed_is_kept (done_with outputs) few))
+
+  pub room_for_each : (new : PlainLog) (outputs : List Made) (n : ℕ) → length outputs ≤ most_made → new.claims ≡ with_status (done_with outputs) place log.claims → new.settled ≡ log.settled → HaveRoomFor (number_added (take n new.claims)) new.settled
+  room_for_each new outputs n few claims settled =
+      subst (HaveRoomFor (number_added (take n new.claims))) (sym settled)
+      (subst (λ (cs : List PlainClaim). HaveRoomFor (number_added (take n cs)) log.settled) (sym claims) (room_for_taken (with_completed log place (done_with outputs) (after_claims (with_status (done_with outputs) place log.claims) log.settled)) n (completed_is_kept (done_with outputs) few)))

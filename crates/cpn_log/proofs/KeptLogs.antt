@@ -1,0 +1,220 @@
+-- What a log keeps true stays true: at its start, with one more claim, when a claim is completed, cut or committed.
+use Rattle.std.proofs.Common.{◌≡◌, ℕ, zero, suc, ◌+◌, ◌<◌, ◌≤◌, ◌^◌, Bool, true, false, cond, List, [], ◌∷◌, ◌++◌, length, take, drop, map, Some, refl, sym, ap, subst, ◌∙◌, slice_get, arith}
+use Rattle.std.specs.List.{AllByRecursion}
+use Rattle.std.proofs.lemmas.List.{length-append, take-append-drop}
+use Rattle.cpn_definitions.specs.Bounds.{most_made}
+use Rattle.cpn_definitions.specs.Lists.{IsInOrder}
+use Rattle.cpn_definitions.specs.Marking.{Marking, tokens_at, stamps}
+use Rattle.cpn_definitions.specs.Value.{PlainValue}
+use Rattle.cpn_definitions.specs.Occurrence.{PlainElement, Needed, Made, needed_cmp, threshold, are_covered, subtract, add_made}
+use Rattle.cpn_definitions.specs.Times.{last_time}
+use Rattle.cpn_definitions.proofs.PlaceCounts.{HasUpTo, taken_up_to}
+use Rattle.cpn_definitions.proofs.Subtraction.{AllAreSorted}
+use Rattle.cpn_definitions.proofs.RisingLists.{each_implied}
+use Rattle.cpn_definitions.proofs.Addition.{places_added, sorted_added}
+use Rattle.cpn_definitions.proofs.RicherMarkings.{sorted_subtracted}
+use Rattle.cpn_tmset.specs.Limits.{HaveRoomFor}
+use Rattle.cpn_runs.specs.Bounds.{most_steps}
+use Rattle.cpn_runs.specs.HoleRun.{PlainClaim, Status, open_claim, done_with, added, marking_left, is_done}
+use Rattle.cpn_runs.proofs.Items.{split_at, all_joined, all_parts}
+use Rattle.cpn_runs.proofs.Sequences.{left_parts, left_split, marking_left_more}
+use Rattle.cpn_runs.proofs.FilledRuns.{filled_leaves, completed}
+use Rattle.cpn_log.specs.Logs.{PlainLog, claims_made, head_of, with_status, changed_to, opened, started, with_committed, next_committed_of, next_committed}
+use Rattle.cpn_log.specs.Kept.{most_left, IsInRange, IsKept}
+use Rattle.cpn_log.specs.Changed.{is_told, made_change, touched}
+use Rattle.cpn_log.specs.Exchanges.{after_claims, number_added}
+use Rattle.cpn_log.proofs.TouchedStamps.{sorted_after, untouched_after, alike_after, untouched_added}
+use Rattle.cpn_log.proofs.LeftMarkings.{left_is_after, left_sorted, after_joined, left_up_to, few_added, room_for}
+
+-- ---- the start
+
+pub kept_from_start : (m : Marking) → AllAreSorted m → HasUpTo (2 ^ 47) m → IsKept (started m)
+kept_from_start m sorted few = record { left = refl; sorted = sorted; few = λ p. (let own = few p in omega (arith, own)); number = omega arith; each = tt }
+
+-- ---- what the claims leave
+
+-- the unclaimed marking stands in order
+pub unclaimed_sorted : (log : PlainLog) → IsKept log → AllAreSorted log.unclaimed
+unclaimed_sorted log kept = subst AllAreSorted (left_is_after log.settled log.claims log.unclaimed kept.left) (left_sorted log.settled log.claims kept.sorted)
+
+-- there is room for what claims in range add, as many as may be made
+pub room_for_all : (m : Marking) (k : ℕ) (claims : List PlainClaim) → HasUpTo (most_left k) m → k + length claims ≤ most_steps → AllByRecursion IsInRange claims → HaveRoomFor (number_added claims) m
+room_for_all m k claims few number each =
+    let all = few_added claims each in room_for m (most_left k) (number_added claims) few (omega (arith, all, number))
+
+-- ---- one more claim
+
+pub kept_with_one_more
+    : (log : PlainLog) (seat : ℕ) (element : PlainElement) (time : ℕ) (needs : List Needed)
+    → IsKept log
+    → claims_made log < most_steps
+    → time ≤ last_time
+    → IsInOrder needed_cmp needs
+    → are_covered (threshold time) log.unclaimed needs ≡ true
+    → IsKept (record log { claims = log.claims ++ opened seat element time needs ∷ []; unclaimed = subtract (threshold time) needs log.unclaimed })
+kept_with_one_more log seat element time needs kept room early ordered all = record {
+  left = marking_left_more log.settled log.claims (opened seat element time needs) log.unclaimed kept.left all;
+  sorted = kept.sorted;
+  few = kept.few;
+  number = (let longer = length-append log.claims (opened seat element time needs ∷ []) in omega (arith, longer, room));
+  each = all_joined IsInRange log.claims (opened seat element time needs ∷ []) kept.each (record { in_time = early; in_order = ordered; few = omega arith }, tt);
+}
+
+-- ---- a claim is completed
+
+-- An open claim among those of a log, with those ahead of it and behind it.
+pub record IsAmong (log : PlainLog) (place : ℕ) (claim : PlainClaim) : Type 0 where
+  pub before : List PlainClaim
+  pub later : List PlainClaim
+  pub is : log.claims ≡ before ++ claim ∷ later
+  pub place_is : length before ≡ place
+  pub changed : (status : Status) → with_status status place log.claims ≡ before ++ completed status claim ∷ later
+
+pub among_at : (log : PlainLog) (place : ℕ) (claim : PlainClaim) → slice_get log.claims place ≡ Some claim → IsAmong log place claim
+among_at log place claim is =
+    let parts = split_at log.claims place claim is in
+    record { before = parts.before; later = parts.later; is = parts.is; place_is = parts.place; changed = λ status. ap (changed_to status place log.claims) is ∙ parts.changed (completed status claim) }
+
+-- the claims with one completed are in range
+completed_in_range : (before : List PlainClaim) (claim : PlainClaim) (later : List PlainClaim) (status : Status) → length (added status) ≤ most_made → AllByRecursion IsInRange (before ++ claim ∷ later) → AllByRecursion IsInRange (before ++ completed status claim ∷ later)
+completed_in_range before claim later status few each =
+    let parts = all_parts IsInRange before (claim ∷ later) each in
+    let own = parts.1.0 in
+    all_joined IsInRange before (completed status claim ∷ later) parts.0 (record { in_time = own.in_time; in_order = own.in_order; few = few }, parts.1.1)
+
+have_order : (claims : List PlainClaim) → AllByRecursion IsInRange claims → AllByRecursion (λ (claim : PlainClaim). IsInOrder needed_cmp claim.needs) claims
+have_order claims each = each_implied IsInRange (λ (claim : PlainClaim). IsInOrder needed_cmp claim.needs) claims (λ claim own. own.in_order) each
+
+-- the log with a claim completed, and what its claims leave then
+abbrev pub with_completed : PlainLog → ℕ → Status → Marking → PlainLog
+with_completed log place status left = record log { claims = with_status status place log.claims; unclaimed = left }
+
+-- the claims leave the marking that they leave one after another
+pub kept_with_completed : (log : PlainLog) (place : ℕ) (claim : PlainClaim) (status : Status) → IsKept log → slice_get log.claims place ≡ Some claim → claim.status ≡ open_claim → length (added status) ≤ most_made
+    → IsKept (with_completed log place status (after_claims (with_status status place log.claims) log.settled))
+kept_with_completed log place claim status kept is is_open few = record {
+  left = subst (λ (cs : List PlainClaim). marking_left log.settled cs ≡ Some (after_claims cs log.settled)) (sym (parts.changed status)) (leaves.1 ∙ ap Some (sym (left_is_after log.settled (parts.before ++ completed status claim ∷ parts.later) leaves.0 leaves.1)));
+  sorted = kept.sorted;
+  few = kept.few;
+  number = (let number = kept.number in omega (arith, number, lengths));
+  each = subst (AllByRecursion IsInRange) (sym (parts.changed status)) (completed_in_range parts.before claim parts.later status few each);
+}
+  where
+    parts : IsAmong log place claim
+    parts = among_at log place claim is
+
+    each : AllByRecursion IsInRange (parts.before ++ claim ∷ parts.later)
+    each = subst (AllByRecursion IsInRange) parts.is kept.each
+
+    leaves : (end : Marking) × (marking_left log.settled (parts.before ++ completed status claim ∷ parts.later) ≡ Some end)
+    leaves =
+        filled_leaves log.settled parts.before claim parts.later status log.unclaimed kept.sorted (have_order parts.later (all_parts IsInRange parts.before (claim ∷ parts.later) each).1.1) (ap added is_open)
+        (subst (λ (cs : List PlainClaim). marking_left log.settled cs ≡ Some log.unclaimed) parts.is kept.left)
+
+    lengths : length (with_status status place log.claims) ≡ length log.claims
+    lengths =
+        ap (λ (cs : List PlainClaim). length cs) (parts.changed status) ∙ length-append parts.before (completed status claim ∷ parts.later)
+        ∙ sym (length-append parts.before (claim ∷ parts.later)) ∙ ap (λ (cs : List PlainClaim). length cs) (sym parts.is)
+
+-- what was left ahead of an open claim, less its needs
+module _ (log : PlainLog) (place : ℕ) (claim : PlainClaim) (kept : IsKept log) (parts : IsAmong log place claim) (is_open : claim.status ≡ open_claim) where
+  abbrev ahead : Marking
+  ahead = subtract (threshold claim.time) claim.needs (after_claims parts.before log.settled)
+
+  ahead_sorted : AllAreSorted ahead
+  ahead_sorted = sorted_subtracted (threshold claim.time) claim.needs (after_claims parts.before log.settled) (left_sorted log.settled parts.before kept.sorted)
+
+  -- all claims with the open one, and with it completed
+  unclaimed_is : after_claims parts.later ahead ≡ log.unclaimed
+  unclaimed_is =
+      ap (λ made. after_claims parts.later (add_made made ahead)) (sym (ap added is_open))
+      ∙ sym (after_joined parts.before (claim ∷ parts.later) log.settled) ∙ ap (λ cs. after_claims cs log.settled) (sym parts.is)
+      ∙ left_is_after log.settled log.claims log.unclaimed kept.left
+
+  left_is : (status : Status) → after_claims (with_status status place log.claims) log.settled ≡ after_claims parts.later (add_made (added status) ahead)
+  left_is status = ap (λ cs. after_claims cs log.settled) (parts.changed status) ∙ after_joined parts.before (completed status claim ∷ parts.later) log.settled
+
+  -- a claim that adds nothing leaves the same
+  pub left_where_nothing_is_added : (status : Status) → added status ≡ [] → after_claims (with_status status place log.claims) log.settled ≡ log.unclaimed
+  left_where_nothing_is_added status none = left_is status ∙ ap (λ made. after_claims parts.later (add_made made ahead)) none ∙ unclaimed_is
+
+  -- the last claim adds its outputs to what is left
+  pub left_where_last : (status : Status) → parts.later ≡ [] → after_claims (with_status status place log.claims) log.settled ≡ add_made (added status) log.unclaimed
+  left_where_last status last =
+      let own : ahead ≡ log.unclaimed = ap (λ cs. after_claims cs ahead) (sym last) ∙ unclaimed_is in
+      left_is status ∙ ap (λ cs. after_claims cs (add_made (added status) ahead)) last ∙ ap (add_made (added status)) own
+
+  -- and there is room for them
+  pub room_where_last : (outputs : List Made) → parts.later ≡ [] → length outputs ≤ most_made → HaveRoomFor (length outputs) log.unclaimed
+  room_where_last outputs last few =
+      let own : ahead ≡ log.unclaimed = ap (λ cs. after_claims cs ahead) (sym last) ∙ unclaimed_is in
+      let each = (all_parts IsInRange parts.before (claim ∷ parts.later) (subst (AllByRecursion IsInRange) parts.is kept.each)).0 in
+      let up_to : HasUpTo (most_left (length log.committed) + number_added parts.before) ahead =
+      taken_up_to (threshold claim.time) claim.needs (after_claims parts.before log.settled) (most_left (length log.committed) + number_added parts.before) (left_up_to parts.before log.settled (most_left (length log.committed)) kept.few) in
+      let added_before = few_added parts.before each in
+      let number = kept.number in
+      let lengths : length log.claims ≡ length parts.before + length (claim ∷ parts.later) = ap (λ (cs : List PlainClaim). length cs) parts.is ∙ length-append parts.before (claim ∷ parts.later) in
+      subst (HaveRoomFor (length outputs)) own (room_for ahead (most_left (length log.committed) + number_added parts.before) (length outputs) up_to (omega (arith, added_before, number, lengths, few)))
+
+  -- of a value on a place for which nothing is added the stamps stay
+  pub others_stay : (outputs : List Made) (p : ℕ) (v : PlainValue) → is_told p v (map made_change outputs) ≡ false → stamps v (tokens_at (after_claims (with_status (done_with outputs) place log.claims) log.settled) p) ≡ stamps v (tokens_at log.unclaimed p)
+  others_stay outputs p v none =
+      ap (λ m. stamps v (tokens_at m p)) (left_is (done_with outputs))
+      ∙ (alike_after parts.later (add_made outputs ahead) ahead p v (added_sorted) ahead_sorted (record { places = places_added outputs ahead; stamps_are = untouched_added outputs ahead p v ahead_sorted none })).stamps_are
+      ∙ ap (λ m. stamps v (tokens_at m p)) unclaimed_is
+    where
+      added_sorted : AllAreSorted (add_made outputs ahead)
+      added_sorted = sorted_added outputs ahead ahead_sorted
+
+-- ---- claims are cut off
+
+pub kept_with_cut : (log : PlainLog) (k : ℕ) → IsKept log → k ≤ length log.claims → IsKept (record log { claims = take k log.claims; unclaimed = after_claims (take k log.claims) log.settled })
+kept_with_cut log k kept within = record {
+  left = first.1 ∙ ap Some (sym (left_is_after log.settled (take k log.claims) first.0 first.1));
+  sorted = kept.sorted;
+  few = kept.few;
+  number = (let number = kept.number in let fewer = fewer_taken k log.claims in omega (arith, number, fewer));
+  each = (all_parts IsInRange (take k log.claims) (drop k log.claims) (subst (AllByRecursion IsInRange) (sym (take-append-drop k log.claims)) kept.each)).0;
+}
+  where
+    first : (end : Marking) × (marking_left log.settled (take k log.claims) ≡ Some end)
+    first =
+        let parts = left_split log.settled (take k log.claims) (drop k log.claims) log.unclaimed (ap (marking_left log.settled) (take-append-drop k log.claims) ∙ kept.left) in
+        (parts.0, parts.1)
+
+    fewer_taken : (n : ℕ) (cs : List PlainClaim) → length (take n cs) ≤ length cs
+    fewer_taken zero cs = omega arith
+    fewer_taken (suc n) [] = omega arith
+    fewer_taken (suc n) (c ∷ cs) = let rest = fewer_taken n cs in omega (arith, rest)
+
+-- of a value on a place that the claims behind don't touch the stamps stay
+pub cut_stays : (log : PlainLog) (k : ℕ) (p : ℕ) (v : PlainValue) → IsKept log → is_told p v (touched (drop k log.claims)) ≡ false → stamps v (tokens_at (after_claims (take k log.claims) log.settled) p) ≡ stamps v (tokens_at log.unclaimed p)
+cut_stays log k p v kept none =
+    let mid = after_claims (take k log.claims) log.settled in
+    sym (untouched_after (drop k log.claims) mid p v (left_sorted log.settled (take k log.claims) kept.sorted) none)
+    ∙ ap (λ m. stamps v (tokens_at m p)) (sym (after_joined (take k log.claims) (drop k log.claims) log.settled) ∙ ap (λ cs. after_claims cs log.settled) (take-append-drop k log.claims) ∙ left_is_after log.settled log.claims log.unclaimed kept.left)
+
+-- ---- the next claim is committed
+
+pub kept_with_committed : (log : PlainLog) (claim : PlainClaim) (claims : List PlainClaim) → log.claims ≡ claim ∷ claims → IsKept log → IsKept (with_committed log claim claims)
+kept_with_committed log claim claims is kept =
+    let parts = left_parts log.settled claim claims log.unclaimed (ap (marking_left log.settled) (sym is) ∙ kept.left) in
+    let each = subst (AllByRecursion IsInRange) is kept.each in
+    record {
+      left = parts.1;
+      sorted = sorted_after claim log.settled kept.sorted;
+      few = λ p. (let up_to = left_up_to (claim ∷ []) log.settled (most_left (length log.committed)) kept.few p in let own = each.0.few in let longer = length-append log.committed (head_of claim ∷ []) in omega (arith, up_to, own, longer));
+      number = (let number = kept.number in let longer = length-append log.committed (head_of claim ∷ []) in let lengths = ap (λ (cs : List PlainClaim). length cs) is in omega (arith, number, longer, lengths));
+      each = each.1;
+    }
+
+pub kept_next : (log : PlainLog) → IsKept log → IsKept (next_committed log)
+kept_next log kept = split log.claims refl
+  where
+    split : (claims : List PlainClaim) → log.claims ≡ claims → IsKept (next_committed_of log claims)
+    split [] is = kept
+    split (claim ∷ claims) is = choose (is_done claim.status)
+      where
+        choose : (b : Bool) → IsKept (cond b (with_committed log claim claims) log)
+        choose true = kept_with_committed log claim claims is kept
+        choose false = kept

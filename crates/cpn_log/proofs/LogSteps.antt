@@ -1,0 +1,160 @@
+-- What the calls of a log do to the plain log that it stands for.
+use Rattle.std.proofs.Common.{◌≡◌, ℕ, ◌+◌, ◌-◌, ◌<◌, ◌≤◌, true, cond, List, [], ◌∷◌, ◌++◌, map, length, take, drop, get_or, refl, sym, ap, subst, ◌∙◌, arith}
+use Rattle.std.proofs.Math.ListN.{set}
+use Rattle.std.proofs.Math.Path.{ap₂}
+use Rattle.std.proofs.Math.Seq.{take-length}
+use Rattle.std.proofs.lemmas.List.{take-append-le, drop-append-le, take-map, drop-map, take_more_set, drop-set-lt, drop_more, length-drop, drop-take, take-take, drop-drop}
+use Rattle.std.proofs.lemmas.Option.{slice_get_within}
+use Rattle.cpn_definitions.specs.Marking.{Marking}
+use Rattle.cpn_definitions.specs.Lists.{IsInOrder}
+use Rattle.cpn_definitions.specs.Occurrence.{Needed, Made, needed_cmp, threshold, are_covered, subtract}
+use Rattle.cpn_definitions.specs.Times.{last_time}
+use Rattle.cpn_core.specs.Elements.{element_view}
+use Rattle.cpn_runs.specs.Bounds.{most_steps}
+use Rattle.cpn_runs.specs.HoleRun.{PlainClaim, done_with, added, is_done}
+use Rattle.cpn_runs.proofs.Items.{map_more}
+use Rattle.cpn_log.specs.Logs.{PlainHead, PlainLog, claims_made, opened, with_committed, next_committed, next_committed_of}
+use Rattle.cpn_log.specs.Kept.{IsKept}
+use Rattle.cpn_log.specs.Exchanges.{exchanged, after_claims}
+use Rattle.cpn_log.specs.ClaimViews.{claim_view, head_view, status_view}
+use Rattle.cpn_log.specs.LogViews.{log_view}
+use Rattle.cpn_log.specs.declared.claims.Claim.{Claim}
+use Rattle.cpn_log.specs.declared.claims.Course.TheVariants as courses
+use Rattle.cpn_log.specs.declared.logs.Log.{Log}
+use Rattle.cpn_log.proofs.KeptLogs.{kept_with_one_more, kept_with_cut}
+use Rattle.cpn_log.proofs.LogParts.{committed_is, behind_is, IsOpen}
+
+-- logs with the same parts are the same
+pub same_log : (a b : PlainLog) → a.committed ≡ b.committed → a.settled ≡ b.settled → a.claims ≡ b.claims → a.unclaimed ≡ b.unclaimed → a ≡ b
+same_log a b committed settled claims unclaimed =
+    let e : record { committed = a.committed; settled = a.settled; claims = a.claims; unclaimed = a.unclaimed } ≡ b
+    = ap₂ (λ (h : List PlainHead) (m : Marking). record { committed = h; settled = m; claims = a.claims; unclaimed = a.unclaimed }) committed settled
+    ∙ ap₂ (λ (cs : List PlainClaim) (u : Marking). record { committed = b.committed; settled = b.settled; claims = cs; unclaimed = u }) claims unclaimed in e
+
+-- so what is kept of one is kept of the other
+pub kept_alike : (a b : PlainLog) → a.committed ≡ b.committed → a.settled ≡ b.settled → a.claims ≡ b.claims → a.unclaimed ≡ b.unclaimed → IsKept b → IsKept a
+kept_alike a b committed settled claims unclaimed kept = subst IsKept (sym (same_log a b committed settled claims unclaimed)) kept
+
+-- ---- one more claim
+
+pub more_committed : (k : ℕ) (cs : List Claim) (c : Claim) → k ≤ length cs → map head_view (take k (cs ++ c ∷ [])) ≡ map head_view (take k cs)
+more_committed k cs c within = ap (map head_view) (take-append-le k cs (c ∷ []) within)
+
+pub more_claims : (k : ℕ) (cs : List Claim) (c : Claim) → k ≤ length cs → map claim_view (drop k (cs ++ c ∷ [])) ≡ map claim_view (drop k cs) ++ claim_view c ∷ []
+more_claims k cs c within = ap (map claim_view) (drop-append-le k cs (c ∷ []) within) ∙ map_more claim_view (drop k cs) c
+
+-- ---- the next claim is committed
+
+-- What a claim that is done hands out.
+pub record HandsOut (claim : Claim) (needs : List Needed) (time : ℕ) (outputs : List Made) : Type 0 where
+  pub needs_are : needs ≡ claim.needs
+  pub time_is : time ≡ claim.job.value.time
+  pub status_is : (claim_view claim).status ≡ done_with outputs
+
+-- the plain log of claims of which so many are committed
+abbrev pub seen : ℕ → List Claim → Marking → Marking → PlainLog
+seen k cs settled unclaimed = record { committed = map head_view (take k cs); settled = settled; claims = map claim_view (drop k cs); unclaimed = unclaimed }
+
+pub next_is
+    : (k : ℕ) (cs : List Claim) (old new : Claim) (settled later unclaimed : Marking) (needs : List Needed) (time : ℕ) (outputs : List Made)
+    → k < length cs
+    → old ≡ get_or cs k old
+    → head_view new ≡ head_view old
+    → HandsOut old needs time outputs
+    → later ≡ exchanged needs time outputs settled
+    → seen (k + 1) (set cs k new) later unclaimed ≡ next_committed (seen k cs settled unclaimed)
+next_is k cs old new settled later unclaimed needs time outputs within is head out leads =
+    same_log (seen (k + 1) (set cs k new) later unclaimed) (with_committed (seen k cs settled unclaimed) (claim_view old) behind)
+    (ap (map head_view) (take_more_set cs k new within) ∙ map_more head_view (take k cs) new ∙ ap (λ h. map head_view (take k cs) ++ h ∷ []) head)
+    (leads ∙ ap₂ (λ ns t. exchanged ns t outputs settled) out.needs_are out.time_is ∙ ap (λ s. exchanged old.needs old.job.value.time (added s) settled) (sym out.status_is))
+    (ap (map claim_view) (drop-set-lt (k + 1) cs k new (omega arith)))
+    refl
+    ∙ sym (ap (λ s. cond (is_done s) (with_committed (seen k cs settled unclaimed) (claim_view old) behind) (seen k cs settled unclaimed)) out.status_is)
+    ∙ sym (ap (next_committed_of (seen k cs settled unclaimed)) first)
+  where
+    behind : List PlainClaim
+    behind = map claim_view (drop (k + 1) cs)
+
+    first : map claim_view (drop k cs) ≡ claim_view old ∷ behind
+    first = ap (map claim_view) (drop_more cs k old within ∙ ap (λ c. c ∷ drop (k + 1) cs) (sym is))
+
+-- ---- some of the claims behind
+
+pub range_is : (log : Log) (position : ℕ) (items : List Claim) → items ≡ log.claims.items → take (position - length (log_view log).committed) (log_view log).claims ≡ map claim_view (take (position - log.committed) (drop log.committed items))
+range_is log position items is =
+    ap (λ n. take (position - n) (log_view log).claims) (committed_is log log.within) ∙ take-map claim_view (position - log.committed) (drop log.committed log.claims.items)
+    ∙ ap (λ cs. map claim_view (take (position - log.committed) (drop log.committed cs))) (sym is)
+
+-- those from a position on
+pub rest_is : (log : Log) (position : ℕ) → length (log_view log).committed ≤ position → drop (position - length (log_view log).committed) (log_view log).claims ≡ map claim_view (drop position log.claims.items)
+rest_is log position behind =
+    let committed = committed_is log log.within in
+    let at : log.committed + (position - length (log_view log).committed) ≡ position = omega (arith, committed, behind) in
+    drop-map claim_view (position - length (log_view log).committed) (drop log.committed log.claims.items)
+    ∙ ap (map claim_view) (drop-drop (position - length (log_view log).committed) log.committed log.claims.items ∙ ap (λ n. drop n log.claims.items) at)
+
+-- the claims that are left of a cut
+pub cut_claims : (log : Log) (position : ℕ) (items : List Claim) → length (log_view log).committed ≤ position → items ≡ take position log.claims.items → map claim_view (drop log.committed items) ≡ take (position - length (log_view log).committed) (log_view log).claims
+cut_claims log position items behind is =
+    let committed = committed_is log log.within in
+    let at : position ≡ log.committed + (position - log.committed) = omega (arith, committed, behind) in
+    ap (λ cs. map claim_view (drop log.committed cs)) (is ∙ ap (λ n. take n log.claims.items) at)
+    ∙ ap (map claim_view) (drop-take log.committed (position - log.committed) log.claims.items)
+    ∙ sym (range_is log position log.claims.items refl)
+
+pub cut_heads : (log : Log) (position : ℕ) (items : List Claim) → length (log_view log).committed ≤ position → items ≡ take position log.claims.items → map head_view (take log.committed items) ≡ (log_view log).committed
+cut_heads log position items behind is =
+    let committed = committed_is log log.within in
+    ap (λ cs. map head_view (take log.committed cs)) is ∙ ap (map head_view) (take-take log.committed position log.claims.items (omega (arith, committed, behind)))
+
+-- an open claim is one of the log's
+pub open_within : (log : Log) (number : ℕ) → IsOpen (log_view log) number → number < length log.claims.items
+open_within log number o =
+    let within = slice_get_within (log_view log).claims (number - length (log_view log).committed) o.claim o.is in
+    let committed = committed_is log log.within in
+    let behind = behind_is log in
+    let low = o.behind in
+    omega (arith, within, committed, behind, low)
+
+-- ---- one more claim keeps the log
+
+pub kept_pushed
+    : (log : Log) (claim : Claim) (items : List Claim) (left : Marking)
+    → claim.course ≡ courses.Open
+    → items ≡ log.claims.items ++ claim ∷ []
+    → left ≡ subtract (threshold claim.job.value.time) claim.needs log.unclaimed
+    → IsKept (log_view log)
+    → claims_made (log_view log) < most_steps
+    → claim.job.value.time ≤ last_time
+    → IsInOrder needed_cmp claim.needs
+    → are_covered (threshold claim.job.value.time) log.unclaimed claim.needs ≡ true
+    → IsKept (seen log.committed items log.settled left)
+kept_pushed log claim items left is_open is left_is kept room early ordered all =
+    let element = element_view claim.job.value.element in
+    let time = claim.job.value.time in
+    let made : claim_view claim ≡ opened claim.seat element time claim.needs = ap (λ course. record { seat = claim.seat; element = element; time = time; needs = claim.needs; status = status_view course }) is_open in
+    kept_alike (seen log.committed items log.settled left) (record (log_view log) { claims = (log_view log).claims ++ opened claim.seat element time claim.needs ∷ []; unclaimed = subtract (threshold time) claim.needs log.unclaimed })
+    (ap (λ cs. map head_view (take log.committed cs)) is ∙ more_committed log.committed log.claims.items claim log.within) refl
+    (ap (λ cs. map claim_view (drop log.committed cs)) is ∙ more_claims log.committed log.claims.items claim log.within ∙ ap (λ k. (log_view log).claims ++ k ∷ []) made) left_is
+    (kept_with_one_more (log_view log) claim.seat element time claim.needs kept room early ordered all)
+
+-- ---- a cut keeps the log
+
+pub kept_cut : (log : Log) (position : ℕ) (items : List Claim) (left : Marking) → length (log_view log).committed ≤ position → position ≤ claims_made (log_view log) → items ≡ take position log.claims.items
+    → left ≡ after_claims (take (position - length (log_view log).committed) (log_view log).claims) log.settled → IsKept (log_view log) → IsKept (seen log.committed items log.settled left)
+kept_cut log position items left behind within is left_is kept =
+    let n = position - length (log_view log).committed in
+    kept_alike (seen log.committed items log.settled left) (record (log_view log) { claims = take n (log_view log).claims; unclaimed = after_claims (take n (log_view log).claims) log.settled })
+    (cut_heads log position items behind is) refl (cut_claims log position items behind is) left_is
+    (kept_with_cut (log_view log) n kept (omega (arith, within)))
+
+-- up to the last position all are behind
+pub all_behind : (log : Log) (n : ℕ) → n ≡ length log.claims.items → n - length (log_view log).committed ≡ length (log_view log).claims
+all_behind log n is = let committed = committed_is log log.within in let behind = behind_is log in omega (arith, committed, behind, is)
+
+pub behind_all : (log : Log) (n : ℕ) → n ≡ length log.claims.items → length (log_view log).committed ≤ n
+behind_all log n is = let committed = committed_is log log.within in let within = log.within in omega (arith, committed, within, is)
+
+-- the whole rest of a list
+pub whole_rest : (n : ℕ) (cs : List Claim) → take (length cs - n) (drop n cs) ≡ drop n cs
+whole_rest n cs = ap (λ (k : ℕ). take k (drop n cs)) (sym (length-drop n cs)) ∙ take-length (drop n cs)

@@ -1,0 +1,23 @@
+-- A fault adds nothing: the log stays kept with the same unclaimed marking.
+use Rattle.std.proofs.Common.{refl, ◌∙◌, arith}
+use Rattle.cpn_core.specs.Faults.{fault_view}
+use Rattle.cpn_runs.specs.HoleRun.{faulted_with}
+use Rattle.cpn_log.specs.LogViews.{log_view}
+use Rattle.cpn_log.proofs.LogParts.{open_at}
+use Rattle.cpn_log.proofs.LogSteps.{open_within}
+use Rattle.cpn_log.proofs.Completions.{kept_completed, left_by_none}
+use Rattle.cpn_log.proofs.logs.Log.fail.Goals as goal
+
+pub complete-requires-clause-within : goal.complete-requires-clause-within
+complete-requires-clause-within c = open_within c.args.self.now c.args.number (open_at (log_view c.args.self.now) c.args.number c.requires.open)
+
+pub complete-requires-clause-behind : goal.complete-requires-clause-behind
+complete-requires-clause-behind c = (open_at (log_view c.args.self.now) c.args.number c.requires.open).behind
+
+pub returns-clause-kept : goal.returns-clause-kept
+returns-clause-kept c =
+    let log = log_view c.args.self.now in
+    let o = open_at log c.args.number c.requires.open in
+    let status = faulted_with (fault_view c.args.fault) in
+    kept_completed log c.args.number c.requires.kept o (log_view c.complete.new.self) status (omega arith) c.complete.ensures.committed c.complete.ensures.settled c.complete.ensures.completed
+    (c.complete.ensures.unclaimed ∙ left_by_none log c.args.number c.requires.kept o status refl)

@@ -1,0 +1,146 @@
+//! Of which values on which places the stamps changed.
+
+ghost use Rattle.std.specs.Prelude.{◌≡◌, map, length, IfOk, OnOk};
+ghost use Rattle.std.specs.List.{filter, slice_get};
+ghost use Rattle.cpn_definitions.specs.Lists.{IsInOrder};
+ghost use Rattle.cpn_definitions.specs.Marking.{stamps, tokens_at};
+ghost use Rattle.cpn_definitions.specs.Occurrence.{made_cmp, needed_cmp};
+ghost use Rattle.cpn_core.specs.Views.{value_view};
+ghost use Rattle.cpn_log.specs.Changed.{and_then, differs, each_once, ends_with, made_change, need_change, same_stamps};
+ghost use Rattle.cpn_log.specs.ChangedViews.{change_views, changes_view};
+
+use cpn_core::{Memory, Needs, Outputs, Value};
+use cpn_tmset::Marking;
+use std::alloc::Global;
+
+/// A value on a place.
+#[derive(Drop)]
+pub struct Change {
+    /// The number of the place.
+    pub place: u32,
+    /// The value.
+    pub value: Value,
+}
+
+/// The places and values whose time stamps changed, each once, by place and then by value.
+///
+/// Source: own choice.
+#[derive(Drop)]
+pub struct Changes {
+    items: Vec<Change>,
+}
+
+impl Changes {
+    /// The places and values, in their order.
+    pub fn items(&self) -> &[Change]
+        ensures { change_views result.now ≡ changes_view self.now }
+    {
+        self.items.as_slice()
+    }
+
+    /// Those of needs, each once.
+    pub(crate) fn of_needs(alloc: Global, needs: &Needs) -> Result<Changes, Memory>
+        ensures told { IfOk result (λ changes. changes_view changes ≡ each_once (map need_change needs.now)) }
+        ensures in_order { IsInOrder needed_cmp needs.now }
+    {
+        let tokens = needs.tokens();
+        let mut items = Vec::new(alloc);
+        for need in tokens {
+            tell(&mut items, need.place, &need.value)?;
+        }
+        Ok(Changes { items })
+    }
+
+    /// Those of outputs, each once.
+    pub(crate) fn of_outputs(alloc: Global, outputs: &Outputs) -> Result<Changes, Memory>
+        ensures told { IfOk result (λ changes. changes_view changes ≡ each_once (map made_change outputs.now)) }
+        ensures in_order { IsInOrder made_cmp outputs.now }
+    {
+        let tokens = outputs.tokens();
+        let mut items = Vec::new(alloc);
+        for made in tokens {
+            tell(&mut items, made.place, &made.value)?;
+        }
+        Ok(Changes { items })
+    }
+
+    /// Those of the items whose stamps differ in the two markings, each once.
+    pub(crate) fn among(
+        alloc: Global,
+        touched: &[Change],
+        old: &Marking,
+        new: &Marking,
+    ) -> Result<Changes, Memory>
+        ensures { IfOk result (λ changes. changes_view changes ≡ each_once (filter (differs old.now new.now) (change_views touched.now))) }
+    {
+        let mut items = Vec::new(alloc);
+        for change in touched {
+            if !have_same_stamps(old, new, change) {
+                tell(&mut items, change.place, &change.value)?;
+            }
+        }
+        Ok(Changes { items })
+    }
+}
+
+// Appends the value on the place, unless it stands last already.
+fn tell(items: &mut Vec<Change>, place: u32, value: &Value) -> Result<(), Memory>
+    ensures { OnOk result (change_views items.new.items ≡ and_then (record { place = place; value = value_view value.now }) (change_views items.old.items)) }
+{
+    if !stands_last(items.as_slice(), place, value) {
+        items.push(Change {
+            place,
+            value: value.copy()?,
+        })?;
+    }
+    Ok(())
+}
+
+// Whether the last item is the value on the place.
+fn stands_last(items: &[Change], place: u32, value: &Value) -> bool
+    ensures { result ≡ ends_with (record { place = place; value = value_view value.now }) (change_views items.now) }
+{
+    match items.last() {
+        Some(last) => place == last.place && *value == last.value,
+        None => false,
+    }
+}
+
+// Whether the value has the same stamps on the place in both markings.
+fn have_same_stamps(old: &Marking, new: &Marking, change: &Change) -> bool
+    ensures { result ≡ same_stamps (stamps (value_view change.now.value) (tokens_at old.now change.now.place)) (stamps (value_view change.now.value) (tokens_at new.now change.now.place)) }
+{
+    let most = tokens_on(old, change.place);
+    for rank in 0..most {
+        match stamp_at(old, change, rank) {
+            None => return stamp_at(new, change, rank).is_none(),
+            Some(stamp) => match stamp_at(new, change, rank) {
+                None => return false,
+                Some(other) => {
+                    if stamp != other {
+                        return false;
+                    }
+                }
+            },
+        }
+    }
+    stamp_at(new, change, most).is_none()
+}
+
+// How many tokens stand on the place; none past the last one.
+fn tokens_on(marking: &Marking, place: u32) -> u64
+    ensures { result ≡ length (tokens_at marking.now place) }
+{
+    match marking.get(place as usize) {
+        Some(held) => held.total(),
+        None => 0,
+    }
+}
+
+// The stamp at a rank, from 0, among those of the value on the place.
+fn stamp_at(marking: &Marking, change: &Change, rank: u64) -> Option<u64>
+    ensures { result ≡ slice_get (stamps (value_view change.now.value) (tokens_at marking.now change.now.place)) rank }
+{
+    let held = marking.get(change.place as usize)?;
+    held.stamp(&change.value, rank)
+}
