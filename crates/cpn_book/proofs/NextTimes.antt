@@ -81,6 +81,22 @@ one_is_ready time (y ∷ xs) x here is = by (λ later. one_is_ready time xs x la
     by rest false other (inl same) = absurd (clash (y.earliest == time) (eq-eqb y.earliest time (ap (λ (z : PlainEntry). z.earliest) same ∙ is)) other)
     by rest false other (inr later) = rest later
 
+-- where nothing is ready, nothing is covered at the clock
+pub none_is_covered : (n : PlainNet) (m : Marking) (clock : ℕ) (entries : List PlainEntry) → Enabled n m clock entries → length (ready clock entries) ≡ 0 → (e : PlainElement) → covered n m clock e ≡ false
+none_is_covered n m clock entries enabled none e = ⊎_elim (λ yes. absurd (some yes)) (λ no. no) (either_way (covered n m clock e))
+  where
+    some : covered n m clock e ≡ true → ⊥
+    some is =
+        let y = has_entry n m clock clock e is in
+        now y.0 y.1 y.2 (cases_lt clock y.0.earliest)
+      where
+        now : (x : PlainEntry) → x.element ≡ e → IsEarliest n m clock x → (clock < x.earliest) ⊎ (x.earliest ≤ clock) → ⊥
+        now x same earliest (inl late) = clash (covered n m clock e) is (subst (λ f. covered n m clock f ≡ false) same (earliest.not_earlier clock (omega arith) late))
+        now x same earliest (inr early) =
+            let from = earliest.not_before in
+            let one = one_is_ready clock entries x (in_from_contains entries x ((enabled.exact x).1 earliest)) (omega (arith, from, early)) in
+            omega (arith, one, none)
+
 module _ (n : PlainNet) (m : Marking) (clock time : ℕ) (entries : List PlainEntry) (enabled : Enabled n m clock entries) (next : next_time entries ≡ Some time) where
   -- the entry that has the next time
   there : (x : PlainEntry) × IsIn x entries × (x.earliest ≡ time)

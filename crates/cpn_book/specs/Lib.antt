@@ -1,4 +1,9 @@
-pub mod Progress
-pub mod Playable
-pub mod Books
+pub mod Evaluations
+pub mod Tickets
+pub mod Works
+pub mod Standings
 pub mod Shown
+pub mod Books
+pub mod States
+pub mod Answers
+pub mod Steps

@@ -1,100 +1,362 @@
-//! Books: runs of one seat, from their start to their end.
+//! Books: runs under way, by the claims, completions and moves of the clock that their seats ask for.
 
-ghost use Rattle.std.specs.Prelude.{◌≡◌, ◌-◌, ◌^◌, ◌≤◌, map, IfOk};
-ghost use Rattle.cpn_definitions.specs.Bounds.{IsBounded};
-ghost use Rattle.cpn_runs.specs.Run.{IsRun};
+ghost use Rattle.std.specs.Prelude.{◌≡◌, ◌≢◌, ℕ, ◌+◌, ◌<◌, ◌≤◌, ◌++◌, Some, None, true, false, List, [], ◌∷◌, length, map, take, slice_get, IfOk, OnOk, OnErr, IsOk, vec_len, vec_capacity};
+ghost use Rattle.std.specs.List.{count_by};
+ghost use Rattle.std.specs.Option.{is_some, option_map};
 ghost use Rattle.cpn_core.specs.Elements.{entry_view};
-ghost use Rattle.cpn_runs.specs.Views.{end_view};
-ghost use Rattle.cpn_runs.specs.FinishedViews.{setup_view, outlook_view, finished_view};
-ghost use Rattle.cpn_book.specs.Playable.{IsPlayable};
-ghost use Rattle.cpn_book.specs.Books.{setup_in};
-ghost use Rattle.cpn_book.specs.Shown.{shown};
+ghost use Rattle.cpn_definitions.specs.Enabled.{Enabled, next_time, ready};
+ghost use Rattle.cpn_jobs.specs.Views.{job_view};
+ghost use Rattle.cpn_log.specs.Logs.{claims_made};
+ghost use Rattle.cpn_log.specs.LogViews.{log_view, jobs_in};
+ghost use Rattle.cpn_runs.specs.FinishedViews.{setup_view};
+ghost use Rattle.cpn_runs.specs.Playable.{IsPlayable};
+ghost use Rattle.cpn_runs.specs.State.{PlainEvent, PlainOccurrence, claim_made, claim_completed, clock_moved};
+ghost use Rattle.cpn_book.specs.Answers.{AnswersClaim, claim_events, MayClaimNext, AnswersEvaluation, IsNotCut, AnswersAdvance, move_events, AnswersFinish};
+ghost use Rattle.cpn_book.specs.Books.{setup_in, journal_in, index_in, committed_in, is_spent_in, InState, IsBook, IsRunning};
+ghost use Rattle.cpn_book.specs.Standings.{IsAt, StillCommitted, cut_view, events_in};
+ghost use Rattle.cpn_book.specs.States.{cut_events};
+ghost use Rattle.cpn_book.specs.Steps.{Follows, IsMovedFrom, IsSpentFrom, IsStranger, Moves};
+ghost use Rattle.cpn_book.specs.Tickets.{number_of, job_of, evaluated_number, evaluated_job};
+ghost use Rattle.cpn_book.specs.declared.standings.Cut.{Cut};
 
-use crate::clock::reach_next_time;
-use crate::outlooks::outlook;
-use crate::rounds::play_round;
-use crate::run_progress::Progress;
+use crate::answers::{Advanced, Claimed, Completed, Finish};
+use crate::claiming::open_claim;
+use crate::completing::complete_claim;
+use crate::outlooks::{next_time, outlook, ready_count};
+use crate::standings::{Standing, at_start};
+use crate::tickets::{Evaluated, Ticket};
 use cpn_core::{Entry, Memory};
-use cpn_draw::Draw;
-use cpn_runs::{End, Finished, Outlook, Setup};
+use cpn_jobs::{Work, works_of};
+use cpn_runs::{Event, Outlook, Setup};
 use cpn_search::enabled;
+use cpn_tmset::Marking;
 use std::alloc::Global;
+use std::sync::Arc;
 
-/// A run of one seat.
+/// A run under way, of 1 to 64 seats.
 ///
-/// Source: own choice.
+/// A seat claims a ready element, and has the claim open until its evaluation completes it; it may hold one open claim. Several seats
+/// may hold claims at the same time and complete them in any order. A call that wants memory makes the book spent: its journal is
+/// the one from before that call, what was committed stands, and each later call that may take memory wants memory too.
+///
+/// Source: own choice. Each call is made on a book that `start` gave and that other calls changed (`IsBook`); a clause speaks of the
+/// state that the book's journal leads to (`InState`), which is that of the definitions.
 #[derive(Drop)]
 pub struct Book {
-    alloc: Global,
-    setup: Setup,
+    pub(crate) alloc: Global,
+    pub(crate) setup: Setup,
+    pub(crate) works: Vec<Arc<Work>>,
+    pub(crate) standing: Standing,
+    pub(crate) opening: Outlook,
+    pub(crate) entries: Vec<Entry>,
+    pub(crate) spent: bool,
 }
 
 impl Book {
-    /// A book at the start of its run. It takes no memory.
-    pub fn start(alloc: Global, setup: Setup) -> Book
+    /// A book at the start of its run, with no event.
+    ///
+    /// # Errors
+    ///
+    /// `Memory` where memory is wanted.
+    pub fn start(alloc: Global, setup: Setup) -> Result<Book, Memory>
         requires playable { IsPlayable (setup_view setup) }
-        ensures setup { setup_in result ≡ setup_view setup }
+        ensures kept { IfOk result (λ book. IsBook book) }
+        ensures setup { IfOk result (λ book. setup_in book ≡ setup_view setup) }
+        ensures journal { IfOk result (λ book. journal_in book ≡ []) }
+        ensures unspent { IfOk result (λ book. is_spent_in book ≡ false) }
     {
-        Book { alloc, setup }
-    }
-
-    /// The run from its start to its end, each claim being completed before the next is made, and the clock moving where
-    /// nothing is ready: until the limit of claims is reached, nothing is enabled at any time, nothing is enabled up to the
-    /// last time that the run may reach, or the outputs of an element have a fault.
-    pub fn run_alone(self) -> Result<Finished, Memory>
-        requires playable { IsPlayable (setup_in self) }
-        ensures setup { IfOk result (λ f. setup_view f.setup ≡ setup_in self) }
-        // The journal leads to a state that ends by the cause, the occurrences are a legal occurrence sequence,
-        // a fault is that of an element that is covered at the end, and the rest is what that state has.
-        ensures run { IfOk result (λ f. IsRun (setup_in self) (finished_view f)) }
-        // The clock does not pass the last time that the run may reach.
-        ensures in_time { IfOk result (λ f. f.clock ≤ self.setup.limits.until) }
-        // On each place there are fewer than 2^48 tokens, with time stamps of at most three times the last time.
-        ensures bounded { IfOk result (λ f. IsBounded (2 ^ 48 - 1) f.marking) }
-    {
-        let Book { alloc, setup } = self;
-        let mut progress = Progress {
-            clock: setup.clock,
-            marking: setup.start.copy()?,
-            occurrences: Vec::new(alloc),
-            journal: Vec::new(alloc),
-            draw: Draw::new(setup.seed),
-        };
-        let mut entries = enabled(alloc, &setup.net, &progress.marking, setup.clock)?;
+        let works = works_of(alloc, &setup.net)?;
+        let mut standing = at_start(alloc, &setup)?;
+        standing.journal.reserve(1)?;
+        let entries = enabled(alloc, &setup.net, standing.log.unclaimed(), setup.clock)?;
         let opening = outlook(&entries, setup.clock);
-        'rounds: for _number in 0..setup.limits.steps {
-            if let Some(cause) = reach_next_time(&setup, &entries, &mut progress)? {
-                return Ok(finished(setup, progress, opening, &entries, cause));
-            }
-            if let Some(cause) = play_round(alloc, &setup, &entries, &mut progress)? {
-                return Ok(finished(setup, progress, opening, &entries, cause));
-            }
-            entries = enabled(alloc, &setup.net, &progress.marking, progress.clock)?;
-        }
-        Ok(finished(setup, progress, opening, &entries, End::Steps))
+        Ok(Book {
+            alloc,
+            setup,
+            works,
+            standing,
+            opening,
+            entries,
+            spent: false,
+        })
     }
-}
 
-/// The run that has ended, with what is enabled at its end.
-fn finished(
-    setup: Setup,
-    progress: Progress,
-    opening: Outlook,
-    entries: &[Entry],
-    cause: End,
-) -> Finished
-    ensures setup { setup_view result.setup ≡ setup_view setup }
-    ensures shown { finished_view result ≡ shown (setup_view setup) progress (outlook_view opening) (map entry_view entries.now) (end_view cause) }
-{
-    let closing = outlook(entries, progress.clock);
-    Finished {
-        setup,
-        opening,
-        journal: progress.journal,
-        occurrences: progress.occurrences,
-        marking: progress.marking,
-        clock: progress.clock,
-        cause,
-        closing,
+    /// The next claim, of a seat below the number of seats: on the element that the seed's next word draws from the ready ones.
+    ///
+    /// # Errors
+    ///
+    /// `Memory` where the book is spent; else only where a ticket is due, and the book is then spent.
+    pub fn claim(&mut self, seat: u32) -> Result<Claimed, Memory>
+        requires kept { IsBook self.old }
+        requires known { seat < (setup_in self.old).limits.seats }
+        ensures kept { IsBook self.new }
+        ensures setup { setup_in self.new ≡ setup_in self.old }
+        ensures answer { IfOk result (λ answer. InState self.old (λ state. AnswersClaim (setup_in self.old) state seat answer)) }
+        ensures events { IfOk result (λ answer. journal_in self.new ≡ journal_in self.old ++ claim_events seat answer) }
+        ensures unspent { OnOk result (is_spent_in self.old ≡ false) }
+        ensures unspent_still { OnOk result (is_spent_in self.new ≡ false) }
+        ensures unchanged { IfOk result (λ answer. claim_events seat answer ≡ [] → self.new ≡ self.old) }
+        ensures due { OnErr result (is_spent_in self.old ≡ false → InState self.old (λ state. MayClaimNext (setup_in self.old) state seat)) }
+        ensures spent { OnErr result (is_spent_in self.new ≡ true) }
+        ensures index_gone { OnErr result (is_spent_in self.old ≡ false → index_in self.new ≡ []) }
+        ensures events_stay { OnErr result (journal_in self.new ≡ journal_in self.old) }
+        ensures committed { (more : List PlainOccurrence) × (committed_in self.new ≡ committed_in self.old ++ more) }
+    {
+        if self.spent {
+            return Err(Memory);
+        }
+        if self.standing.cut.is_some() {
+            return Ok(Claimed::Over);
+        }
+        if self.standing.log.len() == self.setup.limits.steps {
+            return Ok(Claimed::StepLimit);
+        }
+        if let Some(number) = self.standing.held_by(seat) {
+            return Ok(Claimed::Busy { number });
+        }
+        if self.ready() == 0 {
+            let held = self.standing.open();
+            return Ok(Claimed::Nothing { held });
+        }
+        let events = self.standing.journal.len();
+        match self.claim_ready(seat) {
+            Ok(ticket) => Ok(Claimed::Ticket(ticket)),
+            Err(Memory) => {
+                self.spend(events);
+                Err(Memory)
+            }
+        }
+    }
+
+    /// Completes the claim that a seat holds, by its evaluation.
+    ///
+    /// # Errors
+    ///
+    /// `Memory` where the book is spent; else only where no cut stands at or below the claim's number, and the book is then spent.
+    pub fn complete(&mut self, seat: u32, done: Evaluated) -> Result<Completed, Memory>
+        requires kept { IsBook self.old }
+        ensures kept { IsBook self.new }
+        ensures setup { setup_in self.new ≡ setup_in self.old }
+        ensures answer { IfOk result (λ answer. AnswersEvaluation self.old self.new seat done answer) }
+        ensures unspent { OnOk result (is_spent_in self.old ≡ false) }
+        ensures unspent_still { OnOk result (is_spent_in self.new ≡ false) }
+        ensures unchanged { IfOk result (λ answer. answer ≢ Completed.Done → self.new ≡ self.old) }
+        ensures not_void { OnErr result (is_spent_in self.old ≡ false → InState self.old (λ state. IsNotCut state (evaluated_number done))) }
+        ensures spent { OnErr result (is_spent_in self.new ≡ true) }
+        ensures index_gone { OnErr result (is_spent_in self.old ≡ false → index_in self.new ≡ []) }
+        ensures events_stay { OnErr result (journal_in self.new ≡ journal_in self.old) }
+        ensures committed { (more : List PlainOccurrence) × (committed_in self.new ≡ committed_in self.old ++ more) }
+    {
+        if self.spent {
+            return Err(Memory);
+        }
+        if let Some(number) = self.standing.cut_below(done.number) {
+            return Ok(Completed::Void { number });
+        }
+        let events = self.standing.journal.len();
+        match self.complete_uncut(seat, done) {
+            Ok(answer) => Ok(answer),
+            Err(Memory) => {
+                self.spend(events);
+                Err(Memory)
+            }
+        }
+    }
+
+    /// Moves the clock, where nothing is ready and no claim is open, to the least time at which an element is enabled. It takes no
+    /// memory.
+    pub fn advance(&mut self) -> Advanced
+        requires kept { IsBook self.old }
+        ensures kept { IsBook self.new }
+        ensures setup { setup_in self.new ≡ setup_in self.old }
+        ensures answer { is_spent_in self.old ≡ false → InState self.old (λ state. AnswersAdvance (setup_in self.old) state result) }
+        ensures events { journal_in self.new ≡ journal_in self.old ++ move_events result }
+        ensures unchanged { move_events result ≡ [] → self.new ≡ self.old }
+        ensures spent { is_spent_in self.old ≡ true → result ≡ Advanced.Spent }
+        ensures spent_still { is_spent_in self.new ≡ is_spent_in self.old }
+    {
+        if self.spent {
+            return Advanced::Spent;
+        }
+        if self.standing.cut.is_some() {
+            return Advanced::Over;
+        }
+        if self.standing.log.len() == self.setup.limits.steps {
+            return Advanced::StepLimit;
+        }
+        if self.ready() > 0 {
+            return Advanced::Ready;
+        }
+        let open = self.standing.open();
+        if open > 0 {
+            return Advanced::Open(open);
+        }
+        self.move_clock()
+    }
+
+    /// What the run shows, where it has ended. It takes no memory.
+    pub fn finish(self) -> Finish
+        requires kept { IsBook self }
+        ensures answer { AnswersFinish self result }
+    {
+        if self.spent {
+            return Finish::Spent;
+        }
+        if self.standing.open() > 0 {
+            return Finish::Running(self);
+        }
+        let mut book = self;
+        match book.take_end() {
+            Some(cause) => Finish::Ended(book.ended(cause)),
+            None => Finish::Running(book),
+        }
+    }
+
+    // The claim of a seat that holds none, where something is ready.
+    fn claim_ready(&mut self, seat: u32) -> Result<Ticket, Memory>
+        requires kept { IsBook self.old }
+        requires running { IsRunning self.old }
+        requires known { seat < (setup_in self.old).limits.seats }
+        requires uncut { self.old.standing.cut ≡ None }
+        requires below { claims_made (log_view self.old.standing.log) < self.old.setup.limits.steps }
+        requires free { slice_get self.old.standing.held.items seat ≡ Some None }
+        requires some { 0 < length (ready self.old.standing.clock (map entry_view self.old.entries.items)) }
+        ensures running { OnOk result (IsRunning self.new) }
+        ensures events { IfOk result (λ ticket. journal_in self.new ≡ journal_in self.old ++ claim_made seat (number_of ticket) ∷ []) }
+        ensures number { IfOk result (λ ticket. number_of ticket ≡ claims_made (log_view self.old.standing.log)) }
+        ensures job { IfOk result (λ ticket. slice_get (map job_view (jobs_in self.new.standing.log)) (number_of ticket) ≡ Some (job_of ticket)) }
+        ensures follows { Follows self.old self.new }
+    {
+        let ticket = open_claim(
+            self.alloc,
+            &self.setup,
+            &self.works,
+            &self.entries,
+            &mut self.standing,
+            seat,
+        )?;
+        self.search()?;
+        Ok(ticket)
+    }
+
+    // The answer to an evaluation, where no cut stands at or below its number.
+    fn complete_uncut(&mut self, seat: u32, done: Evaluated) -> Result<Completed, Memory>
+        requires kept { IsBook self.old }
+        requires running { IsRunning self.old }
+        requires uncut { (cut : Cut) → self.old.standing.cut ≡ Some cut → evaluated_number done < cut.number }
+        ensures answer { IfOk result (λ answer. AnswersEvaluation self.old self.new seat done answer) }
+        ensures unchanged { IfOk result (λ answer. answer ≢ Completed.Done → self.new ≡ self.old) }
+        ensures running { OnOk result (IsRunning self.new) }
+        ensures follows { Follows self.old self.new }
+    {
+        if self.standing.is_held(seat, &done) {
+            self.complete_held(seat, done)
+        } else {
+            self.stranger(done)
+        }
+    }
+
+    // The completion of the claim that a seat holds.
+    fn complete_held(&mut self, seat: u32, done: Evaluated) -> Result<Completed, Memory>
+        requires kept { IsBook self.old }
+        requires running { IsRunning self.old }
+        requires held { slice_get self.old.standing.held.items seat ≡ Some (Some (evaluated_number done)) }
+        requires job { slice_get (map job_view (jobs_in self.old.standing.log)) (evaluated_number done) ≡ Some (evaluated_job done) }
+        ensures done { IfOk result (λ answer. answer ≡ Completed.Done) }
+        ensures running { OnOk result (IsRunning self.new) }
+        ensures events { OnOk result (journal_in self.new ≡ journal_in self.old ++ claim_completed seat (evaluated_number done) ∷ cut_events (option_map cut_view self.new.standing.cut)) }
+        ensures follows { Follows self.old self.new }
+    {
+        complete_claim(&self.setup, &mut self.standing, seat, done)?;
+        self.search()?;
+        Ok(Completed::Done)
+    }
+
+    // The answer to an evaluation of no open claim of the seat.
+    fn stranger(&self, done: Evaluated) -> Result<Completed, Memory>
+        ensures stranger { IfOk result (λ answer. IsStranger self.now.standing.log done answer) }
+    {
+        let kept = match self.standing.open_job(done.number) {
+            Some(job) => Some(job.clone()?),
+            None => None,
+        };
+        Ok(Completed::Stranger {
+            kept,
+            brought: done,
+        })
+    }
+
+    // The move of the clock, where nothing is ready and no claim is open.
+    fn move_clock(&mut self) -> Advanced
+        requires running { IsRunning self.old }
+        requires none_ready { length (ready self.old.standing.clock (map entry_view self.old.entries.items)) ≡ 0 }
+        requires none_open { count_by is_some self.old.standing.held.items ≡ 0 }
+        requires uncut { self.old.standing.cut ≡ None }
+        requires below { claims_made (log_view self.old.standing.log) < self.old.setup.limits.steps }
+        ensures moves { Moves self.old self.new result }
+    {
+        let Some(time) = next_time(&self.entries) else {
+            return Advanced::Dead;
+        };
+        if self.setup.limits.until < time {
+            return Advanced::Until(time);
+        }
+        self.move_to(time);
+        Advanced::Moved(time)
+    }
+
+    /// Moves the clock to the next time, where nothing is ready and no claim is open.
+    pub(crate) fn move_to(&mut self, time: u64)
+        requires running { IsRunning self.old }
+        requires none_ready { length (ready self.old.standing.clock (map entry_view self.old.entries.items)) ≡ 0 }
+        requires none_open { count_by is_some self.old.standing.held.items ≡ 0 }
+        requires uncut { self.old.standing.cut ≡ None }
+        requires below { claims_made (log_view self.old.standing.log) < self.old.setup.limits.steps }
+        requires next { next_time (map entry_view self.old.entries.items) ≡ Some time }
+        requires in_time { time ≤ self.old.setup.limits.until }
+        ensures running { IsRunning self.new }
+        ensures events { journal_in self.new ≡ journal_in self.old ++ clock_moved time ∷ [] }
+        ensures ready { 0 < length (ready self.new.standing.clock (map entry_view self.new.entries.items)) }
+        ensures same { IsMovedFrom self.old self.new }
+    {
+        self.standing.journal.push_reserved(Event::Move { time });
+        self.standing.clock = time;
+    }
+
+    /// How many elements are ready.
+    pub(crate) fn ready(&self) -> u64
+        ensures { result ≡ length (ready self.now.standing.clock (map entry_view self.now.entries.items)) }
+    {
+        ready_count(&self.entries, self.standing.clock)
+    }
+
+    /// Lists anew what is enabled in the unclaimed marking.
+    pub(crate) fn search(&mut self) -> Result<(), Memory>
+        requires playable { IsPlayable (setup_in self.old) }
+        requires at { IsAt (setup_in self.old) self.old.standing }
+        requires room { vec_len self.old.standing.journal < vec_capacity self.old.standing.journal }
+        ensures running { OnOk result (IsRunning self.new) }
+        ensures standing { self.new.standing ≡ self.old.standing }
+        ensures same { self.new ≡ record self.old { entries = self.new.entries } }
+    {
+        self.entries = enabled(
+            self.alloc,
+            &self.setup.net,
+            self.standing.log.unclaimed(),
+            self.standing.clock,
+        )?;
+        Ok(())
+    }
+
+    // The book is spent: its journal is the one of so many events that it was, and its list of what is enabled is dropped.
+    fn spend(&mut self, events: usize)
+        ensures spent { is_spent_in self.new ≡ true }
+        ensures index_gone { index_in self.new ≡ [] }
+        ensures events { self.new.standing.journal.items ≡ take events self.old.standing.journal.items }
+        ensures same { IsSpentFrom self.old self.new }
+    {
+        self.standing.journal.truncate(events);
+        self.entries.clear();
+        self.spent = true;
     }
 }

@@ -1,13 +1,21 @@
-//! The pure state machine of a run: from a setup, events change its state one after another.
+//! The pure state machine of a run: by the calls of its seats, claims and completions change its state one event after another.
 //!
-//! The crate has no threads, prints nothing, and knows no document. What a run does is stated by the
-//! definitions of states and legal sequences; the search for enabled elements is the layer's below.
+//! A seat claims a ready element and gets a ticket; the ticket is evaluated, with no book at hand; and the evaluation completes the
+//! claim, in any order with those of other seats. The crate has no threads, prints nothing, and knows no document. What a call
+//! answers is stated by the definitions of states; the search for enabled elements is the layer's below.
 #![tactic(auto)]
 
+mod alone;
+mod answers;
 mod books;
-mod clock;
+mod claiming;
+mod completing;
+mod ends;
 mod outlooks;
-mod rounds;
-mod run_progress;
+mod readers;
+mod standings;
+mod tickets;
 
+pub use answers::{Advanced, Claimed, Completed, Finish};
 pub use books::Book;
+pub use tickets::{Evaluated, Ticket};

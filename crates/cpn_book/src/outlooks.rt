@@ -10,7 +10,7 @@ use cpn_core::Entry;
 use cpn_runs::Outlook;
 
 /// The number of the ready entries, and the next time.
-pub fn outlook(entries: &[Entry], clock: u64) -> Outlook
+pub(crate) fn outlook(entries: &[Entry], clock: u64) -> Outlook
     ensures outlook { outlook_view result ≡ outlook_at clock (map entry_view entries.now) }
 {
     Outlook {
@@ -20,7 +20,7 @@ pub fn outlook(entries: &[Entry], clock: u64) -> Outlook
 }
 
 /// How many entries are ready.
-pub fn ready_count(entries: &[Entry], clock: u64) -> u64
+pub(crate) fn ready_count(entries: &[Entry], clock: u64) -> u64
     ensures { result ≡ length (ready clock (map entry_view entries.now)) }
 {
     let mut count = 0u64;
@@ -33,7 +33,7 @@ pub fn ready_count(entries: &[Entry], clock: u64) -> u64
 }
 
 /// The least earliest time, `None` where nothing is enabled at any time.
-pub fn next_time(entries: &[Entry]) -> Option<u64>
+pub(crate) fn next_time(entries: &[Entry]) -> Option<u64>
     ensures { result ≡ next_time (map entry_view entries.now) }
 {
     let mut next = None;

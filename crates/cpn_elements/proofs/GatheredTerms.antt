@@ -2,10 +2,9 @@
 use Rattle.std.proofs.Common.{◌≡◌, ℕ, suc, ◌+◌, ◌-◌, ◌<◌, ◌≤◌, max, List, [], ◌∷◌, ◌++◌, replicate, refl, sym, ap, ◌∙◌, arith, Ordering}
 use Rattle.cpn_definitions.specs.Lists.{with_item, with_items}
 use Rattle.cpn_definitions.specs.Net.{PlainArc}
-use Rattle.cpn_definitions.specs.Outcome.{Outcome, gives, faults, no_meaning, Fault, HasMeaning, ◌>>=◌}
+use Rattle.cpn_definitions.specs.Outcome.{Outcome, gives, faults, no_meaning, Fault, ◌>>=◌}
 use Rattle.cpn_definitions.specs.Terms.{PlainTerm}
 use Rattle.cpn_definitions.specs.Occurrence.{gather}
-use Rattle.cpn_definitions.proofs.Outcomes.{first_means}
 use Rattle.cpn_elements.specs.Summed.{and_these, tokens_of}
 
 pub with_items_append : {X : Type 0} (c : X → X → Ordering) (xs ys zs : List X) → with_items c (xs ++ ys) zs ≡ with_items c ys (with_items c xs zs)
@@ -32,18 +31,12 @@ module _ {X : Type 0} (c : X → X → Ordering) where
   joint_faults (faults other) rest front fault is = is
   joint_faults no_meaning rest front fault is = cc
 
-  joint_means : (first rest : Outcome (List X)) (front : List X) → HasMeaning (and_these c front (joint first rest)) → HasMeaning first
-  joint_means first rest front means = first_means first _ (first_means (joint first rest) _ means)
-
   module _ (f : PlainArc → Outcome (List X)) (arc : PlainArc) (arcs : List PlainArc) (front : List X) where
     pub gather_gives : (new : List X) → and_these c front (f arc) ≡ gives new → and_these c front (gather f (arc ∷ arcs)) ≡ and_these c new (gather f arcs)
     gather_gives new is = joint_gives (f arc) (gather f arcs) front new is
 
     pub gather_faults : (fault : Fault) → and_these c front (f arc) ≡ faults fault → and_these c front (gather f (arc ∷ arcs)) ≡ faults fault
     gather_faults fault is = joint_faults (f arc) (gather f arcs) front fault is
-
-    pub gather_means : HasMeaning (and_these c front (gather f (arc ∷ arcs))) → HasMeaning (f arc)
-    gather_means means = joint_means (f arc) (gather f arcs) front means
 
   -- ---- the tokens of terms
 

@@ -1,8 +1,8 @@
--- What the arcs and the conjuncts that are left give, by the next of them; and what a refusal tells of what follows.
+-- What the arcs and the conjuncts that are left give, by the next of them.
 use Rattle.std.proofs.Common.{◌≡◌, ℕ, suc, ◌+◌, ◌<◌, Bool, true, false, ◌&&◌, List, ◌∷◌, map, length, get_or, drop, sym, ap, ◌∙◌, subst, add-one, drop-cons, Ordering}
 use Rattle.cpn_definitions.specs.Net.{PlainArc}
 use Rattle.cpn_definitions.specs.Inscription.{PlainExpr, Functions}
-use Rattle.cpn_definitions.specs.Outcome.{Outcome, gives, gives_and, ◌>>=◌}
+use Rattle.cpn_definitions.specs.Outcome.{Outcome, gives, gives_and}
 use Rattle.cpn_definitions.specs.Meaning.{PlainBinding, meaning, is_true}
 use Rattle.cpn_definitions.specs.Occurrence.{gather, guard_holds}
 use Rattle.cpn_core.specs.declared.inscriptions.Expr.{Expr}
@@ -16,11 +16,6 @@ use Rattle.cpn_eval.specs.Answers.{Refuses}
 use Rattle.cpn_elements.specs.Guards.{GuardHasMeaning}
 use Rattle.cpn_elements.specs.Summed.{and_these}
 use Rattle.cpn_elements.proofs.GatheredTerms.{gather_gives, gather_faults}
-
--- a refusal of the first part is one of the whole
-pub refused_then : {A B : Type 0} (refusal : Refused) (o : Outcome A) (f : A → Outcome B) → Refuses refusal o → Refuses refusal (o >>= f)
-refused_then refused.Memory o f told = tt
-refused_then (refused.Fault fault) o f told = ap (λ p. p >>= f) told
 
 -- the next item of those that are left, as it is seen, and the others
 pub next_left : {A B : Type 0} (view : A → B) (xs : List A) (i : ℕ) (x : A) → i < length xs → x ≡ get_or xs i x → map view (drop i xs) ≡ view x ∷ map view (drop (i + 1) xs)

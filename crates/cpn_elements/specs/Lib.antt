@@ -1,5 +1,3 @@
 pub mod Guards
 pub mod Summed
 pub mod Needs
-pub mod Outputs
-pub mod Delays

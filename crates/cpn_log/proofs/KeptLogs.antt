@@ -14,13 +14,13 @@ use Rattle.cpn_definitions.proofs.RisingLists.{each_implied}
 use Rattle.cpn_definitions.proofs.Addition.{places_added, sorted_added}
 use Rattle.cpn_definitions.proofs.RicherMarkings.{sorted_subtracted}
 use Rattle.cpn_tmset.specs.Limits.{HaveRoomFor}
-use Rattle.cpn_runs.specs.Bounds.{most_steps}
+use Rattle.cpn_runs.specs.Bounds.{most_steps, most_after}
 use Rattle.cpn_runs.specs.HoleRun.{PlainClaim, Status, open_claim, done_with, added, marking_left, is_done}
 use Rattle.cpn_runs.proofs.Items.{split_at, all_joined, all_parts}
 use Rattle.cpn_runs.proofs.Sequences.{left_parts, left_split, marking_left_more}
 use Rattle.cpn_runs.proofs.FilledRuns.{filled_leaves, completed}
 use Rattle.cpn_log.specs.Logs.{PlainLog, claims_made, head_of, with_status, changed_to, opened, started, with_committed, next_committed_of, next_committed}
-use Rattle.cpn_log.specs.Kept.{most_left, IsInRange, IsKept}
+use Rattle.cpn_log.specs.Kept.{IsInRange, IsKept}
 use Rattle.cpn_log.specs.Changed.{is_told, made_change, touched}
 use Rattle.cpn_log.specs.Exchanges.{after_claims, number_added}
 use Rattle.cpn_log.proofs.TouchedStamps.{sorted_after, untouched_after, alike_after, untouched_added}
@@ -38,9 +38,9 @@ pub unclaimed_sorted : (log : PlainLog) → IsKept log → AllAreSorted log.uncl
 unclaimed_sorted log kept = subst AllAreSorted (left_is_after log.settled log.claims log.unclaimed kept.left) (left_sorted log.settled log.claims kept.sorted)
 
 -- there is room for what claims in range add, as many as may be made
-pub room_for_all : (m : Marking) (k : ℕ) (claims : List PlainClaim) → HasUpTo (most_left k) m → k + length claims ≤ most_steps → AllByRecursion IsInRange claims → HaveRoomFor (number_added claims) m
+pub room_for_all : (m : Marking) (k : ℕ) (claims : List PlainClaim) → HasUpTo (most_after k) m → k + length claims ≤ most_steps → AllByRecursion IsInRange claims → HaveRoomFor (number_added claims) m
 room_for_all m k claims few number each =
-    let all = few_added claims each in room_for m (most_left k) (number_added claims) few (omega (arith, all, number))
+    let all = few_added claims each in room_for m (most_after k) (number_added claims) few (omega (arith, all, number))
 
 -- ---- one more claim
 
@@ -149,12 +149,12 @@ module _ (log : PlainLog) (place : ℕ) (claim : PlainClaim) (kept : IsKept log)
   room_where_last outputs last few =
       let own : ahead ≡ log.unclaimed = ap (λ cs. after_claims cs ahead) (sym last) ∙ unclaimed_is in
       let each = (all_parts IsInRange parts.before (claim ∷ parts.later) (subst (AllByRecursion IsInRange) parts.is kept.each)).0 in
-      let up_to : HasUpTo (most_left (length log.committed) + number_added parts.before) ahead =
-      taken_up_to (threshold claim.time) claim.needs (after_claims parts.before log.settled) (most_left (length log.committed) + number_added parts.before) (left_up_to parts.before log.settled (most_left (length log.committed)) kept.few) in
+      let up_to : HasUpTo (most_after (length log.committed) + number_added parts.before) ahead =
+      taken_up_to (threshold claim.time) claim.needs (after_claims parts.before log.settled) (most_after (length log.committed) + number_added parts.before) (left_up_to parts.before log.settled (most_after (length log.committed)) kept.few) in
       let added_before = few_added parts.before each in
       let number = kept.number in
       let lengths : length log.claims ≡ length parts.before + length (claim ∷ parts.later) = ap (λ (cs : List PlainClaim). length cs) parts.is ∙ length-append parts.before (claim ∷ parts.later) in
-      subst (HaveRoomFor (length outputs)) own (room_for ahead (most_left (length log.committed) + number_added parts.before) (length outputs) up_to (omega (arith, added_before, number, lengths, few)))
+      subst (HaveRoomFor (length outputs)) own (room_for ahead (most_after (length log.committed) + number_added parts.before) (length outputs) up_to (omega (arith, added_before, number, lengths, few)))
 
   -- of a value on a place for which nothing is added the stamps stay
   pub others_stay : (outputs : List Made) (p : ℕ) (v : PlainValue) → is_told p v (map made_change outputs) ≡ false → stamps v (tokens_at (after_claims (with_status (done_with outputs) place log.claims) log.settled) p) ≡ stamps v (tokens_at log.unclaimed p)
@@ -203,7 +203,7 @@ kept_with_committed log claim claims is kept =
     record {
       left = parts.1;
       sorted = sorted_after claim log.settled kept.sorted;
-      few = λ p. (let up_to = left_up_to (claim ∷ []) log.settled (most_left (length log.committed)) kept.few p in let own = each.0.few in let longer = length-append log.committed (head_of claim ∷ []) in omega (arith, up_to, own, longer));
+      few = λ p. (let up_to = left_up_to (claim ∷ []) log.settled (most_after (length log.committed)) kept.few p in let own = each.0.few in let longer = length-append log.committed (head_of claim ∷ []) in omega (arith, up_to, own, longer));
       number = (let number = kept.number in let longer = length-append log.committed (head_of claim ∷ []) in let lengths = ap (λ (cs : List PlainClaim). length cs) is in omega (arith, number, longer, lengths));
       each = each.1;
     }

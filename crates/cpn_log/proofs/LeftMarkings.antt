@@ -24,13 +24,6 @@ pub left_sorted : (m : Marking) (claims : List PlainClaim) → AllAreSorted m �
 left_sorted m [] sorted = sorted
 left_sorted m (claim ∷ claims) sorted = left_sorted (after_claim claim m) claims (sorted_after claim m sorted)
 
--- claims from where others leave the marking
-pub left_joined : (m : Marking) (first more : List PlainClaim) (mid last : Marking) → marking_left m first ≡ Some mid → marking_left mid more ≡ Some last → marking_left m (first ++ more) ≡ Some last
-left_joined m [] more mid last is rest = let P : Marking → Type 0 = λ k. marking_left k more ≡ Some last in subst P (sym (same_Some m mid is)) rest
-left_joined m (claim ∷ first) more mid last is rest =
-    let parts = left_parts m claim first mid is in
-    left_from m claim (first ++ more) last parts.0 (left_joined (after_claim claim m) first more mid last parts.1 rest)
-
 pub after_joined : (first more : List PlainClaim) (m : Marking) → after_claims (first ++ more) m ≡ after_claims more (after_claims first m)
 after_joined [] more m = refl
 after_joined (claim ∷ first) more m = after_joined first more (after_claim claim m)

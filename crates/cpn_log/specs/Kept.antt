@@ -1,18 +1,14 @@
 -- What a log keeps true. Source: own choice.
-use Rattle.std.specs.Prelude.{◌≡◌, ℕ, ◌+◌, ◌*◌, ◌^◌, ◌≤◌, length, Some}
+use Rattle.std.specs.Prelude.{◌≡◌, ℕ, ◌≤◌, length, Some}
 use Rattle.std.specs.List.{AllByRecursion}
 use Rattle.cpn_definitions.specs.Bounds.{most_made}
 use Rattle.cpn_definitions.specs.Lists.{IsInOrder}
 use Rattle.cpn_definitions.specs.Marking.{tokens_at, AreSorted}
 use Rattle.cpn_definitions.specs.Occurrence.{needed_cmp}
 use Rattle.cpn_definitions.specs.Times.{last_time}
-use Rattle.cpn_runs.specs.Bounds.{most_steps}
+use Rattle.cpn_runs.specs.Bounds.{most_steps, most_after}
 use Rattle.cpn_runs.specs.HoleRun.{PlainClaim, added, marking_left}
 use Rattle.cpn_log.specs.Logs.{PlainLog, claims_made}
-
--- the most tokens on each place after so many claims: at the start there may be 2^47, and a claim adds at most so many
-abbrev pub most_left : ℕ → ℕ
-most_left claims = 2 ^ 47 + claims * most_made
 
 -- A claim in range: its time, its needs in their order, and how many tokens it adds.
 pub record IsInRange (claim : PlainClaim) : Type 0 where
@@ -25,6 +21,6 @@ pub record IsInRange (claim : PlainClaim) : Type 0 where
 pub record IsKept (log : PlainLog) : Type 0 where
   pub left : marking_left log.settled log.claims ≡ Some log.unclaimed
   pub sorted : (p : ℕ) → AreSorted (tokens_at log.settled p)
-  pub few : (p : ℕ) → length (tokens_at log.settled p) ≤ most_left (length log.committed)
+  pub few : (p : ℕ) → length (tokens_at log.settled p) ≤ most_after (length log.committed)
   pub number : claims_made log ≤ most_steps
   pub each : AllByRecursion IsInRange log.claims

@@ -239,6 +239,13 @@ impl Log {
         self.claims[position].state()
     }
 
+    /// The marking that the claims leave, where the log itself is no longer wanted. It takes no memory.
+    pub fn into_unclaimed(self) -> Marking
+        ensures { result ≡ (log_view self).unclaimed }
+    {
+        self.unclaimed
+    }
+
     // Sets what became of the claim at a position behind the committed part.
     fn complete(&mut self, position: usize, course: Course)
         requires within { position < length self.old.claims.items }

@@ -5,7 +5,6 @@ pub mod NumbersThere
 pub mod CheckedItems
 pub mod NumberLists
 pub mod PartsOfModules
-pub mod ShapeLists
 pub mod ColourRules
 pub mod OneRule
 pub mod FusionRules
@@ -14,4 +13,3 @@ pub mod PairSets
 pub mod SocketRules
 pub mod OneHierarchy
 mod Rows
-pub mod ShapeLevels

@@ -12,4 +12,3 @@ pub mod Views
 pub mod Answers
 pub mod Pairs
 pub mod OneHierarchy
-pub mod SameColours

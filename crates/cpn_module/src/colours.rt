@@ -1,125 +1,20 @@
 //! Colour sets that agree: of sockets and ports, and of the members of fusion sets.
 
-ghost use Rattle.std.specs.Prelude.{◌≡◌, ◌↔◌, IsTrue, map, option_map};
+ghost use Rattle.std.specs.Prelude.{◌≡◌, map};
 ghost use Rattle.cpn_readings.specs.Rules.{each_item};
-ghost use Rattle.cpn_core.specs.Colours.{shape_view, shapes_view, constructors_view, colour_view};
 ghost use Rattle.cpn_declared.specs.DeclsViews.{decls_view};
 ghost use Rattle.cpn_document.specs.Views.{document_view};
 ghost use Rattle.cpn_module.specs.Answers.{Checks};
 ghost use Rattle.cpn_module.specs.ModuleRules.{colour_rules, sub_colour_rules, structure_colour_rules, fusion_colour_rules, colour_name as colour_of, agrees_with_first as agrees_with_the_first};
 ghost use Rattle.cpn_module.specs.Views.{substitution_view, structure_view, fused_view, fusion_set_view, hierarchy_view};
-ghost use Rattle.cpn_module.specs.Colours.{same_shape as one_shape, same_shapes as one_by_one, same_argument as one_argument, same_constructors as one_union, same_colour as one_colour, colours_agree as names_agree};
+ghost use Rattle.cpn_module.specs.Colours.{colours_agree as names_agree};
 
 use crate::hierarchy::{FusedPlace, FusionSet, Hierarchy, Structure, Substitution};
 use crate::pointing::{at_assignment, at_member};
 use crate::refusals::ModuleError;
-use cpn_core::{Colour, Shape};
 use cpn_declared::Decls;
 use cpn_document::{AssignmentPart, Document, MemberPart};
-
-/// Whether shapes are equal.
-#[cycle(same)]
-#[tactic(auto, using(crate::proofs::ShapeLevels::view_list, crate::proofs::ShapeLevels::view_union))]
-fn same_shape(one: &Shape, other: &Shape) -> bool
-    ensures exact { result ≡ one_shape (shape_view one.now) (shape_view other.now) }
-{
-    match one {
-        Shape::Unit => match other {
-            Shape::Unit => true,
-            _ => false,
-        },
-        Shape::Bool => match other {
-            Shape::Bool => true,
-            _ => false,
-        },
-        Shape::Int { low, high } => match other {
-            Shape::Int {
-                low: other_low,
-                high: other_high,
-            } => *low == *other_low && *high == *other_high,
-            _ => false,
-        },
-        Shape::Text => match other {
-            Shape::Text => true,
-            _ => false,
-        },
-        Shape::Enum(number, count) => match other {
-            Shape::Enum(other_number, other_count) => {
-                *number == *other_number && *count == *other_count
-            }
-            _ => false,
-        },
-        Shape::Tuple(shapes) => match other {
-            Shape::Tuple(others) => same_shapes(shapes, others),
-            _ => false,
-        },
-        Shape::Union(number, constructors) => match other {
-            Shape::Union(other_number, others) => {
-                *number == *other_number && same_constructors(constructors, others)
-            }
-            _ => false,
-        },
-        Shape::List(item) => match other {
-            Shape::List(other_item) => same_shape(item, other_item),
-            _ => false,
-        },
-    }
-}
-
-// Whether the shapes are equal, one for one, and as many.
-#[cycle(same)]
-#[tactic(auto, using(crate::proofs::ShapeLists::shapes_more, crate::proofs::ShapeLists::shapes_end))]
-fn same_shapes(ones: &Vec<Shape>, others: &Vec<Shape>) -> bool
-    ensures exact { result ≡ one_by_one (shapes_view ones.now.items) (shapes_view others.now.items) }
-{
-    let shorter = ones.len().min(others.len());
-    for i in 0..shorter {
-        if !same_shape(&ones[i], &others[i]) {
-            return false;
-        }
-    }
-    ones.len() == others.len()
-}
-
-// Whether the constructors are equal, one for one, and as many.
-#[cycle(same)]
-#[tactic(auto, using(crate::proofs::ShapeLists::constructors_more, crate::proofs::ShapeLists::constructors_end))]
-fn same_constructors(ones: &Vec<Option<Shape>>, others: &Vec<Option<Shape>>) -> bool
-    ensures exact { result ≡ one_union (constructors_view ones.now.items) (constructors_view others.now.items) }
-{
-    let shorter = ones.len().min(others.len());
-    for i in 0..shorter {
-        if !same_argument(&ones[i], &others[i]) {
-            return false;
-        }
-    }
-    ones.len() == others.len()
-}
-
-// Whether the arguments are equal, where there is one.
-#[cycle(same)]
-fn same_argument(one: &Option<Shape>, other: &Option<Shape>) -> bool
-    ensures exact { result ≡ one_argument (option_map shape_view one.now) (option_map shape_view other.now) }
-{
-    match one {
-        None => match other {
-            None => true,
-            Some(_) => false,
-        },
-        Some(shape) => match other {
-            None => false,
-            Some(other_shape) => same_shape(shape, other_shape),
-        },
-    }
-}
-
-/// Whether colour sets are equal.
-pub(crate) fn same_colour(one: &Colour, other: &Colour) -> bool
-    ensures exact { result ≡ one_colour (colour_view one.now) (colour_view other.now) }
-    ensures equal { IsTrue result ↔ (colour_view one.now ≡ colour_view other.now) }
-{
-    same_shape(&one.shape, &other.shape) && one.timed == other.timed
-}
+use cpn_same::same_colour;
 
 /// Whether the colour sets of two names agree.
 fn colours_agree(decls: &Decls, name: &str, other: &str) -> bool

@@ -1,5 +1,5 @@
 -- What a document is checked as is one thing; and a hierarchy that it is checked as is the one that it names, with all rules kept.
-use Rattle.std.proofs.Common.{◌≡◌, refl, sym, ap, ◌∙◌}
+use Rattle.std.proofs.Common.{◌≡◌, refl}
 use Rattle.std.specs.Prelude.{Option, Some, None}
 use Rattle.cpn_readings.specs.Relations.{refused_by, HasOne}
 use Rattle.cpn_readings.proofs.RelatedReadings.{refused_by_one}

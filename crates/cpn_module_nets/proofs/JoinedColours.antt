@@ -14,13 +14,13 @@ use Rattle.cpn_document.specs.declared.pointers.MemberPart.TheVariants as of_mem
 use Rattle.cpn_readings.specs.Rules.{each_item}
 use Rattle.cpn_readings.specs.ItemByItem.{EachIs}
 use Rattle.cpn_readings.proofs.Readings.{same_read, steps}
+use Rattle.cpn_same.specs.SameColours.{colours_decide}
 use Rattle.cpn_module.specs.Colours.{are_one_colour, colours_agree}
 use Rattle.cpn_module.specs.Hierarchy.{PlainAssignment, PlainSubstitution, PlainStructure, PlainMember, PlainHierarchy, no_structure, no_substitution, places_in, structure_at, substitution_at}
 use Rattle.cpn_module.specs.Refusals.{colour_differs}
 use Rattle.cpn_module.specs.ModuleRules.{Rule, rule, each_assigned, each_fused, colour_name, agrees_with_first, colour_rules, relation_rules}
 use Rattle.cpn_module.specs.Named.{no_place, structure_in}
 use Rattle.cpn_module.specs.Ranges.{IsAssignment, IsSubstitution, IsMember, HasItsNumbers}
-use Rattle.cpn_module.specs.SameColours.{same_colour_tells}
 use Rattle.cpn_module_trees.specs.Trees.{PlaceTrees, DocumentTrees, ArePlaceTrees, AreTrees}
 use Rattle.cpn_typing.specs.Names.{Name, Declared, colour_named, unknown}
 use Rattle.cpn_typing.specs.Declarations.{colour_of}
@@ -46,7 +46,7 @@ agreed ds name other c e is is_too h = by (bytes_eq name other) refl h
     by true same k = let one : name ≡ other = (bytes_eq-Decides name other).0 same in let two : Some c ≡ Some e = sym is ∙ ap (λ n. colour_named n ds) one ∙ is_too in cc
     by false same k =
         let equal : are_one_colour (Some c) (Some e) ≡ true = subst (λ o. are_one_colour (Some c) o ≡ true) is_too (subst (λ o. are_one_colour o (colour_named other ds) ≡ true) is k) in
-        (same_colour_tells c e).0 equal
+        (colours_decide c e).0 equal
 
 placed : (ds : Declared) (m i : ℕ) (place : PlaceTrees) (made : Coloured) → net_place ds m i place ≡ read made → colour_named place.colour ds ≡ Some made.colour
 unfolding net_place

@@ -3,7 +3,7 @@
 -- the modules are put together; then module after module the initial marking of each place, the guard and the delay of each
 -- transition in turn, the inscription of each arc, and the variables of each transition.
 -- Source: own choice.
-use Rattle.std.specs.Prelude.{◌≡◌, ℕ, List}
+use Rattle.std.specs.Prelude.{ℕ, List}
 use Rattle.cpn_definitions.specs.Net.{PlainTransition, Coloured}
 use Rattle.cpn_readings.specs.ItemByItem.{EachIs}
 use Rattle.cpn_readings.specs.Relations.{just, such_that, ◌>>=◌, refused_by, each_so}

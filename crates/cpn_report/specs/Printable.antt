@@ -7,8 +7,8 @@ use Rattle.cpn_definitions.specs.Net.{PlainNet, variable_at, transition_at}
 use Rattle.cpn_definitions.specs.Named.{IsNamed}
 use Rattle.cpn_definitions.specs.Occurrence.{PlainElement, binds}
 use Rattle.cpn_definitions.specs.Sound.{IsSound, IsMarking}
-use Rattle.cpn_runs.specs.State.{PlainEnd, dead, steps_made, until_passed, fault_end, PlainOccurrence}
-use Rattle.cpn_runs.specs.Run.{PlainFinished}
+use Rattle.cpn_runs.specs.State.{PlainSetup, PlainEnd, dead, steps_made, until_passed, fault_end, PlainOccurrence}
+use Rattle.cpn_runs.specs.Run.{PlainFinished, IsRun}
 
 -- The net is sound, and has the names of the colour sets of its places and variables.
 pub record IsPrintableNet (n : PlainNet) : Type 0 where
@@ -42,3 +42,7 @@ pub record IsPrintable (n : PlainNet) (run : PlainFinished) : Type 0 where
   pub occurrences : list_all (is_occurrence n) run.occurrences ≡ true
   pub cause : IsCause n run.cause
   pub marking : IsMarking n.places run.marking
+
+-- a run of a printable net, from a marking of its places, can be printed
+abbrev pub RunsArePrintable : Type 0
+RunsArePrintable = (setup : PlainSetup) (run : PlainFinished) → IsPrintableNet setup.net → IsMarking setup.net.places setup.start → IsRun setup run → IsPrintable setup.net run

@@ -60,7 +60,7 @@ pub(crate) fn push_binding(out: &mut String, net: &Net, binding: &Binding) -> Re
 
 /// Appends a binding element.
 #[tactic(auto, unfolding(crate::specs::Report::element_text))]
-pub(crate) fn push_element(out: &mut String, net: &Net, element: &Element) -> Result<(), Memory>
+pub fn push_element(out: &mut String, net: &Net, element: &Element) -> Result<(), Memory>
     requires net { IsPrintableNet (net_view net.now) }
     requires element { is_binding_element (net_view net.now) (element_view element.now) ≡ true }
     ensures written { OnOk result (string_bytes out.new ≡ string_bytes out.old ++ element_text (net_view net.now) (element_view element.now)) }

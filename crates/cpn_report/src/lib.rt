@@ -12,10 +12,15 @@ mod lines;
 mod names;
 mod places;
 mod reports;
+mod runs;
 mod traces;
 mod values;
 
+pub use elements::push_element;
+pub use lines::push_time;
 pub use names::has_names;
+pub use places::push_place_lines;
 pub use reports::report;
+pub use runs::printable_runs;
 pub use traces::Trace;
 pub use values::value_text;

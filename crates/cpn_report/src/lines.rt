@@ -38,7 +38,7 @@ pub(crate) fn push_run_line(
 }
 
 /// Appends a time that may be missing.
-pub(crate) fn push_time(out: &mut String, time: Option<u64>) -> Result<(), Memory>
+pub fn push_time(out: &mut String, time: Option<u64>) -> Result<(), Memory>
     ensures written { OnOk result (string_bytes out.new ≡ string_bytes out.old ++ time_text time) }
 {
     match time {

@@ -33,7 +33,7 @@ pub(crate) fn push_place_line(
 }
 
 /// Appends a line for each place of the marking, in order.
-pub(crate) fn push_place_lines(
+pub fn push_place_lines(
     out: &mut String,
     net: &Net,
     places: &[Place],

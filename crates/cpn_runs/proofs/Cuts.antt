@@ -113,17 +113,3 @@ owed_is claims cut owed = by_claim (slice_get claims (done_prefix claims)) refl 
               fault_is = is_status;
               cause_is = ap (λ (c : PlainCut). c.cause) (sym same);
             }
-
--- a faulted claim behind claims that are all done owes a cut at its number
-pub fault_owes : (claims : List PlainClaim) (claim : PlainClaim) (fault : Fault) → AreDone claims → claim.status ≡ faulted_with fault → cut_of (claims ++ claim ∷ []) ≡ Some (record { number = length claims; cause = fault_end claim.element fault })
-fault_owes claims claim fault done is =
-    let first : done_prefix (claims ++ claim ∷ []) ≡ length claims = prefix claims done in
-    ap (λ (k : ℕ). cut_at k (slice_get (claims ++ claim ∷ []) k)) first ∙ ap (cut_at (length claims)) (stands claims) ∙ ap (cut_by (length claims) claim.element) is
-  where
-    prefix : (cs : List PlainClaim) → AreDone cs → done_prefix (cs ++ claim ∷ []) ≡ length cs
-    prefix [] h = rw is refl
-    prefix (c ∷ cs) h = rw h.0 (ap (λ (k : ℕ). suc k) (prefix cs h.1))
-
-    stands : (cs : List PlainClaim) → slice_get (cs ++ claim ∷ []) (length cs) ≡ Some claim
-    stands [] = refl
-    stands (c ∷ cs) = stands cs

@@ -8,8 +8,7 @@ use Rattle.std.proofs.lemmas.Option.{same_Some}
 use Rattle.cpn_definitions.specs.Outcome.{Outcome, gives, faults, no_meaning}
 use Rattle.cpn_definitions.specs.Occurrence.{Made, outputs_of}
 use Rattle.cpn_runs.specs.HoleRun.{Status, done_with, faulted_with, added, PlainHoleRun, hole_run, is_open}
-use Rattle.cpn_runs.specs.State.{PlainSetup, PlainState, PlainEvent, claim_completed, status_after, Happens, IsState}
-use Rattle.cpn_runs.specs.Rounds.{given_outputs}
+use Rattle.cpn_runs.specs.State.{PlainSetup, PlainState, PlainEvent, claim_completed, given_outputs, status_after, Happens, IsState}
 use Rattle.cpn_runs.specs.Filling.{filled_run, IsFilled}
 use Rattle.cpn_runs.proofs.Items.{split_at, all_parts}
 use Rattle.cpn_runs.proofs.Sequences.{made_of}

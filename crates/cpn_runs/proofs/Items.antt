@@ -17,9 +17,6 @@ last_changed (z ∷ xs) x y = ap (λ ys. z ∷ ys) (last_changed xs x y)
 pub last_is_at : {A : Type 0} (xs : List A) (k : ℕ) (x : A) → length xs ≡ k → slice_get (xs ++ x ∷ []) k ≡ Some x
 last_is_at xs k x same = rw (← same) (last_is xs x)
 
-pub last_changed_at : {A : Type 0} (xs : List A) (k : ℕ) (x y : A) → length xs ≡ k → slice_set (xs ++ x ∷ []) k y ≡ xs ++ y ∷ []
-last_changed_at xs k x y same = rw (← same) (last_changed xs x y)
-
 pub map_more : {A B : Type 0} (f : A → B) (xs : List A) (x : A) → map f (xs ++ x ∷ []) ≡ map f xs ++ f x ∷ []
 map_more f [] x = refl
 map_more f (y ∷ xs) x = ap (λ ys. f y ∷ ys) (map_more f xs x)

@@ -45,7 +45,6 @@ have_order setup (claim ∷ claims) all = (has_order setup claim all.0, have_ord
 
 -- ---- what claims add
 
--- what a claim is done with are its outputs
 done_with_outputs : (o : Outcome (List Made)) (status : Status) (made : List Made) → (is_open status ≡ true) ⊎ (status_after o ≡ Some status) → status ≡ done_with made → o ≡ gives made
 done_with_outputs (gives outputs) status made (inl h) done = let e : is_open (done_with made) ≡ true = ap is_open (sym done) ∙ h in cc
 done_with_outputs (gives outputs) status made (inr is) done = cc
@@ -54,7 +53,8 @@ done_with_outputs (faults fault) status made (inr is) done = cc
 done_with_outputs no_meaning status made (inl h) done = let e : is_open (done_with made) ≡ true = ap is_open (sym done) ∙ h in cc
 done_with_outputs no_meaning status made (inr is) done = cc
 
-outputs_are : (setup : PlainSetup) (claim : PlainClaim) (made : List Made) → IsClaimOf setup claim → claim.status ≡ done_with made → outputs_of setup.net claim.element claim.time ≡ gives made
+-- what a claim is done with are its outputs
+pub outputs_are : (setup : PlainSetup) (claim : PlainClaim) (made : List Made) → IsClaimOf setup claim → claim.status ≡ done_with made → outputs_of setup.net claim.element claim.time ≡ gives made
 outputs_are setup claim made is done = done_with_outputs (outputs_of setup.net claim.element claim.time) claim.status made is.status_is done
 
 added_stamped : (setup : PlainSetup) (claim : PlainClaim) → IsClaimOf setup claim → MadeStamped setup.net (added claim.status)

@@ -5,7 +5,7 @@ use Rattle.std.proofs.lemmas.Bool.{cond_both, and_parts}
 use Rattle.std.proofs.lemmas.List.{take-append-drop}
 use Rattle.cpn_definitions.specs.Occurrence.{Made}
 use Rattle.cpn_runs.specs.HoleRun.{PlainPick, PlainHoleRun}
-use Rattle.cpn_runs.specs.Filling.{is_of_token, prefers, takes, pick_after, past_pick, claim_after, past_claim, claims_after, past_claims, picks_after, carried_past, IsLeftFor, IsKept, EachTwo, filled_run}
+use Rattle.cpn_runs.specs.Filling.{is_of_token, prefers, takes, pick_after, past_pick, claim_after, past_claim, claims_after, past_claims, picks_after, carried_past, IsLeftFor, IsLaterPick, EachTwo, filled_run}
 use Rattle.cpn_runs.proofs.Items.{each_itself, each_through, each_joined}
 
 -- a pick takes a token that is later than its own
@@ -38,31 +38,31 @@ each_is_left (made ∷ outputs) later = (left_by_claims made later, each_is_left
 
 -- ---- what the picks keep
 
-kept_itself : (pick : PlainPick) → IsKept pick pick
+kept_itself : (pick : PlainPick) → IsLaterPick pick pick
 kept_itself pick = record { place = refl; value = refl; threshold = refl; stamp = omega arith }
 
-kept_through : (old mid new : PlainPick) → IsKept old mid → IsKept mid new → IsKept old new
+kept_through : (old mid new : PlainPick) → IsLaterPick old mid → IsLaterPick mid new → IsLaterPick old new
 kept_through old mid new first second = record { place = second.place ∙ first.place; value = second.value ∙ first.value; threshold = second.threshold ∙ first.threshold; stamp = omega (arith, first.stamp, second.stamp) }
 
-pick_kept : (made : Made) (pick : PlainPick) → IsKept pick (pick_after made pick)
+pick_kept : (made : Made) (pick : PlainPick) → IsLaterPick pick (pick_after made pick)
 pick_kept made pick = record { place = refl; value = refl; threshold = refl; stamp = cond_both (takes pick made) made.stamp pick.stamp (λ (s : ℕ). pick.stamp ≤ s) (later_than_own made pick) (λ _. omega arith) }
 
-claim_kept : (made : Made) (picks : List PlainPick) → EachTwo IsKept picks (claim_after made picks)
+claim_kept : (made : Made) (picks : List PlainPick) → EachTwo IsLaterPick picks (claim_after made picks)
 claim_kept made [] = tt
 claim_kept made (pick ∷ picks) = (pick_kept made pick, claim_kept (past_pick made pick) picks)
 
-claims_kept : (made : Made) (later : List (List PlainPick)) → EachTwo (EachTwo IsKept) later (claims_after made later)
+claims_kept : (made : Made) (later : List (List PlainPick)) → EachTwo (EachTwo IsLaterPick) later (claims_after made later)
 claims_kept made [] = tt
 claims_kept made (picks ∷ later) = (claim_kept made picks, claims_kept (past_claim made picks) later)
 
-all_kept : (outputs : List Made) (later : List (List PlainPick)) → EachTwo (EachTwo IsKept) later (picks_after outputs later)
-all_kept [] later = each_itself (EachTwo IsKept) (each_itself IsKept kept_itself) later
-all_kept (made ∷ outputs) later = each_through (EachTwo IsKept) (each_through IsKept kept_through) later (claims_after made later) (picks_after outputs (claims_after made later)) (claims_kept made later) (all_kept outputs (claims_after made later))
+all_kept : (outputs : List Made) (later : List (List PlainPick)) → EachTwo (EachTwo IsLaterPick) later (picks_after outputs later)
+all_kept [] later = each_itself (EachTwo IsLaterPick) (each_itself IsLaterPick kept_itself) later
+all_kept (made ∷ outputs) later = each_through (EachTwo IsLaterPick) (each_through IsLaterPick kept_through) later (claims_after made later) (picks_after outputs (claims_after made later)) (claims_kept made later) (all_kept outputs (claims_after made later))
 
 -- each claim of a filled run has as many picks as before, which are kept
-pub picks_kept : (k : ℕ) (outputs : List Made) (run : PlainHoleRun) → EachTwo (EachTwo IsKept) run.picks (filled_run k outputs run).picks
+pub picks_kept : (k : ℕ) (outputs : List Made) (run : PlainHoleRun) → EachTwo (EachTwo IsLaterPick) run.picks (filled_run k outputs run).picks
 picks_kept k outputs run =
     let first = take (suc k) run.picks in
     let later = drop (suc k) run.picks in
-    let P : List (List PlainPick) → Type 0 = λ old. EachTwo (EachTwo IsKept) old (first ++ picks_after outputs later) in
-    subst P (take-append-drop (suc k) run.picks) (each_joined (EachTwo IsKept) first first later (picks_after outputs later) (each_itself (EachTwo IsKept) (each_itself IsKept kept_itself) first) (all_kept outputs later))
+    let P : List (List PlainPick) → Type 0 = λ old. EachTwo (EachTwo IsLaterPick) old (first ++ picks_after outputs later) in
+    subst P (take-append-drop (suc k) run.picks) (each_joined (EachTwo IsLaterPick) first first later (picks_after outputs later) (each_itself (EachTwo IsLaterPick) (each_itself IsLaterPick kept_itself) first) (all_kept outputs later))

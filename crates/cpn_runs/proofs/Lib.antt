@@ -3,11 +3,10 @@ pub mod Sequences
 pub mod CoveredElements
 pub mod Cuts
 pub mod States
-pub mod Rounds
-pub mod RunEnds
 pub mod OneJournal
 pub mod OneRun
 pub mod Journals
+pub mod BoundedStates
 pub mod Picks
 pub mod CarriedStamps
 pub mod KnownTokens

@@ -1,10 +1,10 @@
--- Legal sequences and runs of claims, one occurrence longer.
+-- Legal sequences and runs of claims: what they are joined of, and with one claim more.
 use Rattle.std.proofs.Common.{◌≡◌, ℕ, ◌≤◌, ◌⊎◌, Bool, true, false, cond, List, [], ◌∷◌, ◌++◌, Some, None, Option, refl, sym, ap, subst, ◌∙◌, inl, inr, arith, ⊎_elim}
 use Rattle.std.specs.Option.{option_map}
 use Rattle.std.proofs.lemmas.Bool.{cases_lt}
 use Rattle.cpn_definitions.specs.Marking.{Marking}
 use Rattle.cpn_definitions.specs.Net.{PlainNet}
-use Rattle.cpn_definitions.specs.Occurrence.{threshold, covered, after, are_covered}
+use Rattle.cpn_definitions.specs.Occurrence.{threshold, are_covered}
 use Rattle.cpn_definitions.specs.Legal.{LeastTime, TimedElement, Legal}
 use Rattle.cpn_runs.specs.HoleRun.{PlainClaim, PlainHoleRun, picks_of, begun_with, after_claim, hole_run, marking_left}
 
@@ -48,17 +48,6 @@ legal_joined n m c [] mid d more last end first second =
     let P : Marking → Type 0 = λ k. Legal n k d more last end in
     legal_from_either n m c d more last end first.1 (subst P first.0 second)
 legal_joined n m c (o ∷ os) mid d more last end first second = (first.0, first.1, (first.2.0, first.2.1, legal_joined n first.2.0 o.time os mid d more last end first.2.2 second))
-
--- a legal sequence goes on by one more occurrence
-pub legal_more
-    : (n : PlainNet) (m : Marking) (c : ℕ) (os : List TimedElement) (last : Marking) (d : ℕ) (o : TimedElement) (next : Marking)
-    → Legal n m c os last d
-    → LeastTime n last d o.time
-    → covered n last o.time o.element ≡ true
-    → after n last o.time o.element ≡ Some next
-    → Legal n m c (os ++ o ∷ []) next o.time
-legal_more n m c os last d o next legal least is_covered goes =
-    legal_joined n m c os last d (o ∷ []) next o.time legal (least, is_covered, (next, goes, (refl, inl refl)))
 
 -- the times of occurrences don't go back, from a clock on to a last one
 abbrev pub GoOn : ℕ → List TimedElement → ℕ → Type 0
@@ -139,6 +128,13 @@ left_parts m claim claims last is = passed (are_covered (threshold claim.time) m
 
 pub left_from : (m : Marking) (claim : PlainClaim) (claims : List PlainClaim) (last : Marking) → are_covered (threshold claim.time) m claim.needs ≡ true → marking_left (after_claim claim m) claims ≡ Some last → marking_left m (claim ∷ claims) ≡ Some last
 left_from m claim claims last is rest = left_on m claim claims ∙ ap (λ b. cond b (marking_left (after_claim claim m) claims) None) is ∙ rest
+
+-- what claims leave, the first of which leave a marking, is what the others leave from there
+pub left_joined : (m : Marking) (first more : List PlainClaim) (mid : Marking) → marking_left m first ≡ Some mid → marking_left m (first ++ more) ≡ marking_left mid more
+left_joined m [] more mid is = let same : m ≡ mid = cc in ap (λ k. marking_left k more) same
+left_joined m (claim ∷ first) more mid is =
+    let parts = left_parts m claim first mid is in
+    left_on m claim (first ++ more) ∙ ap (λ b. cond b (marking_left (after_claim claim m) (first ++ more)) None) parts.0 ∙ left_joined (after_claim claim m) first more mid parts.1
 
 -- of claims that leave a marking the first leave one, and the others leave the last from there
 pub left_split : (m : Marking) (first more : List PlainClaim) (last : Marking) → marking_left m (first ++ more) ≡ Some last → (mid : Marking) × (marking_left m first ≡ Some mid) × (marking_left mid more ≡ Some last)

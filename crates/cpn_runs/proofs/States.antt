@@ -88,6 +88,15 @@ lead_to_one setup old (event ∷ journal) s s' a b =
 pub one_state : (setup : PlainSetup) (journal : List PlainEvent) (s s' : PlainState) → IsState setup journal s → IsState setup journal s' → s ≡ s'
 one_state setup journal s s' a b = lead_to_one setup (first_state setup) journal s s' a b
 
+-- events go on from where other events led
+pub leads_more
+    : (setup : PlainSetup) (old : PlainState) (events more : List PlainEvent) (mid new : PlainState)
+    → Leads setup old events mid
+    → Leads setup mid more new
+    → Leads setup old (events ++ more) new
+leads_more setup old [] more mid new first second = let P : PlainState → Type 0 = λ s. Leads setup s more new in subst P first second
+leads_more setup old (event ∷ events) more mid new first second = (first.0, first.1, leads_more setup first.0 events more mid new first.2 second)
+
 -- ---- where nothing happens and nothing ends
 
 some_is_not_none : {A : Type 0} (o : Option A) (x : A) → o ≡ Some x → o ≡ None → ⊥

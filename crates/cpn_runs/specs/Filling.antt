@@ -80,7 +80,7 @@ pub record IsLeftFor (made left : Made) : Type 0 where
   pub stamp : left.stamp ≤ made.stamp
 
 -- A pick that is kept, but for its stamp, which may be a later one.
-pub record IsKept (old new : PlainPick) : Type 0 where
+pub record IsLaterPick (old new : PlainPick) : Type 0 where
   pub place : new.place ≡ old.place
   pub value : new.value ≡ old.value
   pub threshold : new.threshold ≡ old.threshold
@@ -102,4 +102,4 @@ pub record IsFilled (setup : PlainSetup) (old : PlainState) (k : ℕ) (outputs :
   pub unclaimed_was : unclaimed_in setup old ≡ Some run.marking
   pub unclaimed_is : unclaimed_in setup new ≡ Some (add_made (left_over k outputs run) run.marking)
   pub left : EachTwo IsLeftFor outputs (left_over k outputs run)
-  pub kept : EachTwo (EachTwo IsKept) run.picks (filled_run k outputs run).picks
+  pub kept : EachTwo (EachTwo IsLaterPick) run.picks (filled_run k outputs run).picks

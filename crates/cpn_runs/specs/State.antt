@@ -92,6 +92,12 @@ given_needs (gives needs) = needs
 given_needs (faults fault) = []
 given_needs no_meaning = []
 
+-- the outputs that an outcome gives, none where it gives none
+abbrev pub given_outputs : Outcome (List Made) → List Made
+given_outputs (gives outputs) = outputs
+given_outputs (faults fault) = []
+given_outputs no_meaning = []
+
 -- the claim on an element that a seat makes at a time
 abbrev pub new_claim : PlainNet → ℕ → ℕ → PlainElement → PlainClaim
 new_claim n seat time e = record { seat = seat; element = e; time = time; needs = given_needs (needs_of n e); status = open_claim }

@@ -16,6 +16,7 @@ mod same_patterns;
 mod same_tokens;
 
 pub use same_arcs::same_arc_expr;
+pub use same_colours::same_colour;
 pub use same_elements::same_element;
 pub use same_functions::same_funs;
 pub use same_inscriptions::same_expr;

@@ -82,7 +82,7 @@ fn report_of(alloc: Global, options: &Options, loaded: Loaded) -> Result<Report,
         },
         seed: options.seed,
     };
-    let book = Book::start(alloc, setup);
+    let book = Book::start(alloc, setup)?;
     let finished = book.run_alone()?;
     let text = report(alloc, options.trace, &finished)?;
     let status = status_after(&finished.cause);

@@ -7,9 +7,8 @@ use Rattle.cpn_definitions.specs.Occurrence.{outputs_of}
 use Rattle.cpn_runs.specs.HoleRun.{PlainClaim, Status, faulted_with, is_open, is_done, marking_left}
 use Rattle.cpn_runs.specs.State.{PlainSetup, PlainState, PlainEvent, claim_completed, cut_made, fault_end, PlainCut, is_held_by, status_after, MayComplete, MayCut, first_state, cut_at, cut_by}
 use Rattle.cpn_runs.proofs.Cuts.{AreDone, done_owe_none, open_is_not_done}
-use Rattle.cpn_runs.proofs.Rounds.{leads_more}
 use Rattle.cpn_runs.proofs.Sequences.{left_parts}
-use Rattle.cpn_runs.proofs.States.{every_state, closed_status}
+use Rattle.cpn_runs.proofs.States.{leads_more, every_state, closed_status}
 use Rattle.cpn_standing.specs.Held.{held_from, AreHeld}
 use Rattle.cpn_log.specs.Kept.{IsKept}
 use Rattle.cpn_log.specs.Logs.{PlainLog, head_of, begin_done, with_status, with_committed}
@@ -72,7 +71,7 @@ module _ (setup : PlainSetup) (journal : List PlainEvent) (state : PlainState) (
   abbrev pub completed_state : PlainState
   completed_state = record state { claims = slice_set state.claims number completed_claim }
 
-  may_complete : MayComplete setup state seat number completed_state
+  pub may_complete : MayComplete setup state seat number completed_state
   may_complete = record { none_owed = stands.none_owed; held_claim = claim; claim_is = done.stands; held = done.held; status = status; status_is = done.status_is; new_is = refl }
 
   -- it stands behind the committed claims

@@ -85,10 +85,10 @@ held_changed k seat (suc i) (c ∷ claims) old new at was not = ap (cond (is_hel
 
 -- ---- how many claims are such
 
-counted : (p : PlainClaim → Bool) (c : PlainClaim) (claims : List PlainClaim) → count_by p (c ∷ claims) ≡ cond (p c) 1 0 + count_by p claims
+pub counted : (p : PlainClaim → Bool) (c : PlainClaim) (claims : List PlainClaim) → count_by p (c ∷ claims) ≡ cond (p c) 1 0 + count_by p claims
 counted p c claims = sum_by-cons (λ y. cond (p y) 1 0) c claims
 
-none_counted : (p : PlainClaim → Bool) (claims : List PlainClaim) → count_by p claims ≤ 0 → list_any p claims ≡ false
+pub none_counted : (p : PlainClaim → Bool) (claims : List PlainClaim) → count_by p claims ≤ 0 → list_any p claims ≡ false
 none_counted p [] few = refl
 none_counted p (c ∷ claims) few = split (p c) (subst (λ n. n ≤ 0) (counted p c claims) few) (λ h. none_counted p claims h)
   where
@@ -96,7 +96,7 @@ none_counted p (c ∷ claims) few = split (p c) (subst (λ n. n ≤ 0) (counted 
     split true h rest = absurd (omega (arith, h))
     split false h rest = rest (omega (arith, h))
 
-one_counted : (p : PlainClaim → Bool) (claims : List PlainClaim) (i : ℕ) (c : PlainClaim) → slice_get claims i ≡ Some c → p c ≡ true → 1 ≤ count_by p claims
+pub one_counted : (p : PlainClaim → Bool) (claims : List PlainClaim) (i : ℕ) (c : PlainClaim) → slice_get claims i ≡ Some c → p c ≡ true → 1 ≤ count_by p claims
 one_counted p [] i c at is = cc
 one_counted p (d ∷ claims) zero c at is =
     let same : d ≡ c = cc in

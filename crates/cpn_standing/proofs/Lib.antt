@@ -5,3 +5,4 @@ pub mod StartedRuns
 pub mod MadeClaims
 pub mod CompletedClaims
 pub mod MovedClocks
+pub mod OpenClaims

@@ -1,13 +1,13 @@
 -- What becomes of the claims of a run, as a log keeps them, by each call on the log.
-use Rattle.std.proofs.Common.{◌≡◌, ℕ, suc, ◌+◌, true, false, cond, List, [], ◌∷◌, ◌++◌, length, take, Some, None, refl, sym, ap, ◌∙◌, arith, append_assoc, slice_get, slice_set}
+use Rattle.std.proofs.Common.{◌≡◌, ℕ, suc, ◌+◌, true, false, List, [], ◌∷◌, ◌++◌, length, take, Some, refl, sym, ap, ◌∙◌, arith, append_assoc, slice_get, slice_set}
 use Rattle.std.proofs.lemmas.List.{map-append, length-map}
 use Rattle.cpn_definitions.specs.Marking.{Marking}
 use Rattle.cpn_definitions.specs.Occurrence.{are_covered, threshold}
-use Rattle.cpn_runs.specs.HoleRun.{PlainClaim, Status, is_done, done_prefix, marking_left, after_claim}
+use Rattle.cpn_runs.specs.HoleRun.{PlainClaim, Status, is_done, done_prefix, marking_left}
 use Rattle.cpn_runs.specs.State.{cut_at}
 use Rattle.cpn_runs.proofs.Cuts.{AreDone, cut_of}
 use Rattle.cpn_runs.proofs.Items.{all_joined}
-use Rattle.cpn_runs.proofs.Sequences.{left_on, left_parts, marking_left_more}
+use Rattle.cpn_runs.proofs.Sequences.{left_joined, marking_left_more}
 use Rattle.cpn_log.specs.Logs.{PlainLog, head_of, started, begin_done, with_status, changed_to, with_committed}
 use Rattle.cpn_log.specs.Kept.{IsKept}
 use Rattle.cpn_standing.specs.Logged.{HasClaims}
@@ -37,16 +37,6 @@ pub owed_behind : (front rest : List PlainClaim) → AreDone front → begin_don
 owed_behind front rest done stops =
     ap (λ k. cut_at k (slice_get (front ++ rest) k)) (stops_at front rest done stops)
     ∙ ap (cut_at (length front)) (ap (slice_get (front ++ rest)) (let e : length front ≡ length front + 0 = omega arith in e) ∙ behind front rest 0)
-
-on_from : (m : Marking) (claim : PlainClaim) (claims : List PlainClaim) → are_covered (threshold claim.time) m claim.needs ≡ true → marking_left m (claim ∷ claims) ≡ marking_left (after_claim claim m) claims
-on_from m claim claims covers = left_on m claim claims ∙ ap (λ b. cond b (marking_left (after_claim claim m) claims) None) covers
-
--- what claims leave, the first of which leave a marking
-pub left_joined : (m : Marking) (front rest : List PlainClaim) (mid : Marking) → marking_left m front ≡ Some mid → marking_left m (front ++ rest) ≡ marking_left mid rest
-left_joined m [] rest mid is = let same : m ≡ mid = cc in ap (λ k. marking_left k rest) same
-left_joined m (claim ∷ front) rest mid is =
-    let parts = left_parts m claim front mid is in
-    on_from m claim (front ++ rest) parts.0 ∙ left_joined (after_claim claim m) front rest mid parts.1
 
 -- ---- the calls on a log
 

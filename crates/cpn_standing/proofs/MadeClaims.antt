@@ -6,7 +6,7 @@ use Rattle.cpn_definitions.specs.Enabled.{PlainEntry, Enabled, ready}
 use Rattle.cpn_definitions.specs.Occurrence.{PlainElement}
 use Rattle.cpn_runs.specs.HoleRun.{PlainClaim, is_done}
 use Rattle.cpn_runs.specs.State.{PlainSetup, PlainState, PlainEvent, claim_made, new_claim, is_held_by, IsDrawn, MayClaim, first_state, owed_cut, cut_at}
-use Rattle.cpn_runs.proofs.Rounds.{leads_more}
+use Rattle.cpn_runs.proofs.States.{leads_more}
 use Rattle.cpn_standing.specs.Held.{held_from, AreHeld}
 use Rattle.cpn_log.specs.Kept.{IsKept}
 use Rattle.cpn_standing.specs.Logged.{HasClaims}

@@ -8,8 +8,7 @@ use Rattle.cpn_runs.specs.HoleRun.{PlainClaim, is_open}
 use Rattle.cpn_runs.specs.State.{PlainSetup, PlainState, PlainEvent, PlainEnd, PlainCut, clock_moved, is_held_by, MayMove, first_state, HasCause, EndsBy, settled_in, committed_occurrences}
 use Rattle.cpn_runs.specs.Run.{Outlook, HasOutlook, IsRun}
 use Rattle.cpn_runs.proofs.Journals.{IsStart, ended_is_run, ended_is_settled}
-use Rattle.cpn_runs.proofs.Rounds.{leads_more}
-use Rattle.cpn_runs.proofs.States.{IsClaimOf, every_state}
+use Rattle.cpn_runs.proofs.States.{leads_more, IsClaimOf, every_state}
 use Rattle.cpn_standing.specs.Held.{held_from}
 use Rattle.cpn_log.specs.Logs.{PlainLog}
 use Rattle.cpn_standing.specs.Standing.{StandsAt}
@@ -38,7 +37,7 @@ none_open_of seats (claim ∷ claims) known none =
     split true is rest = absurd (own (is_open claim.status) is (parts (is_held_by claim.seat claim) (list_any (is_held_by claim.seat) claims) (none claim.seat known.0)).0)
     split false is rest = rw is rest
 
-seats_known : (setup : PlainSetup) (claims : List PlainClaim) → AllByRecursion (IsClaimOf setup) claims → AllByRecursion (λ (claim : PlainClaim). claim.seat < setup.limits.seats) claims
+pub seats_known : (setup : PlainSetup) (claims : List PlainClaim) → AllByRecursion (IsClaimOf setup) claims → AllByRecursion (λ (claim : PlainClaim). claim.seat < setup.limits.seats) claims
 seats_known setup [] all = tt
 seats_known setup (claim ∷ claims) all = (all.0.seat_known, seats_known setup claims all.1)
 

@@ -1,4 +1,4 @@
-pub mod FiveMeanings
+pub mod ThreeMeanings
 pub mod SolvableGuards
 pub mod LoneVariables
 pub mod TwoPlaceNets

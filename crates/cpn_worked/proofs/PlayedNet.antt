@@ -7,7 +7,8 @@ use Rattle.cpn_definitions.specs.Net.{PlainNet}
 use Rattle.cpn_definitions.specs.Sound.{IsSound, IsSoundTransition, IsMarking}
 use Rattle.cpn_runs.specs.Bounds.{most_steps}
 use Rattle.cpn_runs.specs.State.{PlainSetup}
-use Rattle.cpn_book.specs.Playable.{most_after, IsPlayable}
+use Rattle.cpn_runs.specs.Bounds.{most_after}
+use Rattle.cpn_runs.specs.Playable.{IsPlayable}
 use Rattle.cpn_worked.specs.ThreePlaces.{arc_of, transition_of, worked, start_of}
 use Rattle.cpn_worked.proofs.SolvableGuards.{none_there, without_variables}
 
@@ -73,8 +74,8 @@ is_bounded second = record { few = few second; stamped = stamped second }
     stamped false (suc (suc zero)) = refl
     stamped false (suc (suc (suc p))) = refl
 
--- a run of one seat may start from the net and one of its markings
-pub may_start : (setup : PlainSetup) (second : Bool) → setup.net ≡ worked → setup.start ≡ start_of second → setup.clock ≡ 0 → setup.limits.until ≡ 0 → setup.limits.steps ≤ most_steps → setup.limits.seats ≡ 1 → IsPlayable setup
+-- a run of two seats may start from the net and one of its markings
+pub may_start : (setup : PlainSetup) (second : Bool) → setup.net ≡ worked → setup.start ≡ start_of second → setup.clock ≡ 0 → setup.limits.until ≡ 0 → setup.limits.steps ≤ most_steps → setup.limits.seats ≡ 2 → IsPlayable setup
 may_start setup second net start clock until steps seat = record {
   sound = subst IsSound (sym net) is_sound;
   marking = subst (λ (n : PlainNet). IsMarking n.places setup.start) (sym net) (subst (IsMarking worked.places) (sym start) (is_marking second));
@@ -82,5 +83,6 @@ may_start setup second net start clock until steps seat = record {
   clock = omega arith;
   until = omega arith;
   steps = steps;
-  seat = seat;
+  some_seat = omega arith;
+  few_seats = omega arith;
 }

@@ -1,3 +1,3 @@
-pub mod FiveVariables
+pub mod ThreeVariables
 pub mod TwoPlaces
 pub mod ThreePlaces

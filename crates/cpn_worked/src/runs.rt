@@ -1,6 +1,7 @@
-//! Runs of one seat: that the calls succeed where memory is left, and that the definitions mean what the table here says, which was
+//! Runs that one seat takes to their end: that the calls succeed where memory is left, and that the definitions mean what the table here says, which was
 //! filled in by hand.
 ghost use Rattle.std.specs.Prelude.{◌≡◌, ◌+◌, ◌<◌, ◌≤◌, [], ◌∷◌, map, IfOk};
+ghost use Rattle.cpn_book.specs.Books.{setup_in, IsBook};
 ghost use Rattle.cpn_core.specs.Colours.{colour_view};
 ghost use Rattle.cpn_core.specs.Nets.{arc_view, net_view, place_view, transition_view};
 ghost use Rattle.cpn_worked.specs.ThreePlaces.{small, arc_of, transition_of, place_of, worked, start_of};
@@ -137,8 +138,11 @@ fn shared_net(alloc: Global) -> Result<Arc<Net>, Memory>
     Ok(Arc::new(alloc, net)?)
 }
 
-fn run(alloc: Global, second: bool, steps: u64) -> Result<Finished, Memory>
+/// The book of a run that starts with a 2 on B, or else with a 1 on A, and may make so many claims, of two seats.
+fn book(alloc: Global, second: bool, steps: u64) -> Result<Book, Memory>
     requires few { steps ≤ 10 }
+    ensures kept { IfOk result (λ book. IsBook book) }
+    ensures seats { IfOk result (λ book. (setup_in book).limits.seats ≡ 2) }
 {
     let start = marking(alloc, second)?;
     let net = shared_net(alloc)?;
@@ -149,12 +153,11 @@ fn run(alloc: Global, second: bool, steps: u64) -> Result<Finished, Memory>
         limits: Limits {
             steps,
             until: 0,
-            seats: 1,
+            seats: 2,
         },
         seed: 0,
     };
-    let book = Book::start(alloc, setup);
-    book.run_alone()
+    Book::start(alloc, setup)
 }
 
 /// Writes the events, without their seats.
@@ -224,7 +227,7 @@ fn told(alloc: Global, run: &Finished) -> Result<String, Memory> {
 fn is_told(alloc: Global, second: bool, steps: u64, wanted: &str) -> Result<bool, Memory>
     requires few { steps ≤ 10 }
 {
-    let run = run(alloc, second, steps)?;
+    let run = book(alloc, second, steps)?.run_alone()?;
     Ok(told(alloc, &run)?.as_str() == wanted)
 }
 

@@ -20,6 +20,6 @@ report-requires c =
     let Starts : PlainSetup → Type 0 = λ s. IsSound s.net × IsNamed s.net × IsMarking s.net.places s.start in
     let OfNet : Net → Type 0 = λ n. IsSound (net_view n) × IsNamed (net_view n) × IsMarking (net_view n).places (loaded_view c.args.loaded).initial in
     let Runs : PlainSetup → Type 0 = λ s. IsRun s (finished_view run) in
-    let at : setup_view run.setup ≡ _ = c.in_ok-finished.ensures.setup ∙ c.start-book.ensures.setup in
+    let at : setup_view run.setup ≡ _ = c.in_ok-finished.ensures.setup ∙ c.in_ok-book.ensures.setup in
     let start : Starts (setup_view run.setup) = subst Starts (sym at) (subst OfNet (sym same) (loaded.sound, loaded.named, loaded.marking)) in
     record { printable = is_printable (setup_view run.setup) (finished_view run) start.0 start.1 start.2 (subst Runs (sym c.in_ok-finished.ensures.setup) c.in_ok-finished.ensures.run) }

@@ -1,110 +1,52 @@
--- The run is under way at its start; it ends where a round does not begin or has a fault, and by its limit where all rounds were
--- played.
-use Rattle.std.proofs.Common.{◌≡◌, ℕ, Option, IfSome, length, map, refl, sym, ap, ◌∙◌, subst, arith}
-use Rattle.std.proofs.Math.Path.{ap₂}
-use Rattle.cpn_definitions.specs.Marking.{Marking}
-use Rattle.cpn_definitions.specs.Enabled.{Enabled}
-use Rattle.cpn_core.specs.declared.nets.Net.{Net}
-use Rattle.cpn_core.specs.Nets.{net_view}
-use Rattle.cpn_core.specs.Elements.{entry_view}
-use Rattle.cpn_runs.specs.State.{steps_made}
-use Rattle.cpn_runs.specs.Run.{PlainFinished, IsRun}
+-- A round leads from a book to a book, and what is shown at the end is a run, which is in time and bounded.
+use Rattle.std.proofs.Common.{◌≡◌, ◌++◌, sym, ap, ◌∙◌, subst, arith, append_assoc}
+use Rattle.cpn_log.specs.Logs.{claims_made}
+use Rattle.cpn_log.specs.LogViews.{log_view}
 use Rattle.cpn_runs.specs.Views.{end_view}
-use Rattle.cpn_runs.specs.FinishedViews.{finished_view}
-use Rattle.cpn_runs.specs.declared.events.End.{End}
-use Rattle.cpn_book.specs.Books.{setup_in}
-use Rattle.cpn_book.specs.Progress.{HasEnded}
-use Rattle.cpn_book.specs.Shown.{outlook_at, shown}
-use Rattle.cpn_book.proofs.EndedRuns.{starts, over_by_steps, ends_so, ends_in_time, ends_bounded}
+use Rattle.cpn_runs.specs.FinishedViews.{setup_view, finished_view}
+use Rattle.cpn_book.specs.Books.{setup_in, journal_in, IsBook}
+use Rattle.cpn_book.specs.declared.books.Book.{Book}
+use Rattle.cpn_book.proofs.BoundedBooks.{shown_run, run_in_time, run_bounded}
+use Rattle.cpn_book.proofs.RunningBooks.{running_is_book}
 use Rattle.cpn_book.proofs.books.Book.run_alone.Goals as goal
 
-pub rounds-init : goal.rounds-init
-rounds-init c =
-    let s = setup_in c.args.self in
-    let P : Net → Type 0 = λ n. Enabled (net_view n) c.in_ok-copy.field-0 c.args.self.setup.clock (map entry_view c.in_ok-entries.entries.items) in
-    record {
-      running = starts s _ c.requires.playable refl c.in_ok-copy.ensures.same c.new.ensures.items c.new-2.ensures.items c.new-3.ensures;
-      enabled = subst P c.deref.ensures c.in_ok-entries.ensures.enabled;
-      count = ap length c.new.ensures.items;
-    }
-
-pub returns-clause-run : goal.returns-clause-run
-returns-clause-run c =
-    let s = setup_in c.args.self in
-    let P : Net → Type 0 = λ n. Enabled (net_view n) c.in_ok-copy.field-0 c.args.self.setup.clock (map entry_view c.in_ok-entries.entries.items) in
-    let Q : Marking → Type 0 = λ m. Enabled s.net m s.clock (map entry_view c.in_ok-entries.entries.items) in
-    let R : PlainFinished → Type 0 = λ run. IsRun s run in
-    let at_start : Enabled s.net s.start s.clock (map entry_view c.in_ok-entries.entries.items) = subst Q c.in_ok-copy.ensures.same (subst P c.deref.ensures c.in_ok-entries.ensures.enabled) in
-    let opening = c.outlook-opening.ensures.outlook ∙ ap (λ xs. outlook_at s.clock (map entry_view xs)) c.deref-2.ensures.value in
-    subst R (sym (c.finished-2.ensures.shown ∙ ap₂ (λ o xs. shown s c.rounds.progress o (map entry_view xs) steps_made) opening c.deref-3.ensures.value))
-    (ends_so s c.rounds.progress steps_made (map entry_view c.in_ok-entries.entries.items) (map entry_view c.rounds.entries.items) (over_by_steps s c.rounds.progress c.rounds.invariant.running (omega arith)) at_start c.rounds.invariant.enabled)
-
-pub returns-in-Some-clause-run : goal.returns-in-Some-clause-run
-returns-in-Some-clause-run c =
-    let s = setup_in c.args.self in
-    let p = c.reach_next_time.new.progress in
-    let first = map entry_view c.in_ok-entries.entries.items in
-    let entries = map entry_view c.rounds.entries.items in
-    let P : Net → Type 0 = λ n. Enabled (net_view n) c.in_ok-copy.field-0 c.args.self.setup.clock first in
-    let Q : Marking → Type 0 = λ m. Enabled s.net m s.clock first in
-    let R : PlainFinished → Type 0 = λ run. IsRun s run in
-    let Ended : Option End → Type 0 = λ ended. IfSome ended (λ cause. HasEnded s p (end_view cause)) in
-    let at_start : Enabled s.net s.start s.clock first = subst Q c.in_ok-copy.ensures.same (subst P c.deref.ensures c.in_ok-entries.ensures.enabled) in
-    let has_ended : HasEnded s p (end_view c.in-Some.cause) = subst Ended c.in-Some.is c.in_ok-cause.ensures.ended in
-    let opening = c.outlook-opening.ensures.outlook ∙ ap (λ xs. outlook_at s.clock (map entry_view xs)) c.deref-2.ensures.value in
-    subst R (sym (c.finished.ensures.shown ∙ ap₂ (λ o xs. shown s p o (map entry_view xs) (end_view c.in-Some.cause)) opening c.deref-in-Some.ensures.value))
-    (ends_so s p (end_view c.in-Some.cause) first entries has_ended at_start (subst (λ xs. Enabled s.net p.marking p.clock (map entry_view xs)) c.deref-in-rounds.ensures.value c.in_ok-cause.ensures.enabled))
-
-pub returns-in-Some-2-clause-run : goal.returns-in-Some-2-clause-run
-returns-in-Some-2-clause-run c =
-    let s = setup_in c.args.self in
-    let q = c.reach_next_time.new.progress in
-    let p = c.play_round.new.progress in
-    let first = map entry_view c.in_ok-entries.entries.items in
-    let entries = map entry_view c.rounds.entries.items in
-    let P : Net → Type 0 = λ n. Enabled (net_view n) c.in_ok-copy.field-0 c.args.self.setup.clock first in
-    let Q : Marking → Type 0 = λ m. Enabled s.net m s.clock first in
-    let R : PlainFinished → Type 0 = λ run. IsRun s run in
-    let Ended : Option End → Type 0 = λ ended. IfSome ended (λ cause. HasEnded s p (end_view cause)) in
-    let Kept : Option End → Type 0 = λ ended. IfSome ended (λ _. p.marking ≡ q.marking) in
-    let At : Marking → ℕ → Type 0 = λ m t. Enabled s.net m t entries in
-    let at_start : Enabled s.net s.start s.clock first = subst Q c.in_ok-copy.ensures.same (subst P c.deref.ensures c.in_ok-entries.ensures.enabled) in
-    let has_ended : HasEnded s p (end_view c.in-Some-2.cause) = subst Ended c.in-Some-2.is c.in_ok-cause-2.ensures.ended in
-    let kept : p.marking ≡ q.marking = subst Kept c.in-Some-2.is c.in_ok-cause-2.ensures.marking in
-    let at_next : Enabled s.net q.marking q.clock entries = subst (λ xs. Enabled s.net q.marking q.clock (map entry_view xs)) c.deref-in-rounds.ensures.value c.in_ok-cause.ensures.enabled in
-    let at_end : Enabled s.net p.marking p.clock entries = subst (At p.marking) (sym c.in_ok-cause-2.ensures.clock) (subst (λ m. At m q.clock) (sym kept) at_next) in
-    let opening = c.outlook-opening.ensures.outlook ∙ ap (λ xs. outlook_at s.clock (map entry_view xs)) c.deref-2.ensures.value in
-    subst R (sym (c.finished-in-Some-2.ensures.shown ∙ ap₂ (λ o xs. shown s p o (map entry_view xs) (end_view c.in-Some-2.cause)) opening c.deref-in-Some-2.ensures.value))
-    (ends_so s p (end_view c.in-Some-2.cause) first entries has_ended at_start at_end)
-
-pub returns-clause-in_time : goal.returns-clause-in_time
-returns-clause-in_time c = ends_in_time (setup_in c.args.self) (finished_view c.finished-2.result) c.requires.playable.clock (returns-clause-run c)
-
 pub returns-in-Some-clause-in_time : goal.returns-in-Some-clause-in_time
-returns-in-Some-clause-in_time c = ends_in_time (setup_in c.args.self) (finished_view c.finished.result) c.requires.playable.clock (returns-in-Some-clause-run c)
-
-pub returns-in-Some-2-clause-in_time : goal.returns-in-Some-2-clause-in_time
-returns-in-Some-2-clause-in_time c = ends_in_time (setup_in c.args.self) (finished_view c.finished-in-Some-2.result) c.requires.playable.clock (returns-in-Some-2-clause-run c)
-
-pub returns-clause-bounded : goal.returns-clause-bounded
-returns-clause-bounded c =
+returns-in-Some-clause-in_time c =
     let s = setup_in c.args.self in
-    let all = c.rounds.invariant.count in
-    let m = ap (λ (run : PlainFinished). run.marking) c.finished-2.ensures.shown in
-    rw m (ends_bounded s (length c.rounds.progress.occurrences.items) c.rounds.progress.marking c.requires.playable (omega (arith, all)) c.rounds.invariant.running.bounded)
+    run_in_time s (finished_view c.ended.result) c.requires.kept.playable
+    (shown_run s c.take_end.new.self (end_view c.in-Some.cause) (finished_view c.ended.result) c.in-Some.ensures.end c.ended.ensures.shown (c.take_end.ensures.setup ∙ ap setup_view c.loop-number.invariant.setup))
 
 pub returns-in-Some-clause-bounded : goal.returns-in-Some-clause-bounded
 returns-in-Some-clause-bounded c =
     let s = setup_in c.args.self in
-    let all = c.rounds.invariant.count in
-    let m = ap (λ (run : PlainFinished). run.marking) c.finished.ensures.shown ∙ c.reach_next_time.ensures.marking in
-    rw m (ends_bounded s (length c.rounds.progress.occurrences.items) c.rounds.progress.marking c.requires.playable (omega (arith, all)) c.rounds.invariant.running.bounded)
+    run_bounded s (finished_view c.ended.result) c.requires.kept.playable
+    (shown_run s c.take_end.new.self (end_view c.in-Some.cause) (finished_view c.ended.result) c.in-Some.ensures.end c.ended.ensures.shown (c.take_end.ensures.setup ∙ ap setup_view c.loop-number.invariant.setup))
 
-pub returns-in-Some-2-clause-bounded : goal.returns-in-Some-2-clause-bounded
-returns-in-Some-2-clause-bounded c =
+pub loop-number-preserved : goal.loop-number-preserved
+loop-number-preserved c =
+    let mid = c.take_end.new.self in
+    let same : c.take_end.new.self ≡ c.loop-number.book = c.take_end.ensures.same c.in_default.is in
+    let goes_on = c.take_end.ensures.goes_on c.in_default.is in
+    let follows = c.in_ok-play_round.ensures.follows in
+    let kept : IsBook c.take_end.new.self = subst IsBook (sym same) c.loop-number.invariant.kept in
+    let before = c.loop-number.invariant.events in
+    record {
+      kept = running_is_book c.take_end.new.self c.play_round.new.self kept follows.setup follows.works follows.opening c.in_ok-play_round.ensures.running;
+      running = c.in_ok-play_round.ensures.running;
+      none_open = c.in_ok-play_round.ensures.none_open;
+      setup = follows.setup ∙ ap (λ (b : Book). b.setup) same ∙ c.loop-number.invariant.setup;
+      events = (before.0 ++ follows.more, follows.events ∙ ap (λ (b : Book). journal_in b ++ follows.more) same ∙ ap (λ es. es ++ follows.more) before.1 ∙ append_assoc (journal_in c.args.self) before.0 follows.more);
+      made = λ uncut. (let one = c.in_ok-play_round.ensures.made uncut in let old = ap (λ (b : Book). claims_made (log_view b.standing.log)) same in let number = c.loop-number.invariant.made goes_on.uncut in omega (arith, one, old, number));
+    }
+
+pub returns-clause-in_time : goal.returns-clause-in_time
+returns-clause-in_time c =
     let s = setup_in c.args.self in
-    let all = c.rounds.invariant.count in
-    let Kept : Option End → Type 0 = λ ended. IfSome ended (λ _. c.play_round.new.progress.marking ≡ c.reach_next_time.new.progress.marking) in
-    let kept = subst Kept c.in-Some-2.is c.in_ok-cause-2.ensures.marking in
-    let m = ap (λ (run : PlainFinished). run.marking) c.finished-in-Some-2.ensures.shown ∙ kept ∙ c.reach_next_time.ensures.marking in
-    rw m (ends_bounded s (length c.rounds.progress.occurrences.items) c.rounds.progress.marking c.requires.playable (omega (arith, all)) c.rounds.invariant.running.bounded)
+    run_in_time s (finished_view c.ended-in-Some-take_end.result) c.requires.kept.playable
+    (shown_run s c.take_end-2.new.self (end_view c.in-Some-take_end.cause) (finished_view c.ended-in-Some-take_end.result) c.in-Some-take_end.ensures.end c.ended-in-Some-take_end.ensures.shown (c.take_end-2.ensures.setup ∙ ap setup_view c.loop-number.invariant.setup))
+
+pub returns-clause-bounded : goal.returns-clause-bounded
+returns-clause-bounded c =
+    let s = setup_in c.args.self in
+    run_bounded s (finished_view c.ended-in-Some-take_end.result) c.requires.kept.playable
+    (shown_run s c.take_end-2.new.self (end_view c.in-Some-take_end.cause) (finished_view c.ended-in-Some-take_end.result) c.in-Some-take_end.ensures.end c.ended-in-Some-take_end.ensures.shown (c.take_end-2.ensures.setup ∙ ap setup_view c.loop-number.invariant.setup))

@@ -1,15 +1,20 @@
--- Between two rounds the run is under way, and the list is that of what is enabled in its marking.
-use Rattle.std.proofs.Common.{◌≡◌, map, length}
-use Rattle.cpn_definitions.specs.Enabled.{Enabled}
-use Rattle.cpn_core.specs.Nets.{net_view}
-use Rattle.cpn_core.specs.Elements.{entry_view}
-use Rattle.cpn_runs.specs.FinishedViews.{setup_view}
-use Rattle.cpn_book.specs.Progress.{IsRunning}
+-- Between two rounds no claim is open, the journal goes on from the one before, and while no cut stands as many claims were made as
+-- there were rounds.
+use Rattle.std.proofs.Common.{◌≡◌, ◌++◌, List, None}
+use Rattle.std.specs.List.{count_by}
+use Rattle.std.specs.Option.{is_some}
+use Rattle.cpn_log.specs.Logs.{claims_made}
+use Rattle.cpn_log.specs.LogViews.{log_view}
+use Rattle.cpn_runs.specs.State.{PlainEvent}
+use Rattle.cpn_book.specs.Books.{journal_in, IsBook, IsRunning}
 use Rattle.cpn_book.proofs.books.Book.run_alone.Given as goal
 
-abbrev pub invariant-rounds : goal.invariant-rounds
-invariant-rounds l = record {
-  running : IsRunning (setup_view l.setup) l.progress;
-  enabled : Enabled (net_view l.setup.net.value) l.progress.marking l.progress.clock (map entry_view l.entries.items);
-  count : length l.progress.occurrences.items ≡ l._number;
+abbrev pub invariant-loop-number : goal.invariant-loop-number
+invariant-loop-number l = record {
+  kept : IsBook l.book;
+  running : IsRunning l.book;
+  none_open : count_by is_some l.book.standing.held.items ≡ 0;
+  setup : l.book.setup ≡ l.fn.self.setup;
+  events : (more : List PlainEvent) × (journal_in l.book ≡ journal_in l.fn.self ++ more);
+  made : l.book.standing.cut ≡ None → claims_made (log_view l.book.standing.log) ≡ l._number;
 }

@@ -1,0 +1,213 @@
+-- Where a run stands when what can be committed is committed, and when a cut is made.
+use Rattle.std.proofs.Common.{◌≡◌, ℕ, zero, suc, ◌+◌, ◌<◌, ◌⊎◌, inl, inr, true, false, List, [], ◌∷◌, ◌++◌, length, map, take, Some, None, refl, sym, ap, ◌∙◌, subst, arith, slice_get, length-append, append_assoc}
+use Rattle.std.specs.List.{AllByRecursion}
+use Rattle.std.specs.Option.{option_map}
+use Rattle.std.proofs.lemmas.List.{append-nil, take-map}
+use Rattle.std.proofs.Math.Seq.{take-append_seam}
+use Rattle.cpn_definitions.specs.Occurrence.{outputs_of}
+use Rattle.cpn_definitions.specs.Outcome.{Fault}
+use Rattle.cpn_jobs.specs.Views.{job_view}
+use Rattle.cpn_log.specs.Kept.{IsKept}
+use Rattle.cpn_log.specs.Logs.{PlainLog, head_of, heads, claims_made, begin_done, with_committed}
+use Rattle.cpn_log.specs.LogViews.{log_view, jobs_in}
+use Rattle.cpn_runs.specs.HoleRun.{PlainClaim, Status, open_claim, done_with, faulted_with, is_done, is_open}
+use Rattle.cpn_runs.specs.State.{PlainSetup, PlainState, cut_made, cut_at, fault_end, status_after, numbered, committed_occurrences}
+use Rattle.cpn_runs.specs.Views.{event_view}
+use Rattle.cpn_runs.proofs.Items.{all_parts}
+use Rattle.cpn_runs.proofs.States.{IsClaimOf, every_state}
+use Rattle.cpn_standing.specs.Standing.{IsTold, StandsAt}
+use Rattle.cpn_standing.proofs.CompletedClaims.{told_committed, stands_committed, stands_cut}
+use Rattle.cpn_standing.proofs.LoggedClaims.{committed_is}
+use Rattle.cpn_book.specs.Standings.{IsToldAt, IsAt, IsDoneClaim, HasCommitted, StillCommitted, job_for, cut_view, events_in, occurrences_in}
+use Rattle.cpn_book.specs.declared.standings.Standing.{Standing}
+use Rattle.cpn_book.proofs.CountedClaims.{as_many, first_are, heads_are}
+
+-- ---- what is committed
+
+-- claims as occurrences, with one claim more
+numbered_more : (j : ℕ) (claims : List PlainClaim) (claim : PlainClaim) → numbered j (claims ++ claim ∷ []) ≡ numbered j claims ++ record { number = j + length claims; time = claim.time; element = claim.element } ∷ []
+numbered_more j [] claim = ap (λ (k : ℕ). record { number = k; time = claim.time; element = claim.element } ∷ []) (let e : j ≡ j + 0 = omega arith in e)
+numbered_more j (c ∷ claims) claim =
+    ap (λ os. record { number = j; time = c.time; element = c.element } ∷ os)
+    (numbered_more (suc j) claims claim ∙ ap (λ (k : ℕ). numbered (suc j) claims ++ record { number = k; time = claim.time; element = claim.element } ∷ []) (let e : suc j + length claims ≡ j + suc (length claims) = omega arith in e))
+
+-- claims of a run that are done are so with their outputs
+done_claims : (setup : PlainSetup) (claims : List PlainClaim) → AllByRecursion (IsClaimOf setup) claims → AllByRecursion (λ claim. is_done claim.status ≡ true) claims → AllByRecursion (IsDoneClaim setup) claims
+done_claims setup [] each done = tt
+done_claims setup (claim ∷ claims) each done = (record { done = done.0; needs = each.0.needs_are; outputs = evaluated claim.status done.0 each.0.status_is }, done_claims setup claims each.1 done.1)
+  where
+    evaluated : (status : Status) → is_done status ≡ true → (is_open status ≡ true) ⊎ (status_after (outputs_of setup.net claim.element claim.time) ≡ Some status) → status_after (outputs_of setup.net claim.element claim.time) ≡ Some status
+    evaluated open_claim is (inl opened) = absurd cc
+    evaluated (done_with outputs) is (inl opened) = absurd cc
+    evaluated (faulted_with fault) is (inl opened) = absurd cc
+    evaluated status is (inr after) = after
+
+pub has_committed_at : (setup : PlainSetup) (s : Standing) → IsToldAt setup s → HasCommitted setup s
+has_committed_at setup s at = record {
+  claims = at.told.has.committed;
+  each = done_claims setup at.told.has.committed (all_parts (IsClaimOf setup) at.told.has.committed (log_view s.log).claims (subst (AllByRecursion (IsClaimOf setup)) at.told.has.claims_are (every_state setup (events_in s) at.state at.told.reached).claims_are)).0 at.told.has.done;
+  heads_are = at.told.has.heads;
+  left = at.told.has.left;
+  occurrences = at.occurrences ∙ ap (numbered 0) (first_are setup.start at.state.claims (log_view s.log) at.told.has);
+}
+
+-- where the committed part and its occurrences are as they were, they still stand
+pub still_same : (setup : PlainSetup) (old new : Standing) → HasCommitted setup old → (log_view new.log).committed ≡ (log_view old.log).committed → (log_view new.log).settled ≡ (log_view old.log).settled → occurrences_in new ≡ occurrences_in old → StillCommitted setup old new
+still_same setup old new has heads_same settled_same same = record {
+  committed = record { claims = has.claims; each = has.each; heads_are = has.heads_are ∙ sym heads_same; left = has.left ∙ ap Some (sym settled_same); occurrences = same ∙ has.occurrences };
+  more = [];
+  occurrences = same ∙ sym (append-nil (occurrences_in old));
+}
+
+-- so it is where a run is told
+pub still_at : (setup : PlainSetup) (old new : Standing) → IsToldAt setup old → (log_view new.log).committed ≡ (log_view old.log).committed → (log_view new.log).settled ≡ (log_view old.log).settled → occurrences_in new ≡ occurrences_in old → StillCommitted setup old new
+still_at setup old new at heads_same settled_same same = still_same setup old new (has_committed_at setup old at) heads_same settled_same same
+
+pub still_through : (setup : PlainSetup) (old mid new : Standing) → StillCommitted setup old mid → StillCommitted setup mid new → StillCommitted setup old new
+still_through setup old mid new first second = record {
+  committed = second.committed;
+  more = first.more ++ second.more;
+  occurrences = second.occurrences ∙ ap (λ os. os ++ second.more) first.occurrences ∙ append_assoc (occurrences_in old) first.more second.more;
+}
+
+-- ---- the next claim is committed
+
+module _ (setup : PlainSetup) (old new : Standing) (claim : PlainClaim) (rest : List PlainClaim) (first : (log_view old.log).claims ≡ claim ∷ rest) (done : is_done claim.status ≡ true)
+    (log_is : log_view new.log ≡ with_committed (log_view old.log) claim rest) (kept : IsKept (log_view new.log)) (jobs_same : jobs_in new.log ≡ jobs_in old.log)
+    (others : new ≡ record old { log = new.log; occurrences = new.occurrences })
+    (occurrences : occurrences_in new ≡ occurrences_in old ++ record { number = length (log_view old.log).committed; time = claim.time; element = claim.element } ∷ []) where
+  module _ (at : IsToldAt setup old) where
+    told : IsTold setup (events_in new) at.state (log_view new.log) new.held.items
+    told =
+        let first_told = told_committed setup (events_in old) at.state (log_view old.log) old.held.items claim rest at.told first done (subst IsKept log_is kept) in
+        subst (λ l. IsTold setup (events_in new) at.state l new.held.items) (sym log_is)
+        (subst (λ es. IsTold setup es at.state (with_committed (log_view old.log) claim rest) new.held.items) (sym (ap events_in others))
+        (subst (λ hs. IsTold setup (events_in old) at.state (with_committed (log_view old.log) claim rest) hs) (sym (ap (λ (s : Standing). s.held.items) others)) first_told))
+
+    claims_are : at.state.claims ≡ at.told.has.committed ++ claim ∷ rest
+    claims_are = at.told.has.claims_are ∙ ap (λ cs. at.told.has.committed ++ cs) first
+
+    abbrev front : List PlainClaim
+    front = at.told.has.committed
+
+    many : length front ≡ length (log_view old.log).committed
+    many = as_many setup.start at.state.claims (log_view old.log) at.told.has
+
+    one_more : take (length (log_view new.log).committed) at.state.claims ≡ front ++ claim ∷ []
+    one_more =
+        first_are setup.start at.state.claims (log_view new.log) told.has ∙ by
+      where
+        by : told.has.committed ≡ front ++ claim ∷ []
+        by =
+            let long : length (log_view new.log).committed ≡ length (front ++ claim ∷ []) = ap (λ (l : PlainLog). length l.committed) log_is ∙ length-append (log_view old.log).committed (head_of claim ∷ []) ∙ ap (λ (k : ℕ). k + 1) (sym many) ∙ sym (length-append front (claim ∷ [])) in
+            sym (first_are setup.start at.state.claims (log_view new.log) told.has) ∙ ap (λ k. take k at.state.claims) long ∙ ap (take (length (front ++ claim ∷ []))) (claims_are ∙ sym (append_assoc front (claim ∷ []) rest)) ∙ take-append_seam (front ++ claim ∷ []) rest
+
+    -- the run is told there still
+    pub committed_told : IsToldAt setup new
+    committed_told = record {
+      state = at.state;
+      told = told;
+      clock = ap (λ (s : Standing). s.clock) others ∙ at.clock;
+      cut = ap (λ (s : Standing). option_map cut_view s.cut) others ∙ at.cut;
+      jobs = ap (map job_view) jobs_same ∙ at.jobs ∙ ap (map (job_for setup.net)) (heads_are setup.start at.state.claims (log_view old.log) at.told.has ∙ sym (heads_are setup.start at.state.claims (log_view new.log) told.has));
+      occurrences =
+          occurrences
+          ∙ ap (λ os. os ++ record { number = length (log_view old.log).committed; time = claim.time; element = claim.element } ∷ []) (at.occurrences ∙ ap (numbered 0) (first_are setup.start at.state.claims (log_view old.log) at.told.has))
+          ∙ ap (λ (k : ℕ). numbered 0 front ++ record { number = k; time = claim.time; element = claim.element } ∷ []) (sym many ∙ (let e : length front ≡ 0 + length front = omega arith in e))
+          ∙ sym (numbered_more 0 front claim)
+          ∙ ap (numbered 0) (sym one_more);
+      draw = λ none. ap (λ (s : Standing). s.draw) others ∙ at.draw none;
+    }
+
+  -- the log counts as many claims
+  pub counts_same : claims_made (log_view new.log) ≡ claims_made (log_view old.log)
+  counts_same =
+      let a = ap claims_made log_is in
+      let b = length-append (log_view old.log).committed (head_of claim ∷ []) in
+      let c = ap length first in
+      omega (arith, a, b, c)
+
+-- ---- nothing more can be committed
+
+module _ (setup : PlainSetup) (old : Standing) (at : IsToldAt setup old) (stops : begin_done (log_view old.log).claims ≡ false) where
+  -- where the next claim is open, or there is none, the run stands there
+  pub stands_so : cut_at (length (log_view old.log).committed) (slice_get (log_view old.log).claims 0) ≡ None → IsAt setup old
+  stands_so none =
+      let stands = stands_committed setup (events_in old) at.state (log_view old.log) (log_view old.log) old.held.items at.told stops none in
+      record { at = at; stops = stops; none_owed = stands.none_owed }
+
+  module _ (claim : PlainClaim) (fault : Fault) (next : slice_get (log_view old.log).claims 0 ≡ Some claim) (failed : claim.status ≡ faulted_with fault) (new : Standing)
+      (log_cut : (log_view new.log).claims ≡ [])
+      (jobs_cut : jobs_in new.log ≡ take (length (log_view old.log).committed) (jobs_in old.log))
+      (heads_same : (log_view new.log).committed ≡ (log_view old.log).committed)
+      (settled_same : (log_view new.log).settled ≡ (log_view old.log).settled)
+      (kept : IsKept (log_view new.log))
+      (long : length new.held.items ≡ length old.held.items)
+      (free : (s : ℕ) → s < length old.held.items → slice_get new.held.items s ≡ Some None)
+      (cut : option_map cut_view new.cut ≡ Some (record { number = length (log_view old.log).committed; cause = fault_end claim.element fault }))
+      (events : events_in new ≡ events_in old ++ cut_made (length (log_view old.log).committed) ∷ [])
+      (rest : new ≡ record old { log = new.log; held = new.held; journal = new.journal; cut = new.cut }) where
+    abbrev after : PlainState
+    after = record at.state { claims = take (length (log_view old.log).committed) at.state.claims; cut = Some (record { number = length (log_view old.log).committed; cause = fault_end claim.element fault }) }
+
+    stands : StandsAt setup (events_in new) after (log_view new.log) new.held.items
+    stands =
+        let seats = at.told.holds.each in
+        let first = stands_cut setup (events_in old) at.state (log_view old.log) (log_view new.log) old.held.items at.told stops claim fault next failed log_cut heads_same settled_same kept new.held.items (long ∙ seats) (λ s lt. free s (subst (λ (k : ℕ). s < k) (sym seats) lt)) in
+        subst (λ es. StandsAt setup es after (log_view new.log) new.held.items) (sym events) first
+
+    -- the cut stands
+    pub cut_stands : IsAt setup new
+    cut_stands = record {
+      at = record {
+        state = after;
+        told = stands.told;
+        clock = ap (λ (s : Standing). s.clock) rest ∙ at.clock;
+        cut = cut;
+        jobs =
+            ap (map job_view) jobs_cut ∙ sym (take-map job_view (length (log_view old.log).committed) (jobs_in old.log))
+            ∙ ap (take (length (log_view old.log).committed)) at.jobs
+            ∙ take-map (job_for setup.net) (length (log_view old.log).committed) (heads (log_view old.log))
+            ∙ ap (map (job_for setup.net)) (take-append_seam (log_view old.log).committed (map head_of (log_view old.log).claims) ∙ all_heads);
+        occurrences =
+            ap occurrences_in rest ∙ at.occurrences
+            ∙ ap (numbered 0) (sym (taken_twice (length (log_view old.log).committed) at.state.claims))
+            ∙ ap (λ hs. numbered 0 (take (length hs) after.claims)) (sym heads_same);
+        draw = λ none. let clash : Some (record { number = length (log_view old.log).committed; cause = fault_end claim.element fault }) ≡ None = none in cc;
+      };
+      stops = stands.stops;
+      none_owed = stands.none_owed;
+    }
+      where
+        all_heads : (log_view old.log).committed ≡ heads (log_view new.log)
+        all_heads = sym (append-nil (log_view old.log).committed) ∙ ap (λ hs. hs ++ []) (sym heads_same) ∙ ap (λ cs. (log_view new.log).committed ++ map head_of cs) (sym log_cut)
+
+        taken_twice : {A : Type 0} (k : ℕ) (xs : List A) → take k (take k xs) ≡ take k xs
+        taken_twice zero xs = refl
+        taken_twice (suc k) [] = refl
+        taken_twice (suc k) (x ∷ xs) = ap (λ ys. x ∷ ys) (taken_twice k xs)
+
+-- the occurrences of a state are those that are committed
+pub committed_are : (setup : PlainSetup) (s : Standing) (is : IsAt setup s) → occurrences_in s ≡ committed_occurrences setup is.at.state
+committed_are setup s is = is.at.occurrences ∙ ap (λ k. numbered 0 (take k is.at.state.claims)) (sym (committed_is setup.start is.at.state.claims (log_view s.log) (log_view s.log) is.at.told.has is.stops))
+
+-- a journal with more room holds the same events
+pub same_but_journal : (setup : PlainSetup) (old new : Standing) → IsAt setup old → new ≡ record old { journal = new.journal } → new.journal.items ≡ old.journal.items → IsAt setup new
+same_but_journal setup old new is same items =
+    let events : events_in new ≡ events_in old = ap (map event_view) items in
+    let told : IsTold setup (events_in new) is.at.state (log_view new.log) new.held.items =
+    subst (λ (s : Standing). IsTold setup (events_in new) is.at.state (log_view s.log) s.held.items) (sym same)
+    (subst (λ es. IsTold setup es is.at.state (log_view old.log) old.held.items) (sym events) is.at.told) in
+    record {
+      at = record {
+        state = is.at.state;
+        told = told;
+        clock = ap (λ (s : Standing). s.clock) same ∙ is.at.clock;
+        cut = ap (λ (s : Standing). option_map cut_view s.cut) same ∙ is.at.cut;
+        jobs = (let P : Standing → Type 0 = λ s. map job_view (jobs_in s.log) ≡ map (job_for setup.net) (heads (log_view s.log)) in subst P (sym same) is.at.jobs);
+        occurrences = (let P : Standing → Type 0 = λ s. occurrences_in s ≡ numbered 0 (take (length (log_view s.log).committed) is.at.state.claims) in subst P (sym same) is.at.occurrences);
+        draw = λ none. ap (λ (s : Standing). s.draw) same ∙ is.at.draw none;
+      };
+      stops = ap (λ (s : Standing). begin_done (log_view s.log).claims) same ∙ is.stops;
+      none_owed = is.none_owed;
+    }

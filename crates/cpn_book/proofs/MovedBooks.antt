@@ -1,0 +1,109 @@
+-- A book that moves its clock, and the bounds that each book keeps.
+use Rattle.std.proofs.Common.{◌≡◌, ◌≢◌, ℕ, ◌<◌, ◌≤◌, [], ◌∷◌, ◌++◌, length, map, Option, Some, None, refl, sym, ap, subst, arith, slice_get}
+use Rattle.std.specs.Option.{is_some}
+use Rattle.std.specs.List.{count_by}
+use Rattle.std.specs.Prelude.{MatchOption}
+use Rattle.cpn_core.specs.Elements.{entry_view}
+use Rattle.cpn_definitions.specs.Enabled.{Enabled, ready, next_time}
+use Rattle.cpn_definitions.specs.Sound.{IsMarking}
+use Rattle.cpn_log.specs.Logs.{claims_made}
+use Rattle.cpn_log.specs.LogViews.{log_view}
+use Rattle.cpn_runs.specs.Playable.{IsPlayable}
+use Rattle.cpn_runs.specs.Run.{IsRun}
+use Rattle.cpn_runs.specs.State.{PlainSetup, PlainEnd, clock_moved, EndsBy}
+use Rattle.cpn_runs.specs.Views.{end_view}
+use Rattle.cpn_runs.specs.declared.events.End.{End}
+use Rattle.cpn_runs.proofs.BoundedStates.{every_state_has_bounds}
+use Rattle.cpn_standing.specs.Standing.{StandsAt}
+use Rattle.cpn_standing.proofs.LoggedClaims.{unclaimed_left}
+use Rattle.cpn_standing.proofs.MovedClocks.{stands_moved}
+use Rattle.cpn_standing.proofs.OpenClaims.{none_held_where_none}
+use Rattle.cpn_book.specs.Books.{setup_in, journal_in, InState, IsBook, IsRunning, shown}
+use Rattle.cpn_book.specs.Standings.{IsAt, events_in}
+use Rattle.cpn_book.specs.declared.books.Book.{Book}
+use Rattle.cpn_book.specs.declared.standings.Standing.{Standing}
+use Rattle.cpn_book.proofs.ClaimedStandings.{stands_at, uncut_in, counted}
+use Rattle.cpn_book.proofs.NextTimes.{next_is_least, none_is_covered, enabled_then, some_are_ready}
+use Rattle.cpn_book.proofs.RunningBooks.{shows_run}
+
+-- ---- bounds
+
+-- the unclaimed marking is one of the net's places
+pub unclaimed_is_marking : (setup : PlainSetup) (s : Standing) → IsAt setup s → IsPlayable setup → IsMarking setup.net.places (log_view s.log).unclaimed
+unclaimed_is_marking setup s is playable =
+    (every_state_has_bounds setup (events_in s) is.at.state playable is.at.told.reached).marking (log_view s.log).unclaimed
+    (unclaimed_left setup.start is.at.state.claims (log_view s.log) (log_view s.log) is.at.told.has is.at.told.kept)
+
+-- no more claims were made than may be
+pub claims_below : (setup : PlainSetup) (s : Standing) → IsAt setup s → IsPlayable setup → claims_made (log_view s.log) ≢ setup.limits.steps → claims_made (log_view s.log) < setup.limits.steps
+claims_below setup s is playable not_all =
+    let few = (every_state_has_bounds setup (events_in s) is.at.state playable is.at.told.reached).few_claims in
+    let same = counted setup s is.at in
+    omega (arith, few, same, not_all)
+
+-- ---- the move
+
+module _ (book : Book) (time : ℕ) (s : Standing) (running : IsRunning book) (none_ready : length (ready book.standing.clock (map entry_view book.entries.items)) ≡ 0) (none_open : count_by is_some book.standing.held.items ≡ 0)
+    (uncut : book.standing.cut ≡ None) (below : claims_made (log_view book.standing.log) < book.setup.limits.steps) (next : next_time (map entry_view book.entries.items) ≡ Some time) (in_time : time ≤ book.setup.limits.until)
+    (events : events_in s ≡ journal_in book ++ clock_moved time ∷ []) where
+  abbrev pub moved_standing : Standing
+  moved_standing = record book.standing { clock = time; journal = s.journal }
+
+  free : (seat : ℕ) → seat < (setup_in book).limits.seats → slice_get book.standing.held.items seat ≡ Some None
+  free seat lt = none_held_where_none book.standing.held.items none_open seat (let long = running.at.at.told.holds.each in omega (arith, lt, long))
+
+  abbrev clock_is : book.standing.clock ≡ running.at.at.state.clock
+  clock_is = running.at.at.clock
+
+  enabled : Enabled (setup_in book).net (log_view book.standing.log).unclaimed running.at.at.state.clock (map entry_view book.entries.items)
+  enabled = subst (λ (t : ℕ). Enabled (setup_in book).net (log_view book.standing.log).unclaimed t (map entry_view book.entries.items)) clock_is running.enabled
+
+  nothing_ready : length (ready running.at.at.state.clock (map entry_view book.entries.items)) ≡ 0
+  nothing_ready = subst (λ (t : ℕ). length (ready t (map entry_view book.entries.items)) ≡ 0) clock_is none_ready
+
+  stands : StandsAt (setup_in book) (journal_in book ++ clock_moved time ∷ []) (record running.at.at.state { clock = time }) (log_view book.standing.log) book.standing.held.items
+  stands =
+      stands_moved (setup_in book) (journal_in book) running.at.at.state (log_view book.standing.log) book.standing.held.items (stands_at (setup_in book) book.standing running.at) free time
+      (uncut_in (setup_in book) book.standing running.at.at uncut)
+      (let same = counted (setup_in book) book.standing running.at.at in omega (arith, same, below))
+      (none_is_covered (setup_in book).net (log_view book.standing.log).unclaimed running.at.at.state.clock (map entry_view book.entries.items) enabled nothing_ready)
+      (next_is_least (setup_in book).net (log_view book.standing.log).unclaimed running.at.at.state.clock time (map entry_view book.entries.items) enabled next)
+      in_time
+
+  moved_at : IsAt (setup_in book) moved_standing
+  moved_at =
+      let there = subst (λ es. StandsAt (setup_in book) es (record running.at.at.state { clock = time }) (log_view book.standing.log) book.standing.held.items) (sym events) stands in
+      record {
+        at = record {
+          state = record running.at.at.state { clock = time };
+          told = there.told;
+          clock = refl;
+          cut = running.at.at.cut;
+          jobs = running.at.at.jobs;
+          occurrences = running.at.at.occurrences;
+          draw = running.at.at.draw;
+        };
+        stops = there.stops;
+        none_owed = there.none_owed;
+      }
+
+  -- something is ready then
+  pub moved_ready : 0 < length (ready time (map entry_view book.entries.items))
+  moved_ready = some_are_ready (setup_in book).net (log_view book.standing.log).unclaimed running.at.at.state.clock time (map entry_view book.entries.items) enabled next
+
+  -- and the run is under way
+  pub moved_runs : IsRunning (record book { standing = moved_standing })
+  moved_runs = record {
+    at = moved_at;
+    enabled = enabled_then (setup_in book).net (log_view book.standing.log).unclaimed running.at.at.state.clock time (map entry_view book.entries.items) enabled next;
+    room = λ none. let some = moved_ready in let zero = ap length none in absurd (omega (arith, some, zero));
+  }
+
+-- ---- the end
+
+-- a book that has an end shows a run
+pub shows_end : (book : Book) → IsBook book → IsRunning book → count_by is_some book.standing.held.items ≡ 0 → (answer : Option End)
+    → MatchOption answer (InState book (λ state. (cause : PlainEnd) → EndsBy (setup_in book) state cause → ⊥)) (λ cause. InState book (λ state. EndsBy (setup_in book) state (end_view cause)))
+    → MatchOption answer (InState book (λ state. (cause : PlainEnd) → EndsBy (setup_in book) state cause → ⊥)) (λ cause. IsRun (setup_in book) (shown book (end_view cause)))
+shows_end book is running none None ends = ends
+shows_end book is running none (Some cause) ends = shows_run book is running none (end_view cause) (ends running.at.at.state running.at.at.told.reached)

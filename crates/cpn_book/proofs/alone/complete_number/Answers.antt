@@ -1,0 +1,49 @@
+-- The open claim is held by the seat that made it, and its job is ready to be evaluated.
+use Rattle.std.proofs.Common.{◌≡◌, Some, map, refl, sym, ap, ◌∙◌, subst, slice_get}
+use Rattle.cpn_jobs.specs.Views.{job_view}
+use Rattle.cpn_log.specs.Logs.{standings}
+use Rattle.cpn_log.specs.LogViews.{log_view, jobs_in}
+use Rattle.cpn_runs.specs.FinishedViews.{setup_view}
+use Rattle.cpn_book.specs.Evaluations.{IsReadyToEvaluate}
+use Rattle.cpn_book.specs.Tickets.{evaluated_number, evaluated_job}
+use Rattle.cpn_book.proofs.CommittedStandings.{still_at}
+use Rattle.cpn_book.proofs.FilledStandings.{image_at}
+use Rattle.cpn_book.proofs.HeldSeats.{where_ok}
+use Rattle.cpn_book.proofs.OpenNumbers.{number_within, holds_number, number_is_ready, held_stands_open}
+use Rattle.cpn_book.proofs.alone.complete_number.Goals as goal
+
+pub returns-in_default-clause-frees : goal.returns-in_default-clause-frees
+returns-in_default-clause-frees c = λ s k holds. (holds, λ same. c.in_default.ensures.job (ap (slice_get (standings (log_view c.args.standing.now.log))) (sym same) ∙ held_stands_open (setup_view c.args.setup.now) c.args.standing.now c.requires.at s k holds))
+
+pub seat-seat-requires : goal.seat-seat-requires
+seat-seat-requires c = record { within = number_within (setup_view c.args.setup.now) c.args.standing.now c.requires.at c.args.number c.in-Some.ensures.job.0 }
+
+pub new-requires : goal.new-requires
+new-requires c =
+    let same : c.in_ok-job.job.value ≡ c.in-Some.job.now.value = c.in_ok-job.ensures.cases in
+    record { ready = subst (λ job. IsReadyToEvaluate (job_view job)) (sym same) (number_is_ready (setup_view c.args.setup.now) c.args.standing.now c.requires.at c.args.number c.in-Some.ensures.job.0 c.requires.playable c.in-Some.job.now.value c.in-Some.ensures.job.1) }
+
+pub complete_claim-requires-clause-held : goal.complete_claim-requires-clause-held
+complete_claim-requires-clause-held c =
+    let number : evaluated_number c.in-Ok.done ≡ c.args.number = c.in-Ok.ensures.number ∙ c.new.ensures.number in
+    holds_number (setup_view c.args.setup.now) c.args.standing.now c.requires.at c.args.number c.in-Some.ensures.job.0 c.seat-seat.result c.seat-seat.ensures ∙ ap (λ k. Some (Some k)) (sym number)
+
+pub complete_claim-requires-clause-job : goal.complete_claim-requires-clause-job
+complete_claim-requires-clause-job c =
+    let number : evaluated_number c.in-Ok.done ≡ c.args.number = c.in-Ok.ensures.number ∙ c.new.ensures.number in
+    let same : evaluated_job c.in-Ok.done ≡ job_view c.in-Some.job.now.value = c.in-Ok.ensures.job ∙ c.new.ensures.job ∙ ap job_view c.in_ok-job.ensures.cases in
+    ap (slice_get (map job_view (jobs_in c.args.standing.now.log))) number ∙ image_at job_view (jobs_in c.args.standing.now.log) c.args.number c.in-Some.job.now.value c.in-Some.ensures.job.1 ∙ ap Some (sym same)
+
+pub returns-clause-frees : goal.returns-clause-frees
+returns-clause-frees c =
+    let number : evaluated_number c.in-Ok.done ≡ c.args.number = c.in-Ok.ensures.number ∙ c.new.ensures.number in
+    where_ok c.complete_claim.result _ _ (λ frees. λ s k holds. let both = frees s k holds in (both.0, λ same. both.1 (same ∙ sym number))) c.complete_claim.ensures.frees
+
+pub returns-in_default-clause-committed : goal.returns-in_default-clause-committed
+returns-in_default-clause-committed c = still_at (setup_view c.args.setup.now) c.args.standing.now _ c.requires.at.at refl refl refl
+
+pub returns-in_err-job-clause-committed : goal.returns-in_err-job-clause-committed
+returns-in_err-job-clause-committed c = still_at (setup_view c.args.setup.now) c.args.standing.now _ c.requires.at.at refl refl refl
+
+pub returns-in_default-evaluate-clause-committed : goal.returns-in_default-evaluate-clause-committed
+returns-in_default-evaluate-clause-committed c = still_at (setup_view c.args.setup.now) c.args.standing.now _ c.requires.at.at refl refl refl

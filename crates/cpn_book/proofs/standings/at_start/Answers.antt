@@ -1,0 +1,61 @@
+-- A run stands at its start where no claim is made and no seat holds one.
+use Rattle.std.proofs.Common.{◌≡◌, ℕ, zero, suc, ◌<◌, arith, map, take, List, [], length, replicate, Option, Some, None, refl, sym, ap, ◌∙◌, subst, slice_get}
+use Rattle.cpn_definitions.specs.Marking.{Marking, tokens_at, AreSorted}
+use Rattle.cpn_definitions.proofs.Markings.{held_at}
+use Rattle.cpn_log.specs.Kept.{IsKept}
+use Rattle.cpn_log.specs.Logs.{started, heads}
+use Rattle.cpn_log.specs.LogViews.{log_view}
+use Rattle.cpn_jobs.specs.Views.{job_view}
+use Rattle.cpn_runs.specs.Views.{event_view, occurrence_view}
+use Rattle.cpn_standing.specs.Standing.{IsTold, StandsAt}
+use Rattle.cpn_book.specs.Standings.{job_for}
+use Rattle.std.proofs.lemmas.List.{length-replicate}
+use Rattle.cpn_runs.specs.HoleRun.{PlainClaim}
+use Rattle.cpn_runs.specs.State.{first_state, numbered}
+use Rattle.cpn_runs.specs.FinishedViews.{setup_view}
+use Rattle.cpn_standing.proofs.StartedRuns.{stands_at_start}
+use Rattle.cpn_book.proofs.standings.at_start.Goals as goal
+
+pub start-requires-clause-sorted : goal.start-requires-clause-sorted
+start-requires-clause-sorted c = λ p. subst (λ (m : Marking). AreSorted (tokens_at m p)) (sym c.in_ok-copy.ensures.same) (held_at (setup_view c.args.setup.now).net.places c.args.setup.now.start c.requires.playable.marking p).0
+
+abbrev nobody : Option ℕ
+nobody = None
+
+abbrev no_claims : List PlainClaim
+no_claims = []
+
+none_at : (n s : ℕ) → s < n → slice_get (replicate n nobody) s ≡ Some nobody
+none_at zero s lt = absurd (omega arith)
+none_at (suc n) zero lt = refl
+none_at (suc n) (suc s) lt = none_at n s (omega arith)
+
+none_taken : (k : ℕ) → take k no_claims ≡ []
+none_taken zero = refl
+none_taken (suc k) = refl
+
+pub returns-clause-starts : goal.returns-clause-starts
+returns-clause-starts c =
+    let s = setup_view c.args.setup.now in
+    let held = c.in_ok-held.held.items in
+    let log = c.in_ok-log.log in
+    let is : log_view log ≡ started s.start = c.in_ok-log.ensures.started ∙ ap started c.in_ok-copy.ensures.same in
+    let kept : IsKept (started s.start) = subst IsKept is c.in_ok-log.ensures.kept in
+    let none : held ≡ replicate s.limits.seats None = c.in_ok-held.ensures.none in
+    let long : length held ≡ s.limits.seats = ap length none ∙ length-replicate s.limits.seats None in
+    let each : (n : ℕ) → n < s.limits.seats → slice_get held n ≡ Some None = λ n lt. ap (λ hs. slice_get hs n) none ∙ none_at s.limits.seats n lt in
+    let empty : map event_view c.new.result.items ≡ [] = ap (map event_view) c.new.ensures.items in
+    let stands : StandsAt s [] (first_state s) (log_view log) held = subst (λ l. StandsAt s [] (first_state s) l held) (sym is) (stands_at_start s held kept long each) in
+    record {
+      at = record {
+        state = first_state s;
+        told = subst (λ es. IsTold s es (first_state s) (log_view log) held) (sym empty) stands.told;
+        clock = refl;
+        cut = refl;
+        jobs = ap (map job_view) c.in_ok-log.ensures.jobs ∙ sym (ap (λ l. map (job_for s.net) (heads l)) is);
+        occurrences = ap (map occurrence_view) c.new-2.ensures.items ∙ ap (numbered 0) (sym (none_taken (length (log_view log).committed)));
+        draw = λ none_yet. c.new-3.ensures;
+      };
+      stops = stands.stops;
+      none_owed = stands.none_owed;
+    }

@@ -1,0 +1,67 @@
+-- What the steps of a book's calls keep, and what they change. Source: own choice.
+use Rattle.std.specs.Prelude.{◌≡◌, ℕ, ◌<◌, ◌≤◌, true, List, ◌++◌, ◌∷◌, [], map, Some, None, MatchOption, slice_get}
+use Rattle.cpn_core.specs.Elements.{entry_view}
+use Rattle.cpn_definitions.specs.Enabled.{next_time}
+use Rattle.cpn_log.specs.Logs.{claims_made, standings, stands_open}
+use Rattle.cpn_log.specs.LogViews.{log_view, jobs_in}
+use Rattle.cpn_log.specs.declared.logs.Log.{Log}
+use Rattle.cpn_runs.specs.State.{PlainEvent, clock_moved}
+use Rattle.cpn_book.specs.Standings.{StillCommitted}
+use Rattle.cpn_book.specs.Books.{setup_in, journal_in, IsRunning}
+use Rattle.cpn_book.specs.Tickets.{evaluated_number}
+use Rattle.cpn_book.specs.declared.tickets.Evaluated.{Evaluated}
+use Rattle.cpn_book.specs.declared.books.Book.{Book}
+use Rattle.cpn_book.specs.declared.answers.Advanced.{Advanced}
+use Rattle.cpn_book.specs.declared.answers.Advanced.TheVariants as moves
+use Rattle.cpn_book.specs.declared.answers.Completed.{Completed}
+use Rattle.cpn_book.specs.declared.answers.Completed.TheVariants as completions
+
+-- A book that follows another: of the same run, its journal goes on from there, and what was committed stands.
+pub record Follows (old new : Book) : Type 0 where
+  pub setup : new.setup ≡ old.setup
+  pub works : new.works ≡ old.works
+  pub opening : new.opening ≡ old.opening
+  pub spent : new.spent ≡ old.spent
+  pub more : List PlainEvent
+  pub events : journal_in new ≡ journal_in old ++ more
+  pub committed : StillCommitted (setup_in old) old.standing new.standing
+
+-- A book like another but for its clock and its journal.
+pub record IsMovedFrom (old new : Book) : Type 0 where
+  pub book : new ≡ record old { standing = new.standing }
+  pub standing : new.standing ≡ record old.standing { clock = new.standing.clock; journal = new.standing.journal }
+
+-- A book like another, but that it is spent, without a list of what is enabled, and for its journal.
+pub record IsSpentFrom (old new : Book) : Type 0 where
+  pub book : new ≡ record old { spent = true; standing = new.standing; entries = new.entries }
+  pub standing : new.standing ≡ record old.standing { journal = new.standing.journal }
+
+-- A run that goes on, where no claim is open: no cut stands, fewer claims were made than may be, and the next time is one that it may
+-- reach.
+pub record MayGoOn (book : Book) : Type 0 where
+  pub uncut : book.standing.cut ≡ None
+  pub below : claims_made (log_view book.standing.log) < book.setup.limits.steps
+  pub time : ℕ
+  pub next : next_time (map entry_view book.entries.items) ≡ Some time
+  pub in_time : time ≤ book.setup.limits.until
+
+-- the answer where nothing is ready and no claim is open
+abbrev pub Moves : Book → Book → Advanced → Type 0
+Moves old new (moves.Moved time) =
+    IsRunning new × IsMovedFrom old new × (journal_in new ≡ journal_in old ++ clock_moved time ∷ []) × (next_time (map entry_view old.entries.items) ≡ Some time) × (time ≤ old.setup.limits.until)
+Moves old new (moves.Until time) = (new ≡ old) × (next_time (map entry_view old.entries.items) ≡ Some time) × (old.setup.limits.until < time)
+Moves old new moves.Dead = (new ≡ old) × (next_time (map entry_view old.entries.items) ≡ None)
+Moves old new (moves.Open number) = ⊥
+Moves old new moves.Ready = ⊥
+Moves old new moves.StepLimit = ⊥
+Moves old new moves.Over = ⊥
+Moves old new moves.Spent = ⊥
+
+-- the answer to an evaluation that completes no claim: the job of the open claim of its number, if there is one, and what was brought
+abbrev pub IsStranger : Log → Evaluated → Completed → Type 0
+IsStranger log done completions.Done = ⊥
+IsStranger log done (completions.Void number) = ⊥
+IsStranger log done (completions.Stranger kept brought) =
+    (brought ≡ done)
+    × MatchOption kept (slice_get (standings (log_view log)) (evaluated_number done) ≡ Some stands_open → ⊥)
+    (λ job. (slice_get (standings (log_view log)) (evaluated_number done) ≡ Some stands_open) × (slice_get (jobs_in log) (evaluated_number done) ≡ Some job.value))

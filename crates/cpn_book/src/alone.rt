@@ -1,0 +1,172 @@
+//! A run that one seat takes to its end.
+
+ghost use Rattle.std.specs.Prelude.{◌≡◌, ◌≢◌, ℕ, ◌+◌, ◌-◌, ◌^◌, ◌<◌, ◌≤◌, ◌++◌, Some, None, false, List, length, map, slice_get, IfOk, OnOk, vec_len, vec_capacity};
+ghost use Rattle.std.specs.List.{count_by};
+ghost use Rattle.std.specs.Option.{is_some};
+ghost use Rattle.cpn_core.specs.Elements.{entry_view};
+ghost use Rattle.cpn_definitions.specs.Bounds.{IsBounded};
+ghost use Rattle.cpn_definitions.specs.Enabled.{ready};
+ghost use Rattle.cpn_log.specs.Logs.{claims_made};
+ghost use Rattle.cpn_log.specs.LogViews.{log_view};
+ghost use Rattle.cpn_runs.specs.Playable.{IsPlayable};
+ghost use Rattle.cpn_runs.specs.Run.{IsRun};
+ghost use Rattle.cpn_runs.specs.State.{PlainEvent};
+ghost use Rattle.cpn_runs.specs.FinishedViews.{setup_view, finished_view};
+ghost use Rattle.cpn_book.specs.Books.{setup_in, journal_in, is_spent_in, IsBook, IsRunning};
+ghost use Rattle.cpn_book.specs.Standings.{IsAt, StillCommitted, events_in};
+ghost use Rattle.cpn_book.specs.Steps.{Follows, IsMovedFrom, MayGoOn};
+
+use crate::books::Book;
+use crate::claiming::open_claim;
+use crate::completing::complete_claim;
+use crate::outlooks::next_time;
+use crate::standings::Standing;
+use crate::tickets::Ticket;
+use cpn_core::Memory;
+use cpn_runs::{Finished, Setup};
+use std::alloc::Global;
+
+impl Book {
+    /// The run from where it stands to its end: the open claims are completed in order of number; then seat 0 completes each claim
+    /// before it makes the next, and the clock moves where nothing is ready: until the limit of claims is reached, nothing is enabled
+    /// at any time, nothing is enabled up to the last time that the run may reach, or the outputs of an element have a fault.
+    ///
+    /// # Errors
+    ///
+    /// `Memory` where the book is spent, and where memory is wanted; the book is then gone.
+    pub fn run_alone(self) -> Result<Finished, Memory>
+        requires kept { IsBook self }
+        ensures unspent { OnOk result (is_spent_in self ≡ false) }
+        ensures setup { IfOk result (λ f. setup_view f.setup ≡ setup_in self) }
+        // The journal leads to a state that ends by the cause, the occurrences are a legal occurrence sequence,
+        // a fault is that of an element that is covered at the end, and the rest is what that state has.
+        ensures run { IfOk result (λ f. IsRun (setup_in self) (finished_view f)) }
+        // It goes on from the book's journal.
+        ensures goes_on { IfOk result (λ f. (more : List PlainEvent) × ((finished_view f).journal ≡ journal_in self ++ more)) }
+        // The clock does not pass the last time that the run may reach.
+        ensures in_time { IfOk result (λ f. f.clock ≤ (setup_in self).limits.until) }
+        // On each place there are fewer than 2^48 tokens, with time stamps of at most three times the last time.
+        ensures bounded { IfOk result (λ f. IsBounded (2 ^ 48 - 1) f.marking) }
+    {
+        if self.spent {
+            return Err(Memory);
+        }
+        let mut book = self;
+        book.complete_open()?;
+        for _number in book.standing.log.len()..book.setup.limits.steps {
+            if let Some(cause) = book.take_end() {
+                return Ok(book.ended(cause));
+            }
+            book.play_round()?;
+        }
+        match book.take_end() {
+            Some(cause) => Ok(book.ended(cause)),
+            None => unreachable!(),
+        }
+    }
+
+    // Completes the open claims, in order of number.
+    fn complete_open(&mut self) -> Result<(), Memory>
+        requires kept { IsBook self.old }
+        requires running { IsRunning self.old }
+        ensures running { OnOk result (IsRunning self.new) }
+        ensures none_open { OnOk result (count_by is_some self.new.standing.held.items ≡ 0) }
+        ensures follows { OnOk result (Follows self.old self.new) }
+    {
+        if self.standing.open() == 0 {
+            return Ok(());
+        }
+        complete_all(self.alloc, &self.setup, &mut self.standing)?;
+        self.search()
+    }
+
+    // The next claim and its completion, of seat 0, where no claim is open and the run has no end.
+    fn play_round(&mut self) -> Result<(), Memory>
+        requires kept { IsBook self.old }
+        requires running { IsRunning self.old }
+        requires none_open { count_by is_some self.old.standing.held.items ≡ 0 }
+        requires goes_on { MayGoOn self.old }
+        ensures running { OnOk result (IsRunning self.new) }
+        ensures none_open { OnOk result (count_by is_some self.new.standing.held.items ≡ 0) }
+        ensures made { OnOk result (self.new.standing.cut ≡ None → claims_made (log_view self.new.standing.log) ≡ claims_made (log_view self.old.standing.log) + 1) }
+        ensures follows { OnOk result (Follows self.old self.new) }
+    {
+        self.reach_next_time();
+        let ticket = open_claim(
+            self.alloc,
+            &self.setup,
+            &self.works,
+            &self.entries,
+            &mut self.standing,
+            0,
+        )?;
+        let Ok(done) = ticket.evaluate() else {
+            return Err(Memory);
+        };
+        complete_claim(&self.setup, &mut self.standing, 0, done)?;
+        self.search()
+    }
+
+    // Moves the clock to the next time, unless something is ready.
+    fn reach_next_time(&mut self)
+        requires running { IsRunning self.old }
+        requires none_open { count_by is_some self.old.standing.held.items ≡ 0 }
+        requires goes_on { MayGoOn self.old }
+        ensures running { IsRunning self.new }
+        ensures ready { 0 < length (ready self.new.standing.clock (map entry_view self.new.entries.items)) }
+        ensures events { (more : List PlainEvent) × (journal_in self.new ≡ journal_in self.old ++ more) }
+        ensures same { IsMovedFrom self.old self.new }
+    {
+        if self.ready() > 0 {
+            return;
+        }
+        if let Some(time) = next_time(&self.entries) {
+            self.move_to(time);
+        }
+    }
+}
+
+/// Completes the open claims, in order of number.
+fn complete_all(alloc: Global, setup: &Setup, standing: &mut Standing) -> Result<(), Memory>
+    requires playable { IsPlayable (setup_view setup.now) }
+    requires at { IsAt (setup_view setup.now) standing.old }
+    ensures at { OnOk result (IsAt (setup_view setup.now) standing.new) }
+    ensures none_open { OnOk result (count_by is_some standing.new.held.items ≡ 0) }
+    ensures room { OnOk result (vec_len standing.new.journal < vec_capacity standing.new.journal) }
+    ensures begins { (more : List PlainEvent) × (events_in standing.new ≡ events_in standing.old ++ more) }
+    ensures committed { StillCommitted (setup_view setup.now) standing.old standing.new }
+{
+    standing.journal.reserve(1)?;
+    for number in 0..standing.log.len() {
+        complete_number(alloc, setup, standing, number)?;
+    }
+    Ok(())
+}
+
+/// Completes the claim of a number, if it is open.
+fn complete_number(
+    alloc: Global,
+    setup: &Setup,
+    standing: &mut Standing,
+    number: u64,
+) -> Result<(), Memory>
+    requires playable { IsPlayable (setup_view setup.now) }
+    requires at { IsAt (setup_view setup.now) standing.old }
+    requires room { vec_len standing.old.journal < vec_capacity standing.old.journal }
+    ensures at { OnOk result (IsAt (setup_view setup.now) standing.new) }
+    ensures few { OnOk result (claims_made (log_view standing.new.log) ≤ claims_made (log_view standing.old.log)) }
+    ensures frees { OnOk result ((s k : ℕ) → slice_get standing.new.held.items s ≡ Some (Some k) → (slice_get standing.old.held.items s ≡ Some (Some k)) × (k ≢ number)) }
+    ensures room { OnOk result (vec_len standing.new.journal < vec_capacity standing.new.journal) }
+    ensures begins { (more : List PlainEvent) × (events_in standing.new ≡ events_in standing.old ++ more) }
+    ensures committed { StillCommitted (setup_view setup.now) standing.old standing.new }
+{
+    let Some(job) = standing.open_job(number) else {
+        return Ok(());
+    };
+    let job = job.clone()?;
+    let seat = standing.log.seat(number);
+    let Ok(done) = Ticket::new(alloc, number, job).evaluate() else {
+        return Err(Memory);
+    };
+    complete_claim(setup, standing, seat, done)
+}

@@ -1,0 +1,140 @@
+//! How a seat makes a claim.
+
+ghost use Rattle.std.specs.Prelude.{◌≡◌, ℕ, ◌+◌, ◌<◌, Some, None, List, [], ◌∷◌, ◌++◌, length, map, slice_get, slice_set, IfOk, IfSome, OnOk, vec_len, vec_capacity};
+ghost use Rattle.cpn_core.specs.Nets.{net_view};
+ghost use Rattle.cpn_core.specs.Elements.{element_view, entry_view};
+ghost use Rattle.cpn_definitions.specs.Outcome.{gives};
+ghost use Rattle.cpn_definitions.specs.Occurrence.{needs_of};
+ghost use Rattle.cpn_definitions.specs.Enabled.{Enabled, ready};
+ghost use Rattle.cpn_definitions.specs.Sound.{Gives};
+ghost use Rattle.cpn_jobs.specs.Views.{job_view, work_view};
+ghost use Rattle.cpn_log.specs.Logs.{claims_made};
+ghost use Rattle.cpn_log.specs.LogViews.{log_view, jobs_in};
+ghost use Rattle.cpn_runs.specs.FinishedViews.{setup_view};
+ghost use Rattle.cpn_runs.specs.Playable.{IsPlayable};
+ghost use Rattle.cpn_draw.specs.Draw.{generator};
+ghost use Rattle.cpn_runs.specs.State.{PlainEvent, IsDrawn, claim_made};
+ghost use Rattle.cpn_book.specs.Standings.{IsAt, StillCommitted, events_in};
+ghost use Rattle.cpn_book.specs.Tickets.{number_of, job_of};
+ghost use Rattle.cpn_book.specs.Works.{AreWorks};
+
+use crate::outlooks::ready_count;
+use crate::standings::Standing;
+use crate::tickets::Ticket;
+use cpn_core::{Element, Entry, Memory, Needs, Net};
+use cpn_draw::Draw;
+use cpn_elements::needs_of;
+use cpn_eval::Refused;
+use cpn_jobs::{Job, Work};
+use cpn_runs::{Event, Setup};
+use std::alloc::Global;
+use std::sync::Arc;
+
+/// The next claim, of a seat that holds none, on the element that the next word draws from the ready ones. It leaves room in the
+/// journal for one event more.
+pub(crate) fn open_claim(
+    alloc: Global,
+    setup: &Setup,
+    works: &[Arc<Work>],
+    entries: &[Entry],
+    standing: &mut Standing,
+    seat: u32,
+) -> Result<Ticket, Memory>
+    requires playable { IsPlayable (setup_view setup.now) }
+    requires works { AreWorks (setup_view setup.now).net (map (λ work. work_view work.value) works.now) }
+    requires at { IsAt (setup_view setup.now) standing.old }
+    requires uncut { standing.old.cut ≡ None }
+    requires below { claims_made (log_view standing.old.log) < setup.now.limits.steps }
+    requires known { seat < setup.now.limits.seats }
+    requires free { slice_get standing.old.held.items seat ≡ Some None }
+    requires enabled { Enabled (setup_view setup.now).net (log_view standing.old.log).unclaimed standing.old.clock (map entry_view entries.now) }
+    requires some { 0 < length (ready standing.old.clock (map entry_view entries.now)) }
+    ensures at { OnOk result (IsAt (setup_view setup.now) standing.new) }
+    ensures uncut { standing.new.cut ≡ None }
+    ensures clock { standing.new.clock ≡ standing.old.clock }
+    ensures number { IfOk result (λ ticket. number_of ticket ≡ claims_made (log_view standing.old.log)) }
+    ensures made { OnOk result (claims_made (log_view standing.new.log) ≡ claims_made (log_view standing.old.log) + 1) }
+    ensures events { IfOk result (λ ticket. events_in standing.new ≡ events_in standing.old ++ claim_made seat (number_of ticket) ∷ []) }
+    ensures begins { (more : List PlainEvent) × (events_in standing.new ≡ events_in standing.old ++ more) }
+    ensures holds { OnOk result (standing.new.held.items ≡ slice_set standing.old.held.items seat (Some (claims_made (log_view standing.old.log)))) }
+    ensures held { IfOk result (λ ticket. slice_get standing.new.held.items seat ≡ Some (Some (number_of ticket))) }
+    ensures job { IfOk result (λ ticket. slice_get (map job_view (jobs_in standing.new.log)) (number_of ticket) ≡ Some (job_of ticket)) }
+    ensures room { OnOk result (vec_len standing.new.journal < vec_capacity standing.new.journal) }
+    ensures committed { StillCommitted (setup_view setup.now) standing.old standing.new }
+{
+    standing.journal.reserve(2)?;
+    let number = standing.log.len();
+    let drawn = draw_entry(&mut standing.draw, entries, standing.clock);
+    let element = drawn.element.copy()?;
+    let needs = needs_taken(alloc, &setup.net, &element)?;
+    let job = job_of_claim(alloc, works, element, standing.clock)?;
+    let ticket = Ticket::new(alloc, number, job.clone()?);
+    standing.log.push(seat, job, needs)?;
+    standing.held[seat as usize] = Some(number);
+    standing
+        .journal
+        .push_reserved(Event::Claim { seat, number });
+    Ok(ticket)
+}
+
+/// The entry that the next word draws from the ready ones.
+fn draw_entry<'a>(draw: &mut Draw, entries: &'a [Entry], clock: u64) -> &'a Entry
+    requires some { 0 < length (ready clock (map entry_view entries.now)) }
+    ensures drawn { (seed k : ℕ) → draw.old ≡ generator seed k → IsDrawn seed k (ready clock (map entry_view entries.now)) (entry_view result.now) }
+    ensures next { (seed k : ℕ) → draw.old ≡ generator seed k → draw.new ≡ generator seed (k + 1) }
+{
+    let position = draw.pick(ready_count(entries, clock));
+    ready_entry(entries, clock, position)
+}
+
+/// The job of a claim on an element: with the work of its transition.
+fn job_of_claim(
+    alloc: Global,
+    works: &[Arc<Work>],
+    element: Element,
+    time: u64,
+) -> Result<Arc<Job>, Memory>
+    requires within { element.transition < length works.now }
+    ensures element { IfOk result (λ job. element_view job.value.element ≡ element_view element) }
+    ensures time { IfOk result (λ job. job.value.time ≡ time) }
+    ensures work { IfOk result (λ job. IfSome (slice_get works.now element.transition) (λ work. work_view job.value.work.value ≡ work_view work.value)) }
+{
+    let work = works[element.transition as usize].clone()?;
+    Ok(Arc::new(
+        alloc,
+        Job {
+            element,
+            time,
+            work,
+        },
+    )?)
+}
+
+/// The entry at a position, from 0, among the ready ones.
+fn ready_entry(entries: &[Entry], clock: u64, position: u64) -> &Entry
+    requires within { position < length (ready clock (map entry_view entries.now)) }
+    ensures entry { slice_get (ready clock (map entry_view entries.now)) position ≡ Some (entry_view result.now) }
+{
+    let mut ahead = position;
+    for entry in entries {
+        if entry.earliest == clock {
+            if ahead == 0 {
+                return entry;
+            }
+            ahead -= 1;
+        }
+    }
+    unreachable!()
+}
+
+/// The needs of an element that has them.
+fn needs_taken(alloc: Global, net: &Net, element: &Element) -> Result<Needs, Memory>
+    requires given { Gives (needs_of (net_view net.now) (element_view element.now)) }
+    ensures needs { IfOk result (λ needs. needs_of (net_view net.now) (element_view element.now) ≡ gives needs) }
+{
+    match needs_of(alloc, net, element.transition, &element.binding) {
+        Ok(needs) => Ok(needs),
+        Err(Refused::Memory) => Err(Memory),
+        Err(Refused::Fault(_)) => unreachable!(),
+    }
+}

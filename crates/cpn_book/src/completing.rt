@@ -1,0 +1,207 @@
+//! How a claim is completed.
+
+ghost use Rattle.std.specs.Prelude.{◌≡◌, ◌≢◌, ℕ, ◌+◌, ◌-◌, ◌≤◌, ◌<◌, Some, None, true, false, List, [], ◌∷◌, ◌++◌, length, map, slice_get, slice_set, IfOk, OnOk, OnErr, vec_len, vec_capacity};
+ghost use Rattle.std.specs.List.{AllByRecursion};
+ghost use Rattle.std.specs.Option.{option_map};
+ghost use Rattle.cpn_definitions.specs.Bounds.{most_made};
+ghost use Rattle.cpn_definitions.specs.Occurrence.{Made};
+ghost use Rattle.cpn_definitions.specs.Outcome.{gives};
+ghost use Rattle.cpn_jobs.specs.Views.{job_view};
+ghost use Rattle.cpn_log.specs.Kept.{IsKept};
+ghost use Rattle.cpn_log.specs.Logs.{begin_done, claims_made, standings, stands_open, with_status};
+ghost use Rattle.cpn_log.specs.LogViews.{log_view, jobs_in};
+ghost use Rattle.cpn_runs.specs.FinishedViews.{setup_view};
+ghost use Rattle.cpn_runs.specs.Playable.{IsPlayable};
+ghost use Rattle.cpn_runs.specs.State.{PlainSetup, PlainEvent, claim_completed};
+ghost use Rattle.cpn_book.specs.Evaluations.{outcome_of, status_by};
+ghost use Rattle.cpn_book.specs.Standings.{IsToldAt, IsAt, StillCommitted, cut_view, events_in};
+ghost use Rattle.cpn_book.specs.States.{cut_events};
+ghost use Rattle.cpn_book.specs.Tickets.{evaluated_number, evaluated_job};
+
+use crate::standings::{Cut, Standing};
+use crate::tickets::Evaluated;
+use cpn_core::{EvalFault, Memory, Outputs};
+use cpn_log::{ClaimState, Log};
+use cpn_runs::{End, Event, Occurrence, Setup};
+
+/// Completes the claim that a seat holds: with its outputs, or with their fault. Then what can be committed is committed, and a cut
+/// that is owed is made. It leaves room in the journal for one event more.
+pub(crate) fn complete_claim(
+    setup: &Setup,
+    standing: &mut Standing,
+    seat: u32,
+    done: Evaluated,
+) -> Result<(), Memory>
+    requires playable { IsPlayable (setup_view setup.now) }
+    requires at { IsAt (setup_view setup.now) standing.old }
+    requires held { slice_get standing.old.held.items seat ≡ Some (Some (evaluated_number done)) }
+    requires job { slice_get (map job_view (jobs_in standing.old.log)) (evaluated_number done) ≡ Some (evaluated_job done) }
+    ensures at { OnOk result (IsAt (setup_view setup.now) standing.new) }
+    ensures clock { standing.new.clock ≡ standing.old.clock }
+    ensures events { OnOk result (events_in standing.new ≡ events_in standing.old ++ claim_completed seat (evaluated_number done) ∷ cut_events (option_map cut_view standing.new.cut)) }
+    ensures begins { (more : List PlainEvent) × (events_in standing.new ≡ events_in standing.old ++ more) }
+    ensures made { OnOk result (standing.new.cut ≡ None → claims_made (log_view standing.new.log) ≡ claims_made (log_view standing.old.log)) }
+    ensures few { OnOk result (claims_made (log_view standing.new.log) ≤ claims_made (log_view standing.old.log)) }
+    ensures frees { OnOk result ((s k : ℕ) → slice_get standing.new.held.items s ≡ Some (Some k) → (slice_get standing.old.held.items s ≡ Some (Some k)) × (k ≢ evaluated_number done)) }
+    ensures room { OnOk result (vec_len standing.new.journal < vec_capacity standing.new.journal) }
+    ensures committed { StillCommitted (setup_view setup.now) standing.old standing.new }
+{
+    standing.journal.reserve(3)?;
+    fill_claim(setup, standing, seat, done)?;
+    commit_all(standing)?;
+    make_owed_cut(standing)
+}
+
+/// The claim that a seat holds is done, with its outputs or with their fault.
+fn fill_claim(
+    setup: &Setup,
+    standing: &mut Standing,
+    seat: u32,
+    done: Evaluated,
+) -> Result<(), Memory>
+    requires playable { IsPlayable (setup_view setup.now) }
+    requires at { IsAt (setup_view setup.now) standing.old }
+    requires held { slice_get standing.old.held.items seat ≡ Some (Some (evaluated_number done)) }
+    requires job { slice_get (map job_view (jobs_in standing.old.log)) (evaluated_number done) ≡ Some (evaluated_job done) }
+    requires room { vec_len standing.old.journal < vec_capacity standing.old.journal }
+    ensures told { OnOk result (IsToldAt (setup_view setup.now) standing.new) }
+    ensures uncut { standing.new.cut ≡ None }
+    ensures held { OnOk result (standing.new.held.items ≡ slice_set standing.old.held.items seat None) }
+    ensures clock { standing.new.clock ≡ standing.old.clock }
+    ensures events { OnOk result (events_in standing.new ≡ events_in standing.old ++ claim_completed seat (evaluated_number done) ∷ []) }
+    ensures stays { OnErr result (standing.new.journal ≡ standing.old.journal) }
+    ensures made { OnOk result (claims_made (log_view standing.new.log) ≡ claims_made (log_view standing.old.log)) }
+    ensures capacity { vec_capacity standing.new.journal ≡ vec_capacity standing.old.journal }
+    ensures len { OnOk result (vec_len standing.new.journal ≡ vec_len standing.old.journal + 1) }
+    ensures committed { StillCommitted (setup_view setup.now) standing.old standing.new }
+{
+    let Evaluated { number, result, .. } = done;
+    complete_in(&mut standing.log, number, result)?;
+    standing.held[seat as usize] = None;
+    standing.journal.push_reserved(Event::Done { seat, number });
+    Ok(())
+}
+
+/// An open claim of a log is done, with what its outputs are.
+fn complete_in(
+    log: &mut Log,
+    number: u64,
+    outcome: Result<Outputs, EvalFault>,
+) -> Result<(), Memory>
+    requires kept { IsKept (log_view log.old) }
+    requires open { slice_get (standings (log_view log.old)) number ≡ Some stands_open }
+    requires few { (outputs : List Made) → outcome_of outcome ≡ gives outputs → length outputs ≤ most_made }
+    requires on_places { (outputs : List Made) → outcome_of outcome ≡ gives outputs → AllByRecursion (λ made. made.place < length (log_view log.old).unclaimed) outputs }
+    ensures done { OnOk result ((log_view log.new).claims ≡ with_status (status_by outcome) (number - length (log_view log.old).committed) (log_view log.old).claims) }
+    ensures jobs { jobs_in log.new ≡ jobs_in log.old }
+    ensures committed { (log_view log.new).committed ≡ (log_view log.old).committed }
+    ensures settled { (log_view log.new).settled ≡ (log_view log.old).settled }
+    ensures kept { OnOk result (IsKept (log_view log.new)) }
+{
+    match outcome {
+        Ok(outputs) => {
+            log.fill(number, outputs)?;
+        }
+        Err(fault) => log.fail(number, fault),
+    }
+    Ok(())
+}
+
+/// Commits each claim that is next and done with its outputs.
+fn commit_all(standing: &mut Standing) -> Result<(), Memory>
+    requires kept { IsKept (log_view standing.old.log) }
+    ensures told { OnOk result ((setup : PlainSetup) → IsToldAt setup standing.old → IsToldAt setup standing.new) }
+    ensures kept { OnOk result (IsKept (log_view standing.new.log)) }
+    ensures stops { OnOk result (begin_done (log_view standing.new.log).claims ≡ false) }
+    ensures made { OnOk result (claims_made (log_view standing.new.log) ≡ claims_made (log_view standing.old.log)) }
+    ensures clock { standing.new.clock ≡ standing.old.clock }
+    ensures journal { standing.new.journal ≡ standing.old.journal }
+    ensures cut { standing.new.cut ≡ standing.old.cut }
+    ensures held { standing.new.held ≡ standing.old.held }
+    ensures committed { (setup : PlainSetup) → IsToldAt setup standing.old → StillCommitted setup standing.old standing.new }
+{
+    for _number in standing.log.committed()..standing.log.len() {
+        if !commit_next(standing)? {
+            return Ok(());
+        }
+    }
+    Ok(())
+}
+
+/// Commits the next claim, if it is done with its outputs.
+fn commit_next(standing: &mut Standing) -> Result<bool, Memory>
+    requires kept { IsKept (log_view standing.old.log) }
+    ensures told { OnOk result ((setup : PlainSetup) → IsToldAt setup standing.old → IsToldAt setup standing.new) }
+    ensures kept { OnOk result (IsKept (log_view standing.new.log)) }
+    ensures next { IfOk result (λ more. more ≡ begin_done (log_view standing.old.log).claims) }
+    ensures none { IfOk result (λ more. more ≡ false → standing.new ≡ standing.old) }
+    ensures one { IfOk result (λ more. more ≡ true → length (log_view standing.new.log).committed ≡ length (log_view standing.old.log).committed + 1) }
+    ensures made { OnOk result (claims_made (log_view standing.new.log) ≡ claims_made (log_view standing.old.log)) }
+    ensures clock { standing.new.clock ≡ standing.old.clock }
+    ensures journal { standing.new.journal ≡ standing.old.journal }
+    ensures cut { standing.new.cut ≡ standing.old.cut }
+    ensures held { standing.new.held ≡ standing.old.held }
+    ensures committed { (setup : PlainSetup) → IsToldAt setup standing.old → StillCommitted setup standing.old standing.new }
+{
+    let number = standing.log.committed();
+    if number == standing.log.len() {
+        return Ok(false);
+    }
+    let ClaimState::Done = standing.log.state(number) else {
+        return Ok(false);
+    };
+    let job = standing.log.job(number);
+    let occurrence = Occurrence {
+        number,
+        time: job.time,
+        element: job.element.copy()?,
+    };
+    standing.occurrences.reserve(1)?;
+    standing.log.commit_one()?;
+    standing.occurrences.push_reserved(occurrence);
+    Ok(true)
+}
+
+/// Makes the cut that is owed, where the next claim that is to be committed is done with a fault.
+fn make_owed_cut(standing: &mut Standing) -> Result<(), Memory>
+    requires kept { IsKept (log_view standing.old.log) }
+    requires stops { begin_done (log_view standing.old.log).claims ≡ false }
+    requires uncut { standing.old.cut ≡ None }
+    requires room { vec_len standing.old.journal + 1 < vec_capacity standing.old.journal }
+    ensures at { OnOk result ((setup : PlainSetup) → IsToldAt setup standing.old → IsAt setup standing.new) }
+    ensures clock { standing.new.clock ≡ standing.old.clock }
+    ensures events { OnOk result (events_in standing.new ≡ events_in standing.old ++ cut_events (option_map cut_view standing.new.cut)) }
+    ensures stays { OnErr result (standing.new.journal ≡ standing.old.journal) }
+    ensures made { OnOk result (standing.new.cut ≡ None → claims_made (log_view standing.new.log) ≡ claims_made (log_view standing.old.log)) }
+    ensures few { OnOk result (claims_made (log_view standing.new.log) ≤ claims_made (log_view standing.old.log)) }
+    ensures frees { OnOk result ((s k : ℕ) → slice_get standing.new.held.items s ≡ Some (Some k) → slice_get standing.old.held.items s ≡ Some (Some k)) }
+    ensures room { vec_len standing.new.journal < vec_capacity standing.new.journal }
+    ensures committed { (setup : PlainSetup) → IsToldAt setup standing.old → StillCommitted setup standing.old standing.new }
+{
+    let number = standing.log.committed();
+    if number == standing.log.len() {
+        return Ok(());
+    }
+    let ClaimState::Failed(fault) = standing.log.state(number) else {
+        return Ok(());
+    };
+    let element = standing.log.job(number).element.copy()?;
+    standing.log.cut(number)?;
+    free_all(&mut standing.held);
+    standing.cut = Some(Cut {
+        number,
+        cause: End::Fault(element, fault),
+    });
+    standing.journal.push_reserved(Event::Cut { number });
+    Ok(())
+}
+
+/// No seat holds a claim.
+fn free_all(held: &mut Vec<Option<u64>>)
+    ensures long { length held.new.items ≡ length held.old.items }
+    ensures free { (s : ℕ) → s < length held.old.items → slice_get held.new.items s ≡ Some None }
+{
+    for seat in 0..held.len() {
+        held[seat] = None;
+    }
+}
