@@ -32,7 +32,7 @@ work_there view (w ∷ works) zero v right within is each = is ∙ each (view w)
 work_there view (w ∷ works) (suc t) v right within is each = work_there view works t v right (omega arith) is each
 
 -- a job of three parts
-job_of_parts : (n : PlainNet) (head : PlainHead) (job : Job) → element_view job.element ≡ head.element → job.time ≡ head.time → work_view job.work.value ≡ work_of n head.element.transition → job_view job ≡ job_for n head
+job_of_parts : (n : PlainNet) (head : PlainHead) (job : Job) → element_view job.element.value ≡ head.element → job.time ≡ head.time → work_view job.work.value ≡ work_of n head.element.transition → job_view job ≡ job_for n head
 job_of_parts n head job element time work =
     ap (λ (e : PlainElement). record { element = e; time = job.time; work = work_view job.work.value }) element
     ∙ ap (λ (t : ℕ). record { element = head.element; time = t; work = work_view job.work.value }) time
@@ -75,7 +75,7 @@ module _ (setup : PlainSetup) (s : Standing) (entries : List Entry) (element : E
     pub work_within : element.transition < length works
     work_within = let k = is_known in let count = are.count in let long = length-map works view in omega (arith, k, count, long)
 
-    module _ (seat : ℕ) (job : Job) (of_element : element_view job.element ≡ element_view element) (at : job.time ≡ s.clock) (has_work : IfSome (slice_get works element.transition) (λ w. work_view job.work.value ≡ view w)) where
+    module _ (seat : ℕ) (job : Job) (of_element : element_view job.element.value ≡ element_view element) (at : job.time ≡ s.clock) (has_work : IfSome (slice_get works element.transition) (λ w. work_view job.work.value ≡ view w)) where
       work_is : work_view job.work.value ≡ work_of setup.net d.entry.element.transition
       work_is = work_there view works element.transition (work_view job.work.value) (work_of setup.net element.transition) work_within has_work (λ w there. are.each element.transition w there) ∙ ap (work_of setup.net) d.transition
 

@@ -66,7 +66,7 @@ module _ (setup : PlainSetup) (s : program.Standing) (at : IsToldAt setup s) (st
       mapped f (y ∷ xs) zero x there = ap (λ z. Some (f z)) (same_Some y x there)
       mapped f (y ∷ xs) (suc i) x there = mapped f xs i x there
 
-  pub element_next : element_view job.element ≡ next.claim.element
+  pub element_next : element_view job.element.value ≡ next.claim.element
   element_next = ap (λ (j : PlainJob). j.element) job_next
 
   pub time_next : job.time ≡ next.claim.time

@@ -14,6 +14,7 @@ ghost use Rattle.cpn_runs.specs.State.{PlainEvent};
 ghost use Rattle.cpn_runs.specs.FinishedViews.{setup_view, finished_view};
 ghost use Rattle.cpn_book.specs.Books.{setup_in, journal_in, is_spent_in, IsBook, IsRunning};
 ghost use Rattle.cpn_book.specs.Standings.{IsAt, StillCommitted, events_in};
+ghost use Rattle.cpn_search.specs.PlannedNets.{planned_net, IsPlanned};
 ghost use Rattle.cpn_book.specs.Steps.{Follows, IsMovedFrom, MayGoOn};
 
 use crate::books::Book;
@@ -24,6 +25,7 @@ use crate::standings::Standing;
 use crate::tickets::Ticket;
 use cpn_core::Memory;
 use cpn_runs::{Finished, Setup};
+use cpn_search::Plans;
 use std::alloc::Global;
 
 impl Book {
@@ -51,13 +53,15 @@ impl Book {
         if self.spent {
             return Err(Memory);
         }
+        let net = self.setup.net.clone()?;
+        let plans = Plans::of(self.alloc, &net)?;
         let mut book = self;
         book.complete_open()?;
         for _number in book.standing.log.len()..book.setup.limits.steps {
             if let Some(cause) = book.take_end() {
                 return Ok(book.ended(cause));
             }
-            book.play_round()?;
+            book.play_round(&plans)?;
         }
         match book.take_end() {
             Some(cause) => Ok(book.ended(cause)),
@@ -81,8 +85,10 @@ impl Book {
     }
 
     // The next claim and its completion, of seat 0, where no claim is open and the run has no end.
-    fn play_round(&mut self) -> Result<(), Memory>
+    fn play_round(&mut self, plans: &Plans) -> Result<(), Memory>
         requires kept { IsBook self.old }
+        requires planned { IsPlanned plans.now }
+        requires net { planned_net plans.now ≡ (setup_in self.old).net }
         requires running { IsRunning self.old }
         requires none_open { count_by is_some self.old.standing.held.items ≡ 0 }
         requires goes_on { MayGoOn self.old }
@@ -104,7 +110,7 @@ impl Book {
             return Err(Memory);
         };
         complete_claim(&self.setup, &mut self.standing, 0, done)?;
-        self.search()
+        self.search_by(plans)
     }
 
     // Moves the clock to the next time, unless something is ready.

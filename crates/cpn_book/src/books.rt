@@ -18,6 +18,7 @@ ghost use Rattle.cpn_book.specs.States.{cut_events};
 ghost use Rattle.cpn_book.specs.Steps.{Follows, IsMovedFrom, IsSpentFrom, IsStranger, Moves};
 ghost use Rattle.cpn_book.specs.Tickets.{number_of, job_of, evaluated_number, evaluated_job};
 ghost use Rattle.cpn_book.specs.declared.standings.Cut.{Cut};
+ghost use Rattle.cpn_search.specs.PlannedNets.{planned_net, IsPlanned};
 
 use crate::answers::{Advanced, Claimed, Completed, Finish};
 use crate::claiming::open_claim;
@@ -28,7 +29,7 @@ use crate::tickets::{Evaluated, Ticket};
 use cpn_core::{Entry, Memory};
 use cpn_jobs::{Work, works_of};
 use cpn_runs::{Event, Outlook, Setup};
-use cpn_search::enabled;
+use cpn_search::{Plans, enabled};
 use cpn_tmset::Marking;
 use std::alloc::Global;
 use std::sync::Arc;
@@ -100,7 +101,7 @@ impl Book {
         ensures spent { OnErr result (is_spent_in self.new ≡ true) }
         ensures index_gone { OnErr result (is_spent_in self.old ≡ false → index_in self.new ≡ []) }
         ensures events_stay { OnErr result (journal_in self.new ≡ journal_in self.old) }
-        ensures committed { (more : List PlainOccurrence) × (committed_in self.new ≡ committed_in self.old ++ more) }
+        ensures committed { committed_in self.new ≡ committed_in self.old }
     {
         if self.spent {
             return Err(Memory);
@@ -226,6 +227,7 @@ impl Book {
         ensures number { IfOk result (λ ticket. number_of ticket ≡ claims_made (log_view self.old.standing.log)) }
         ensures job { IfOk result (λ ticket. slice_get (map job_view (jobs_in self.new.standing.log)) (number_of ticket) ≡ Some (job_of ticket)) }
         ensures follows { Follows self.old self.new }
+        ensures committed { committed_in self.new ≡ committed_in self.old }
     {
         let ticket = open_claim(
             self.alloc,
@@ -345,6 +347,22 @@ impl Book {
             self.standing.log.unclaimed(),
             self.standing.clock,
         )?;
+        Ok(())
+    }
+
+    /// The same, by the plans of the net.
+    pub(crate) fn search_by(&mut self, plans: &Plans) -> Result<(), Memory>
+        requires playable { IsPlayable (setup_in self.old) }
+        requires planned { IsPlanned plans.now }
+        requires net { planned_net plans.now ≡ (setup_in self.old).net }
+        requires at { IsAt (setup_in self.old) self.old.standing }
+        requires room { vec_len self.old.standing.journal < vec_capacity self.old.standing.journal }
+        ensures running { OnOk result (IsRunning self.new) }
+        ensures standing { self.new.standing ≡ self.old.standing }
+        ensures same { self.new ≡ record self.old { entries = self.new.entries } }
+    {
+        let marking = self.standing.log.unclaimed();
+        self.entries = plans.enabled(self.alloc, marking, self.standing.clock)?;
         Ok(())
     }
 

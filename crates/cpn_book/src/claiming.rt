@@ -14,7 +14,7 @@ ghost use Rattle.cpn_runs.specs.FinishedViews.{setup_view};
 ghost use Rattle.cpn_runs.specs.Playable.{IsPlayable};
 ghost use Rattle.cpn_draw.specs.Draw.{generator};
 ghost use Rattle.cpn_runs.specs.State.{PlainEvent, IsDrawn, claim_made};
-ghost use Rattle.cpn_book.specs.Standings.{IsAt, StillCommitted, events_in};
+ghost use Rattle.cpn_book.specs.Standings.{IsAt, StillCommitted, events_in, occurrences_in};
 ghost use Rattle.cpn_book.specs.Tickets.{number_of, job_of};
 ghost use Rattle.cpn_book.specs.Works.{AreWorks};
 
@@ -61,6 +61,7 @@ pub(crate) fn open_claim(
     ensures job { IfOk result (λ ticket. slice_get (map job_view (jobs_in standing.new.log)) (number_of ticket) ≡ Some (job_of ticket)) }
     ensures room { OnOk result (vec_len standing.new.journal < vec_capacity standing.new.journal) }
     ensures committed { StillCommitted (setup_view setup.now) standing.old standing.new }
+    ensures occurrences { occurrences_in standing.new ≡ occurrences_in standing.old }
 {
     standing.journal.reserve(2)?;
     let number = standing.log.len();
@@ -95,11 +96,12 @@ fn job_of_claim(
     time: u64,
 ) -> Result<Arc<Job>, Memory>
     requires within { element.transition < length works.now }
-    ensures element { IfOk result (λ job. element_view job.value.element ≡ element_view element) }
+    ensures element { IfOk result (λ job. element_view job.value.element.value ≡ element_view element) }
     ensures time { IfOk result (λ job. job.value.time ≡ time) }
     ensures work { IfOk result (λ job. IfSome (slice_get works.now element.transition) (λ work. work_view job.value.work.value ≡ work_view work.value)) }
 {
     let work = works[element.transition as usize].clone()?;
+    let element = Arc::new(alloc, element)?;
     Ok(Arc::new(
         alloc,
         Job {

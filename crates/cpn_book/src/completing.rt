@@ -154,7 +154,7 @@ fn commit_next(standing: &mut Standing) -> Result<bool, Memory>
     let occurrence = Occurrence {
         number,
         time: job.time,
-        element: job.element.copy()?,
+        element: job.element.clone()?,
     };
     standing.occurrences.reserve(1)?;
     standing.log.commit_one()?;

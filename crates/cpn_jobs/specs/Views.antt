@@ -16,7 +16,7 @@ abbrev pub work_view : Work → PlainWork
 work_view work = record { functions = funs_view work.funs.value; delay = option_map expr_view work.delay; outputs = map work_arc_view work.outputs.items }
 
 abbrev pub job_view : Job → PlainJob
-job_view job = record { element = element_view job.element; time = job.time; work = work_view job.work.value }
+job_view job = record { element = element_view job.element.value; time = job.time; work = work_view job.work.value }
 
 abbrev pub work_arcs_view : List WorkArc → List PlainWorkArc
 work_arcs_view arcs = map work_arc_view arcs

@@ -29,9 +29,9 @@ impl Job {
     /// Source: Jensen and Kristensen, chapter 11; the order of the tokens is our own choice.
     pub fn outputs(&self, alloc: Global) -> Result<Outputs, Refused>
         requires time { self.now.time ≤ last_time }
-        requires meaning { HasMeaning (outputs_by (work_view self.now.work.value) self.now.element.binding self.now.time) }
-        ensures outputs { Answers (λ outputs. outputs) result (outputs_by (work_view self.now.work.value) self.now.element.binding self.now.time) }
-        ensures in_net { (n : PlainNet) → work_view self.now.work.value ≡ work_of n self.now.element.transition → Answers (λ outputs. outputs) result (outputs_of n (element_view self.now.element) self.now.time) }
+        requires meaning { HasMeaning (outputs_by (work_view self.now.work.value) self.now.element.value.binding self.now.time) }
+        ensures outputs { Answers (λ outputs. outputs) result (outputs_by (work_view self.now.work.value) self.now.element.value.binding self.now.time) }
+        ensures in_net { (n : PlainNet) → work_view self.now.work.value ≡ work_of n self.now.element.value.transition → Answers (λ outputs. outputs) result (outputs_of n (element_view self.now.element.value) self.now.time) }
     {
         outputs_by(alloc, &self.work, &self.element.binding, self.time)
     }

@@ -103,7 +103,7 @@ fn job(alloc: Global, contents: Contents) -> Result<Job, Memory>
     ensures time { IfOk result (λ job. job.time ≡ contents.time) }
     ensures worked { IfOk result (λ job. IsWorked (work_view job.work.value)) }
 {
-    let element = element(alloc, contents)?;
+    let element = Arc::new(alloc, element(alloc, contents)?)?;
     let work = Arc::new(alloc, work(alloc, contents)?)?;
     Ok(Job {
         element,

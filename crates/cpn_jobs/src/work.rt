@@ -33,7 +33,7 @@ pub struct Work {
 #[derive(Drop)]
 pub struct Job {
     /// The element.
-    pub element: Element,
+    pub element: Arc<Element>,
     /// The time at which it occurs: at most 2^62.
     pub time: u64,
     /// What is left to do of its transition.

@@ -1,5 +1,5 @@
 -- The marking that the claims of a log leave: its tokens stand in order, are few, and are what is left claim by claim.
-use Rattle.std.proofs.Common.{◌≡◌, ℕ, ◌+◌, ◌-◌, ◌*◌, ◌<◌, ◌≤◌, ◌^◌, List, [], ◌∷◌, ◌++◌, length, Some, refl, sym, subst, arith}
+use Rattle.std.proofs.Common.{◌≡◌, ℕ, ◌+◌, ◌-◌, ◌*◌, ◌<◌, ◌≤◌, ◌^◌, List, [], ◌∷◌, ◌++◌, length, Some, refl, arith}
 use Rattle.std.specs.List.{AllByRecursion}
 use Rattle.std.proofs.lemmas.Option.{same_Some}
 use Rattle.cpn_definitions.specs.Bounds.{most_made}
@@ -8,7 +8,7 @@ use Rattle.cpn_definitions.specs.Occurrence.{threshold, subtract}
 use Rattle.cpn_definitions.proofs.PlaceCounts.{HasUpTo, taken_up_to, added_up_to}
 use Rattle.cpn_definitions.proofs.Subtraction.{AllAreSorted}
 use Rattle.cpn_runs.specs.HoleRun.{PlainClaim, added, after_claim, marking_left}
-use Rattle.cpn_runs.proofs.Sequences.{left_parts, left_from}
+use Rattle.cpn_runs.proofs.Sequences.{left_parts}
 use Rattle.cpn_tmset.specs.Limits.{HaveRoomFor}
 use Rattle.cpn_log.specs.Kept.{IsInRange}
 use Rattle.cpn_log.specs.Exchanges.{after_claims, number_added}

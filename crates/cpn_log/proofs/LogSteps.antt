@@ -56,19 +56,20 @@ abbrev pub seen : ℕ → List Claim → Marking → Marking → PlainLog
 seen k cs settled unclaimed = record { committed = map head_view (take k cs); settled = settled; claims = map claim_view (drop k cs); unclaimed = unclaimed }
 
 pub next_is
-    : (k : ℕ) (cs : List Claim) (old new : Claim) (settled later unclaimed : Marking) (needs : List Needed) (time : ℕ) (outputs : List Made)
+    : (k : ℕ) (cs : List Claim) (old new : Claim) (settled later unclaimed left : Marking) (needs : List Needed) (time : ℕ) (outputs : List Made)
     → k < length cs
     → old ≡ get_or cs k old
     → head_view new ≡ head_view old
     → HandsOut old needs time outputs
     → later ≡ exchanged needs time outputs settled
-    → seen (k + 1) (set cs k new) later unclaimed ≡ next_committed (seen k cs settled unclaimed)
-next_is k cs old new settled later unclaimed needs time outputs within is head out leads =
-    same_log (seen (k + 1) (set cs k new) later unclaimed) (with_committed (seen k cs settled unclaimed) (claim_view old) behind)
+    → left ≡ unclaimed
+    → seen (k + 1) (set cs k new) later left ≡ next_committed (seen k cs settled unclaimed)
+next_is k cs old new settled later unclaimed left needs time outputs within is head out leads same =
+    same_log (seen (k + 1) (set cs k new) later left) (with_committed (seen k cs settled unclaimed) (claim_view old) behind)
     (ap (map head_view) (take_more_set cs k new within) ∙ map_more head_view (take k cs) new ∙ ap (λ h. map head_view (take k cs) ++ h ∷ []) head)
     (leads ∙ ap₂ (λ ns t. exchanged ns t outputs settled) out.needs_are out.time_is ∙ ap (λ s. exchanged old.needs old.job.value.time (added s) settled) (sym out.status_is))
     (ap (map claim_view) (drop-set-lt (k + 1) cs k new (omega arith)))
-    refl
+    same
     ∙ sym (ap (λ s. cond (is_done s) (with_committed (seen k cs settled unclaimed) (claim_view old) behind) (seen k cs settled unclaimed)) out.status_is)
     ∙ sym (ap (next_committed_of (seen k cs settled unclaimed)) first)
   where
@@ -119,33 +120,34 @@ open_within log number o =
 -- ---- one more claim keeps the log
 
 pub kept_pushed
-    : (log : Log) (claim : Claim) (items : List Claim) (left : Marking)
+    : (log : Log) (claim : Claim) (items : List Claim) (settled left : Marking)
     → claim.course ≡ courses.Open
     → items ≡ log.claims.items ++ claim ∷ []
-    → left ≡ subtract (threshold claim.job.value.time) claim.needs log.unclaimed
+    → settled ≡ (log_view log).settled
+    → left ≡ subtract (threshold claim.job.value.time) claim.needs (log_view log).unclaimed
     → IsKept (log_view log)
     → claims_made (log_view log) < most_steps
     → claim.job.value.time ≤ last_time
     → IsInOrder needed_cmp claim.needs
-    → are_covered (threshold claim.job.value.time) log.unclaimed claim.needs ≡ true
-    → IsKept (seen log.committed items log.settled left)
-kept_pushed log claim items left is_open is left_is kept room early ordered all =
-    let element = element_view claim.job.value.element in
+    → are_covered (threshold claim.job.value.time) (log_view log).unclaimed claim.needs ≡ true
+    → IsKept (seen log.committed items settled left)
+kept_pushed log claim items settled left is_open is settled_is left_is kept room early ordered all =
+    let element = element_view claim.job.value.element.value in
     let time = claim.job.value.time in
     let made : claim_view claim ≡ opened claim.seat element time claim.needs = ap (λ course. record { seat = claim.seat; element = element; time = time; needs = claim.needs; status = status_view course }) is_open in
-    kept_alike (seen log.committed items log.settled left) (record (log_view log) { claims = (log_view log).claims ++ opened claim.seat element time claim.needs ∷ []; unclaimed = subtract (threshold time) claim.needs log.unclaimed })
-    (ap (λ cs. map head_view (take log.committed cs)) is ∙ more_committed log.committed log.claims.items claim log.within) refl
+    kept_alike (seen log.committed items settled left) (record (log_view log) { claims = (log_view log).claims ++ opened claim.seat element time claim.needs ∷ []; unclaimed = subtract (threshold time) claim.needs (log_view log).unclaimed })
+    (ap (λ cs. map head_view (take log.committed cs)) is ∙ more_committed log.committed log.claims.items claim log.within) settled_is
     (ap (λ cs. map claim_view (drop log.committed cs)) is ∙ more_claims log.committed log.claims.items claim log.within ∙ ap (λ k. (log_view log).claims ++ k ∷ []) made) left_is
     (kept_with_one_more (log_view log) claim.seat element time claim.needs kept room early ordered all)
 
 -- ---- a cut keeps the log
 
-pub kept_cut : (log : Log) (position : ℕ) (items : List Claim) (left : Marking) → length (log_view log).committed ≤ position → position ≤ claims_made (log_view log) → items ≡ take position log.claims.items
-    → left ≡ after_claims (take (position - length (log_view log).committed) (log_view log).claims) log.settled → IsKept (log_view log) → IsKept (seen log.committed items log.settled left)
-kept_cut log position items left behind within is left_is kept =
+pub kept_cut : (log : Log) (position : ℕ) (items : List Claim) (settled left : Marking) → length (log_view log).committed ≤ position → position ≤ claims_made (log_view log) → items ≡ take position log.claims.items
+    → settled ≡ (log_view log).settled → left ≡ after_claims (take (position - length (log_view log).committed) (log_view log).claims) (log_view log).settled → IsKept (log_view log) → IsKept (seen log.committed items settled left)
+kept_cut log position items settled left behind within is settled_is left_is kept =
     let n = position - length (log_view log).committed in
-    kept_alike (seen log.committed items log.settled left) (record (log_view log) { claims = take n (log_view log).claims; unclaimed = after_claims (take n (log_view log).claims) log.settled })
-    (cut_heads log position items behind is) refl (cut_claims log position items behind is) left_is
+    kept_alike (seen log.committed items settled left) (record (log_view log) { claims = take n (log_view log).claims; unclaimed = after_claims (take n (log_view log).claims) (log_view log).settled })
+    (cut_heads log position items behind is) settled_is (cut_claims log position items behind is) left_is
     (kept_with_cut (log_view log) n kept (omega (arith, within)))
 
 -- up to the last position all are behind

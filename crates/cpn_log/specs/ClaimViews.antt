@@ -16,7 +16,7 @@ status_view (courses.Failed fault) = faulted_with (fault_view fault)
 abbrev pub claim_view : Claim → PlainClaim
 claim_view claim = record {
   seat = claim.seat;
-  element = element_view claim.job.value.element;
+  element = element_view claim.job.value.element.value;
   time = claim.job.value.time;
   needs = claim.needs;
   status = status_view claim.course;
@@ -26,7 +26,7 @@ abbrev pub claim_views : List Claim → List PlainClaim
 claim_views claims = map claim_view claims
 
 abbrev pub head_view : Claim → PlainHead
-head_view claim = record { seat = claim.seat; element = element_view claim.job.value.element; time = claim.job.value.time }
+head_view claim = record { seat = claim.seat; element = element_view claim.job.value.element.value; time = claim.job.value.time }
 
 abbrev pub changed_course : Course → ℕ → List Claim → Option Claim → List Claim
 changed_course course place claims None = claims

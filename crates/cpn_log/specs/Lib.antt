@@ -5,4 +5,6 @@ pub mod Changed
 pub mod ChangedViews
 pub mod States
 pub mod ClaimViews
+pub mod SettledViews
+pub mod MarkingViews
 pub mod LogViews

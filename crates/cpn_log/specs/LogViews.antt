@@ -3,14 +3,15 @@ use Rattle.std.specs.Prelude.{List, map, take, drop}
 use Rattle.cpn_jobs.specs.declared.work.Job.{Job}
 use Rattle.cpn_log.specs.Logs.{PlainLog}
 use Rattle.cpn_log.specs.ClaimViews.{claim_view, head_view}
+use Rattle.cpn_log.specs.MarkingViews.{settled_in, unclaimed_in}
 use Rattle.cpn_log.specs.declared.logs.Log.{Log}
 
 abbrev pub log_view : Log → PlainLog
 log_view log = record {
   committed = map head_view (take log.committed log.claims.items);
-  settled = log.settled;
+  settled = settled_in log.markings;
   claims = map claim_view (drop log.committed log.claims.items);
-  unclaimed = log.unclaimed;
+  unclaimed = unclaimed_in log.markings;
 }
 
 -- the job of each claim, by its number

@@ -11,10 +11,11 @@ ghost use Rattle.cpn_log.specs.ChangedViews.{change_views, changes_view};
 
 use cpn_core::{Memory, Needs, Outputs, Value};
 use cpn_tmset::Marking;
+use smallvec::SmallVec;
 use std::alloc::Global;
 
 /// A value on a place.
-#[derive(Drop)]
+#[derive(Default, Drop)]
 pub struct Change {
     /// The number of the place.
     pub place: u32,
@@ -27,7 +28,7 @@ pub struct Change {
 /// Source: own choice.
 #[derive(Drop)]
 pub struct Changes {
-    items: Vec<Change>,
+    items: SmallVec<Change, 2>,
 }
 
 impl Changes {
@@ -44,7 +45,7 @@ impl Changes {
         ensures in_order { IsInOrder needed_cmp needs.now }
     {
         let tokens = needs.tokens();
-        let mut items = Vec::new(alloc);
+        let mut items = SmallVec::new(alloc);
         for need in tokens {
             tell(&mut items, need.place, &need.value)?;
         }
@@ -57,7 +58,7 @@ impl Changes {
         ensures in_order { IsInOrder made_cmp outputs.now }
     {
         let tokens = outputs.tokens();
-        let mut items = Vec::new(alloc);
+        let mut items = SmallVec::new(alloc);
         for made in tokens {
             tell(&mut items, made.place, &made.value)?;
         }
@@ -73,7 +74,7 @@ impl Changes {
     ) -> Result<Changes, Memory>
         ensures { IfOk result (λ changes. changes_view changes ≡ each_once (filter (differs old.now new.now) (change_views touched.now))) }
     {
-        let mut items = Vec::new(alloc);
+        let mut items = SmallVec::new(alloc);
         for change in touched {
             if !have_same_stamps(old, new, change) {
                 tell(&mut items, change.place, &change.value)?;
@@ -84,7 +85,7 @@ impl Changes {
 }
 
 // Appends the value on the place, unless it stands last already.
-fn tell(items: &mut Vec<Change>, place: u32, value: &Value) -> Result<(), Memory>
+fn tell(items: &mut SmallVec<Change, 2>, place: u32, value: &Value) -> Result<(), Memory>
     ensures { OnOk result (change_views items.new.items ≡ and_then (record { place = place; value = value_view value.now }) (change_views items.old.items)) }
 {
     if !stands_last(items.as_slice(), place, value) {

@@ -9,6 +9,7 @@
 mod changed;
 mod claims;
 mod logs;
+mod markings;
 mod replay;
 mod settled;
 mod states;

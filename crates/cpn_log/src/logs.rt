@@ -4,10 +4,9 @@ ghost use Rattle.std.specs.Prelude.{◌≤◌, length};
 
 use crate::changed::Changes;
 use crate::claims::{Claim, Course};
+use crate::markings::Markings;
 use crate::replay::replayed;
-use crate::settled::Settled;
 use crate::states::ClaimState;
-use crate::tokens::add_copies;
 use crate::touched::touched_in_order;
 use cpn_core::{EvalFault, Memory, Needs, Outputs};
 use cpn_jobs::Job;
@@ -23,8 +22,7 @@ use std::sync::Arc;
 #[derive(Drop)]
 pub struct Log {
     alloc: Global,
-    settled: Settled,
-    unclaimed: Marking,
+    markings: Markings,
     claims: Vec<Claim>,
     committed: usize,
     ghost within: { committed ≤ length claims.items },
@@ -59,11 +57,9 @@ impl Log {
         ensures jobs { IfOk result (λ log. jobs_in log ≡ []) }
         ensures kept { IfOk result (λ log. IsKept (log_view log)) }
     {
-        let unclaimed = marking.copy()?;
         Ok(Log {
             alloc,
-            settled: Settled::new(marking),
-            unclaimed,
+            markings: Markings::new(marking),
             claims: Vec::new(alloc),
             committed: 0,
         })
@@ -76,7 +72,7 @@ impl Log {
         requires room { claims_made (log_view self.old) < most_steps }
         requires in_time { job.value.time ≤ last_time }
         requires covered { are_covered (threshold job.value.time) (log_view self.old).unclaimed needs ≡ true }
-        ensures pushed { OnOk result ((log_view self.new).claims ≡ (log_view self.old).claims ++ opened seat (element_view job.value.element) job.value.time needs ∷ []) }
+        ensures pushed { OnOk result ((log_view self.new).claims ≡ (log_view self.old).claims ++ opened seat (element_view job.value.element.value) job.value.time needs ∷ []) }
         ensures jobs { OnOk result (jobs_in self.new ≡ jobs_in self.old ++ job.value ∷ []) }
         ensures committed { (log_view self.new).committed ≡ (log_view self.old).committed }
         ensures settled { (log_view self.new).settled ≡ (log_view self.old).settled }
@@ -84,7 +80,7 @@ impl Log {
         ensures changes { IfOk result (λ changes. AreChanges (log_view self.old).unclaimed (log_view self.new).unclaimed (changes_view changes)) }
     {
         let changes = Changes::of_needs(self.alloc, &needs)?;
-        self.unclaimed.subtract(&needs, job.time);
+        self.markings.take(&needs, job.time)?;
         self.claims.push(Claim {
             seat,
             job,
@@ -111,14 +107,14 @@ impl Log {
         let told = Changes::of_outputs(self.alloc, &outputs)?;
         let position = number as usize;
         if position + 1 == self.claims.len() {
-            add_copies(&mut self.unclaimed, &outputs)?;
+            self.markings.add(&outputs)?;
             self.complete(position, Course::Done(outputs));
             return Ok(told);
         }
         self.complete(position, Course::Done(outputs));
         let left = self.left_by(self.claims.len())?;
-        let changes = Changes::among(self.alloc, told.items(), &self.unclaimed, &left)?;
-        self.unclaimed = left;
+        let changes = Changes::among(self.alloc, told.items(), self.unclaimed(), &left)?;
+        self.markings.replace(left);
         Ok(changes)
     }
 
@@ -152,9 +148,9 @@ impl Log {
         let position = number as usize;
         let touched = touched_in_order(self.alloc, &self.claims.as_slice()[position..])?;
         let left = self.left_by(position)?;
-        let changes = Changes::among(self.alloc, touched.as_slice(), &self.unclaimed, &left)?;
+        let changes = Changes::among(self.alloc, touched.as_slice(), self.unclaimed(), &left)?;
         self.claims.truncate(position);
-        self.unclaimed = left;
+        self.markings.replace(left);
         Ok(changes)
     }
 
@@ -172,29 +168,28 @@ impl Log {
         if self.committed == self.claims.len() {
             return Ok(false);
         }
+        let is_last = self.committed + 1 == self.claims.len();
         let claim = &mut self.claims[self.committed];
-        match claim.let_go(self.alloc) {
-            Some(exchange) => {
-                self.settled.change(exchange)?;
-                self.committed += 1;
-                Ok(true)
-            }
-            None => Ok(false),
-        }
+        let Some(exchange) = claim.let_go(self.alloc) else {
+            return Ok(false);
+        };
+        self.markings.settle(exchange, is_last)?;
+        self.committed += 1;
+        Ok(true)
     }
 
     /// The marking that the claims leave.
     pub fn unclaimed(&self) -> &Marking
         ensures { result.now ≡ (log_view self.now).unclaimed }
     {
-        &self.unclaimed
+        self.markings.unclaimed()
     }
 
     /// The marking that the committed claims leave.
     pub fn settled(&self) -> &Marking
         ensures { result.now ≡ (log_view self.now).settled }
     {
-        self.settled.marking()
+        self.markings.settled()
     }
 
     /// How many claims are committed.
@@ -243,7 +238,7 @@ impl Log {
     pub fn into_unclaimed(self) -> Marking
         ensures { result ≡ (log_view self).unclaimed }
     {
-        self.unclaimed
+        self.markings.into_unclaimed()
     }
 
     // Sets what became of the claim at a position behind the committed part.
@@ -270,7 +265,7 @@ impl Log {
         ensures { IfOk result (λ left. left ≡ after_claims (take (position - length (log_view self.now).committed) (log_view self.now).claims) (log_view self.now).settled) }
     {
         replayed(
-            self.settled.marking(),
+            self.settled(),
             &self.claims.as_slice()[self.committed..position],
         )
     }

@@ -19,11 +19,11 @@ pub(crate) struct Exchange {
     pub(crate) outputs: Outputs,
 }
 
-// A marking that the exchange leads on from.
+/// A marking, and an exchange that is still to be made in it.
 #[derive(Drop)]
-struct Behind {
-    marking: Marking,
-    exchange: Exchange,
+pub(crate) struct Behind {
+    pub(crate) marking: Marking,
+    pub(crate) exchange: Exchange,
 }
 
 /// A marking that changes whole or not at all: beside it stands, from the first change on, a second one, which is behind by
@@ -50,7 +50,7 @@ impl Model for Settled {
 }
 
 impl Settled {
-    /// The marking, which no claim has changed yet. It takes no memory.
+    /// The marking, with no second one yet. It takes no memory.
     pub(crate) fn new(marking: Marking) -> Settled
         ensures same { result ≡ marking }
     {
@@ -64,6 +64,13 @@ impl Settled {
         ensures same { result.now ≡ self.now }
     {
         &self.marking
+    }
+
+    /// The marking alone. It takes no memory.
+    pub(crate) fn into_marking(self) -> Marking
+        ensures same { result ≡ self }
+    {
+        self.marking
     }
 
     /// Takes the needs and puts the outputs in. After `Memory` the marking is as it was.
@@ -93,8 +100,8 @@ impl Settled {
     }
 }
 
-// The marking after the exchange that it is behind by.
-fn caught_up(behind: Behind) -> Result<Marking, Memory>
+/// The marking after the exchange that it is behind by.
+pub(crate) fn caught_up(behind: Behind) -> Result<Marking, Memory>
     requires in_time { behind.exchange.time ≤ last_time }
     requires room { HaveRoomFor (length behind.exchange.outputs) behind.marking }
     ensures caught_up { IfOk result (λ marking. marking ≡ exchanged behind.exchange.needs behind.exchange.time behind.exchange.outputs behind.marking) }

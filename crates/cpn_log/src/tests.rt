@@ -43,6 +43,7 @@ fn job_at(alloc: Global, time: u64) -> Result<Arc<Job>, Memory>
         transition: 0,
         binding: Binding::new(alloc),
     };
+    let element = Arc::new(alloc, element)?;
     let work = Arc::new(alloc, work)?;
     let job = Arc::new(
         alloc,

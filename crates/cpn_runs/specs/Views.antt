@@ -10,7 +10,7 @@ use Rattle.cpn_runs.specs.declared.events.End.TheVariants as ends
 use Rattle.cpn_runs.specs.declared.events.Limits.{Limits}
 
 abbrev pub occurrence_view : Occurrence → PlainOccurrence
-occurrence_view o = record { number = o.number; time = o.time; element = element_view o.element }
+occurrence_view o = record { number = o.number; time = o.time; element = element_view o.element.value }
 
 abbrev pub event_view : Event → PlainEvent
 event_view (events.Claim seat number) = claim_made seat number

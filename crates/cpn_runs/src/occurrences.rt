@@ -1,6 +1,7 @@
 //! Occurrences.
 
 use cpn_core::Element;
+use std::sync::Arc;
 
 /// An occurrence of a binding element in a run.
 #[derive(Drop)]
@@ -9,6 +10,6 @@ pub struct Occurrence {
     pub number: u64,
     /// The time at which it occurs: 0 to 2^62.
     pub time: u64,
-    /// What occurs.
-    pub element: Element,
+    /// What occurs. It may be shared with the claim that it was.
+    pub element: Arc<Element>,
 }

@@ -1,14 +1,12 @@
 -- The order of bindings, pair by pair; and what is sorted by it rises, where no two are the same.
-use Rattle.std.proofs.Common.{◌≡◌, ℕ, zero, suc, ◌+◌, ◌<◌, ◌≤◌, min, Bool, true, false, List, [], ◌∷◌, map, drop, length, get_or, refl, sym, ap, ◌∙◌, subst, inl, inr, arith, add-one, drop-cons, Ordering, Less, Equal, Greater, is_lt, is_eq, nat_cmp, Contains, ◌↔◌, if◌then◌else◌}
+use Rattle.std.proofs.Common.{◌≡◌, ℕ, zero, suc, ◌+◌, ◌≤◌, min, Bool, true, false, List, [], ◌∷◌, map, drop, length, get_or, refl, sym, ap, ◌∙◌, subst, inl, inr, arith, Ordering, Less, Equal, Greater, is_lt, is_eq, nat_cmp, Contains, ◌↔◌, if◌then◌else◌}
 use Rattle.std.specs.List.{fold, AllByRecursion, sum_by}
-use Rattle.std.specs.Ordering.{ordering_then, ordering_reverse}
+use Rattle.std.specs.Ordering.{ordering_reverse}
 use Rattle.std.specs.List.Sorted.{IsSortedBy, IsPermutation}
-use Rattle.std.specs.Cmp.Lexicographic.{slice_cmp}
 use Rattle.std.proofs.lemmas.Bool.Decides.{nat_tests}
 use Rattle.std.proofs.lemmas.Cmp.{lists_total, tied_itself}
 use Rattle.std.proofs.lemmas.List.Sorted.{ranks_by, sorted_far, IsPermutation-map, IsPermutation-sym, Contains-permutation, sum_by-IsPermutation}
 use Rattle.cpn_definitions.specs.Value.{PlainValue}
-use Rattle.cpn_definitions.specs.Order.{value_cmp}
 use Rattle.cpn_definitions.specs.ValueOrder.{value_cmp_total}
 use Rattle.cpn_definitions.specs.Lists.{Rises}
 use Rattle.cpn_definitions.specs.Marking.{Marking}
@@ -19,7 +17,6 @@ use Rattle.cpn_definitions.specs.Enabled.{PlainFound, binding_cmp, EnabledOf}
 use Rattle.cpn_definitions.proofs.RisingLists.{IsIn, in_from_contains, contains_from_in, each_in, of_one_in, in_map}
 use Rattle.cpn_core.specs.declared.bindings.Pair.{Pair}
 use Rattle.cpn_core.specs.declared.entries.FoundBinding.{FoundBinding}
-use Rattle.cpn_core.specs.Views.{value_view}
 use Rattle.cpn_core.specs.Pairs.{pairs_view}
 use Rattle.cpn_stages.specs.Work.{AllDiffer}
 use Rattle.cpn_search.specs.Found.{element_of, IsLeastTime}

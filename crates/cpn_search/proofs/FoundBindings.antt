@@ -1,8 +1,6 @@
 -- What a search has found, binding by binding, and that, once it is in order, it is what is enabled.
-use Rattle.std.proofs.Common.{◌≡◌, ◌⊎◌, ◌↔◌, ℕ, ◌==◌, true, ◌&&◌, List, [], ◌∷◌, ◌++◌, map, append-nil, refl, sym, ap, ap₂, subst, ◌∙◌, Option, Some, None, MatchOption, inl, inr, ⊎_elim, Contains, Ordering, Less, Equal, nat_cmp}
-use Rattle.std.specs.List.{AllByRecursion}
+use Rattle.std.proofs.Common.{◌≡◌, ◌⊎◌, ◌↔◌, ℕ, ◌==◌, true, ◌&&◌, List, [], ◌∷◌, ◌++◌, map, append-nil, refl, sym, ap, ap₂, subst, ◌∙◌, Option, Some, None, MatchOption, inl, inr, ⊎_elim, Contains, Equal}
 use Rattle.std.specs.Ordering.{ordering_then}
-use Rattle.std.specs.Cmp.Lexicographic.{slice_cmp}
 use Rattle.std.proofs.lemmas.Bool.{and_parts}
 use Rattle.std.proofs.lemmas.Cmp.{tied_itself, nat_cmp_total}
 use Rattle.std.proofs.lemmas.List.{map-append}
@@ -12,7 +10,7 @@ use Rattle.cpn_definitions.specs.ValueOrder.{value_same, then_first, then_second
 use Rattle.cpn_definitions.specs.Colour.{admits}
 use Rattle.cpn_definitions.specs.Lists.{Rises}
 use Rattle.cpn_definitions.specs.Marking.{Marking}
-use Rattle.cpn_definitions.specs.Net.{PlainNet, variable_at, transition_at}
+use Rattle.cpn_definitions.specs.Net.{PlainNet, variable_at}
 use Rattle.cpn_definitions.specs.Meaning.{PlainBinding}
 use Rattle.cpn_definitions.specs.Occurrence.{binds, covered}
 use Rattle.cpn_definitions.specs.Enabled.{PlainEntry, PlainFound, binding_cmp, entry_cmp, entries_of, IsEarliest, EnabledOf}

@@ -3,12 +3,11 @@ use Rattle.std.proofs.Common.{◌≡◌, ℕ, zero, suc, ◌<◌, Bool, true, fa
 use Rattle.std.specs.List.{list_all, list_any, AllByRecursion}
 use Rattle.std.proofs.lemmas.Bool.Decides.{nat_tests}
 use Rattle.cpn_definitions.specs.Marking.{Marking}
-use Rattle.cpn_definitions.specs.Net.{PlainArc, PlainTransition, PlainNet, no_transition, transition_at}
+use Rattle.cpn_definitions.specs.Net.{PlainTransition, PlainNet, no_transition, transition_at}
 use Rattle.cpn_definitions.specs.Outcome.{HasMeaning}
 use Rattle.cpn_definitions.specs.Meaning.{PlainBinding}
 use Rattle.cpn_definitions.specs.Occurrence.{binds, guard_holds, may_occur, needs_of}
-use Rattle.cpn_definitions.specs.Sound.{IsSound, IsSoundTransition, IsSoundInput, IsMarking}
-use Rattle.cpn_definitions.proofs.Markings.{marking_length}
+use Rattle.cpn_definitions.specs.Sound.{IsSound, IsSoundTransition, IsSoundInput}
 use Rattle.cpn_definitions.proofs.SoundElements.{sound_transition, needs_mean}
 use Rattle.cpn_core.specs.declared.nets.Net.{Net}
 use Rattle.cpn_core.specs.declared.nets.PlaceArc.{PlaceArc}

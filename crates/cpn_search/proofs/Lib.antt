@@ -11,3 +11,4 @@ pub mod BindingOrder
 pub mod TurnSteps
 pub mod TriedPlans
 pub mod PlanSteps
+pub mod PlannedTransitions

@@ -1,6 +1,6 @@
 -- A search goes on: the last of those that are under way is an end, or its next trial makes others of it.
-use Rattle.std.proofs.Common.{◌≡◌, ◌⊎◌, ℕ, zero, suc, ◌+◌, ◌<◌, ◌≤◌, Bool, true, false, List, [], ◌∷◌, ◌++◌, map, take, drop, reverse, length, Option, Some, None, MatchOption, refl, sym, ap, ap₂, ◌∙◌, subst, inl, inr, ⊎_elim, arith, add-one, append_assoc, append-nil, Contains}
-use Rattle.std.specs.List.{flat_map, AllByRecursion}
+use Rattle.std.proofs.Common.{◌≡◌, ℕ, zero, suc, ◌+◌, ◌<◌, List, [], ◌∷◌, ◌++◌, map, take, drop, reverse, length, refl, sym, ap, ap₂, ◌∙◌, subst, ⊎_elim, arith, append_assoc, append-nil}
+use Rattle.std.specs.List.{flat_map}
 use Rattle.std.proofs.lemmas.Grind.{reverse_onto}
 use Rattle.std.proofs.lemmas.List.{reverse-append, map-append}
 use Rattle.cpn_definitions.specs.Marking.{Marking}
@@ -8,13 +8,12 @@ use Rattle.cpn_definitions.specs.Outcome.{HasMeaning}
 use Rattle.cpn_definitions.specs.Inscription.{PlainExpr}
 use Rattle.cpn_definitions.specs.Net.{PlainTransition, PlainNet}
 use Rattle.cpn_definitions.specs.Meaning.{meaning}
-use Rattle.cpn_definitions.proofs.RisingLists.{IsIn, in_from_contains, contains_from_in, in_append_cases, each_in, each_appended, of_one_in, each_mapped}
-use Rattle.cpn_stages.specs.Partial.{PlainPartial, variables_in, Extends, bound_in}
+use Rattle.cpn_definitions.proofs.RisingLists.{IsIn, in_from_contains, contains_from_in, in_append_cases, each_in, each_mapped}
+use Rattle.cpn_stages.specs.Partial.{PlainPartial, bound_in}
 use Rattle.cpn_stages.specs.Stages.{Stage, by_term, by_equation, by_size, variables_at, variables_at_each}
-use Rattle.cpn_stages.specs.Reached.{HasValue}
 use Rattle.cpn_definitions.specs.Sound.{IsSolvable}
 use Rattle.cpn_stages.specs.Orderly.{IsTimelyStage, AreOrderly}
-use Rattle.cpn_stages.specs.Trials.{Trial, matching, solving, are_admitted, next, ends, made, sum_of, IsTrialOf, AreTrialsOf}
+use Rattle.cpn_stages.specs.Trials.{Trial, solving, next, ends, made, sum_of, IsTrialOf, AreTrialsOf}
 use Rattle.cpn_stages.proofs.Partials.{extends_variables, value_stays}
 use Rattle.cpn_stages.proofs.OrderlyStages.{flat_both}
 use Rattle.cpn_stages.proofs.Ends.{next_is}

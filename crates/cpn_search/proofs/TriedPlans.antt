@@ -1,18 +1,15 @@
 -- Stage by stage, what is tried at a plan; and it is the trials of the plan's stages.
-use Rattle.std.proofs.Common.{◌≡◌, ℕ, zero, suc, ◌+◌, ◌<◌, List, [], ◌∷◌, ◌++◌, map, take, drop, length, get_or, refl, sym, ap, ◌∙◌, subst, arith, add-one, Contains}
+use Rattle.std.proofs.Common.{◌≡◌, ℕ, zero, suc, ◌+◌, ◌<◌, List, [], ◌∷◌, ◌++◌, map, take, drop, length, get_or, refl, sym, ap, ◌∙◌, subst, arith, add-one}
 use Rattle.std.specs.List.{flat_map, AllByRecursion}
 use Rattle.std.proofs.lemmas.List.{map-append}
-use Rattle.cpn_definitions.specs.Value.{PlainValue}
 use Rattle.cpn_definitions.specs.Marking.{Marking, tokens_at, AreSorted}
-use Rattle.cpn_definitions.specs.Net.{BindingTerm, PlainArc, PlainNet, PlainTransition, transition_at}
+use Rattle.cpn_definitions.specs.Net.{BindingTerm, PlainArc, PlainNet, PlainTransition}
 use Rattle.cpn_definitions.specs.Bindable.{binding_terms}
 use Rattle.cpn_definitions.proofs.Markings.{marking_length}
 use Rattle.cpn_definitions.proofs.RisingLists.{each_appended}
-use Rattle.cpn_definitions.specs.Sound.{IsSound, IsSoundInput, IsSoundTransition, IsMarking}
-use Rattle.cpn_core.specs.declared.nets.Net.{Net}
-use Rattle.cpn_core.specs.Nets.{net_view}
+use Rattle.cpn_definitions.specs.Sound.{IsSoundInput, IsSoundTransition, IsMarking}
 use Rattle.cpn_stages.specs.Stages.{Stage, by_term, by_equation, by_size, terms_at, term_stages, those_without, Further, none_left, next_equation, next_small, AreStages}
-use Rattle.cpn_stages.specs.Trials.{Trial, matching, solving, IsTrialOf, AreTrialsOf}
+use Rattle.cpn_stages.specs.Trials.{Trial, IsTrialOf, AreTrialsOf}
 use Rattle.cpn_core.specs.Views.{value_view}
 use Rattle.cpn_core.specs.Inscriptions.{pattern_view, expr_view}
 use Rattle.cpn_search.specs.declared.plan.Stage as program

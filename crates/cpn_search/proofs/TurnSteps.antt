@@ -1,15 +1,14 @@
 -- What a turn of a search has of its trials and its transition.
-use Rattle.std.proofs.Common.{◌≡◌, ℕ, zero, suc, ◌+◌, ◌<◌, ◌≤◌, true, nat_lt, List, [], ◌∷◌, ◌++◌, map, drop, length, get_or, refl, sym, ap, ◌∙◌, subst, arith, add-one, nat_cmp, Option, Some}
+use Rattle.std.proofs.Common.{◌≡◌, ℕ, zero, suc, ◌+◌, ◌<◌, ◌≤◌, nat_lt, List, [], ◌∷◌, ◌++◌, map, drop, length, get_or, refl, sym, ap, ◌∙◌, subst, arith, nat_cmp, Option, Some}
 use Rattle.std.specs.Option.{option_to_list}
 use Rattle.std.proofs.lemmas.List.{map-append}
-use Rattle.std.specs.List.{list_all, AllByRecursion}
+use Rattle.std.specs.List.{list_all}
 use Rattle.cpn_definitions.specs.Lists.{Rises}
 use Rattle.cpn_definitions.specs.Marking.{Marking}
 use Rattle.cpn_definitions.specs.Net.{PlainTransition, PlainNet, transition_at}
 use Rattle.cpn_definitions.specs.Enabled.{PlainFound}
 use Rattle.cpn_definitions.specs.Sound.{IsSound, IsSolvable}
-use Rattle.cpn_definitions.proofs.RisingLists.{of_one_in}
-use Rattle.cpn_definitions.proofs.SoundElements.{transition_in, sound_transition}
+use Rattle.cpn_definitions.proofs.SoundElements.{sound_transition}
 use Rattle.cpn_core.specs.declared.entries.FoundBinding.{FoundBinding}
 use Rattle.cpn_core.specs.declared.nets.Transition.{Transition}
 use Rattle.cpn_core.specs.declared.nets.Net.{Net}

@@ -1,29 +1,27 @@
 -- Each turn of a search keeps what holds of it, and once nothing is under way, all is found.
-use Rattle.std.proofs.Common.{◌≡◌, ◌⊎◌, ℕ, zero, suc, ◌+◌, ◌<◌, ◌≤◌, true, false, nat_lt, List, [], ◌∷◌, ◌++◌, map, take, drop, length, Option, MatchOption, refl, sym, ap, ap₂, ◌∙◌, subst, inl, inr, ⊎_elim, arith, add-one, append_assoc, append-nil, Contains, nat_cmp}
+use Rattle.std.proofs.Common.{◌≡◌, ℕ, zero, suc, ◌+◌, ◌<◌, true, List, [], ◌∷◌, ◌++◌, map, drop, refl, sym, ap, ◌∙◌, subst, inl, inr, arith, add-one, append_assoc, append-nil, nat_cmp}
 use Rattle.std.specs.List.{AllByRecursion}
 use Rattle.std.proofs.lemmas.List.{map-append}
 use Rattle.cpn_definitions.specs.Lists.{Rises}
 use Rattle.cpn_definitions.specs.Marking.{Marking}
-use Rattle.cpn_definitions.specs.Outcome.{HasMeaning}
-use Rattle.cpn_definitions.specs.Inscription.{PlainExpr}
 use Rattle.cpn_definitions.specs.Net.{PlainTransition, PlainNet, transition_at}
-use Rattle.cpn_definitions.specs.Meaning.{PlainBinding, meaning}
+use Rattle.cpn_definitions.specs.Meaning.{PlainBinding}
 use Rattle.cpn_definitions.specs.Bindable.{AreClosed}
-use Rattle.cpn_definitions.specs.Occurrence.{binds, covered}
+use Rattle.cpn_definitions.specs.Occurrence.{binds}
 use Rattle.cpn_definitions.specs.Enabled.{PlainFound}
-use Rattle.cpn_definitions.proofs.RisingLists.{IsIn, in_from_contains, contains_from_in, in_append_left, in_append_right, in_append_cases, in_map, in_map_from, each_in, each_appended, of_one_in, each_mapped}
-use Rattle.cpn_stages.specs.Partial.{PlainPartial, unbound, variables_in, Extends, bound_in, as_partial}
-use Rattle.cpn_stages.specs.Stages.{Stage, AreStages}
+use Rattle.cpn_definitions.proofs.RisingLists.{IsIn, in_from_contains, contains_from_in, in_append_left, in_append_right, in_map, in_map_from, each_in, each_appended, of_one_in, each_mapped}
+use Rattle.cpn_stages.specs.Partial.{PlainPartial, unbound, Extends, bound_in, as_partial}
+use Rattle.cpn_stages.specs.Stages.{Stage}
 use Rattle.cpn_definitions.specs.Sound.{IsSolvable}
-use Rattle.cpn_stages.specs.Trials.{Trial, matching, solving, are_admitted, next, ends, AreTrialsOf}
+use Rattle.cpn_stages.specs.Trials.{Trial, matching, solving, next, ends}
 use Rattle.cpn_stages.proofs.Partials.{extends_itself}
 use Rattle.cpn_stages.proofs.OrderlyStages.{stages_are_orderly}
 use Rattle.cpn_stages.proofs.WholeBindings.{IsWhole, whole_again}
 use Rattle.cpn_stages.proofs.ApartEnds.{AreApart, AllApart}
 use Rattle.cpn_stages.proofs.TransitionEnds.{unbound_variables, unbound_admitted, each_end_whole, all_ends_apart, covered_is_end}
-use Rattle.cpn_search.specs.Found.{element_of, IsNeverCovered, IsLeastTime}
+use Rattle.cpn_search.specs.Found.{element_of}
 use Rattle.cpn_search.specs.TrialViews.{PlainUnderWay, after}
-use Rattle.cpn_search.specs.Searches.{AreTrials, IsUnderWay, AreUnderWay, pending, still_made, FoundAmong, IsSearched, AddsEnd, IsTurn, SearchState, AllFound, MeansSomething}
+use Rattle.cpn_search.specs.Searches.{AreTrials, IsUnderWay, pending, still_made, FoundAmong, AddsEnd, IsTurn, SearchState, AllFound, MeansSomething}
 use Rattle.cpn_search.proofs.SearchStates.{pending_end, pending_next, fewer_at_end, fewer_next, next_under_way, solving_means}
 use Rattle.cpn_search.proofs.FoundBindings.{among_none, among_more}
 

@@ -1,5 +1,5 @@
 -- The different values of sorted tokens are just those that stand on the place, each once.
-use Rattle.std.proofs.Common.{◌≡◌, ℕ, Bool, true, false, not, cond, [], ◌∷◌, List, refl, sym, ap, ◌∙◌, subst, inl, inr, Contains, Ordering, Less, Equal, Greater, is_eq, is_gt}
+use Rattle.std.proofs.Common.{◌≡◌, ℕ, Bool, true, false, not, cond, [], ◌∷◌, List, refl, sym, ap, ◌∙◌, subst, inl, inr, Ordering, Less, Equal, Greater, is_eq, is_gt}
 use Rattle.std.specs.List.{AllByRecursion}
 use Rattle.std.proofs.lemmas.Bool.{cond_both}
 use Rattle.std.proofs.lemmas.Cmp.{upto}

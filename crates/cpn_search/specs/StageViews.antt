@@ -1,5 +1,5 @@
 -- The plain stages that those of the program stand for.
-use Rattle.std.specs.Prelude.{◌≡◌, List, map}
+use Rattle.std.specs.Prelude.{List, map}
 use Rattle.cpn_definitions.specs.Bindable.{AreAll}
 use Rattle.cpn_definitions.specs.Net.{PlainArc, PlainNet, variable_at}
 use Rattle.cpn_core.specs.Views.{value_view}

@@ -1,5 +1,5 @@
 -- The plain stages, trials and partial bindings under way that those of the program stand for.
-use Rattle.std.specs.Prelude.{◌≡◌, ℕ, List, ◌∷◌, [], map}
+use Rattle.std.specs.Prelude.{ℕ, List, map}
 use Rattle.cpn_definitions.specs.Inscription.{variable_pattern}
 use Rattle.cpn_core.specs.Views.{value_view}
 use Rattle.cpn_core.specs.Inscriptions.{pattern_view, expr_view}

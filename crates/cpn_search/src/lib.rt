@@ -9,11 +9,13 @@
 mod earliest;
 mod extending;
 mod plan;
+mod plans;
 mod searching;
 mod sorting;
 mod trials;
 mod turns;
 
 pub use plan::{Plan, Stage};
+pub use plans::Plans;
 pub use searching::{enabled, enabled_of, search};
 pub use turns::Searched;

@@ -6,8 +6,10 @@ ghost use Rattle.cpn_core.specs.Nets.{net_view};
 ghost use Rattle.cpn_core.specs.Elements.{entry_view};
 ghost use Rattle.cpn_search.specs.Found.{entries_at};
 ghost use Rattle.cpn_search.specs.FoundViews.{found_view};
+ghost use Rattle.cpn_search.specs.PlannedNets.{IsPlan};
 
 use crate::plan::Plan;
+use crate::plans::Plans;
 use crate::sorting::in_order;
 use crate::trials::trials_of;
 use crate::turns::{Searched, all_found};
@@ -31,7 +33,24 @@ pub fn search(alloc: Global, net: &Net, marking: &Marking, t: u32) -> Result<Sea
     ensures enabled { IfOk result (λ searched. EnabledOf (net_view net.now) marking.now t (map found_view searched.found.items)) }
 {
     let plan = Plan::of(alloc, net, t)?;
-    let trials = trials_of(alloc, &plan, marking)?;
+    search_by(alloc, net, marking, t, &plan)
+}
+
+/// The same, where there is the plan of the transition.
+pub(crate) fn search_by(
+    alloc: Global,
+    net: &Net,
+    marking: &Marking,
+    t: u32,
+    plan: &Plan,
+) -> Result<Searched, Memory>
+    requires sound { IsSound (net_view net.now) }
+    requires marking { IsMarking (net_view net.now).places marking.now }
+    requires in_range { t < length net.now.transitions.items }
+    requires planned { IsPlan (net_view net.now) t plan.now }
+    ensures enabled { IfOk result (λ searched. EnabledOf (net_view net.now) marking.now t (map found_view searched.found.items)) }
+{
+    let trials = trials_of(alloc, plan, marking)?;
     let searched = all_found(alloc, net, marking, t, &trials)?;
     let found = in_order(searched.found)?;
     Ok(Searched {
@@ -54,7 +73,7 @@ pub fn enabled_of(alloc: Global, net: &Net, marking: &Marking, t: u32) -> Result
 }
 
 /// Appends the entries of a transition with the bindings, none of them before the clock.
-fn push_entries(
+pub(crate) fn push_entries(
     entries: &mut Vec<Entry>,
     found: Found,
     transition: u32,
@@ -87,10 +106,6 @@ pub fn enabled(
     requires marking { IsMarking (net_view net.now).places marking.now }
     ensures enabled { IfOk result (λ entries. Enabled (net_view net.now) marking.now clock (map entry_view entries.items)) }
 {
-    let mut entries = Vec::new(alloc);
-    for t in 0..net.transitions.len() as u32 {
-        let found = enabled_of(alloc, net, marking, t)?;
-        push_entries(&mut entries, found, t, clock)?;
-    }
-    Ok(entries)
+    let plans = Plans::of(alloc, net)?;
+    plans.enabled(alloc, marking, clock)
 }

@@ -3,6 +3,5 @@ pub mod RefusalCauses
 pub mod RefusedDocuments
 pub mod OneReport
 pub mod WrittenReports
-pub mod PrintableReports
 pub mod OptionRows
 pub mod Rows

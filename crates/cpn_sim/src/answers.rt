@@ -20,7 +20,7 @@ use cpn_book::Book;
 use cpn_core::Memory;
 use cpn_file::{Loaded, load};
 use cpn_io::{ReadError, Source, read_all};
-use cpn_report::report;
+use cpn_report::{printable_runs, report};
 use cpn_runs::{End, Limits, Setup};
 use std::alloc::Global;
 use std::sync::Arc;
@@ -84,6 +84,7 @@ fn report_of(alloc: Global, options: &Options, loaded: Loaded) -> Result<Report,
     };
     let book = Book::start(alloc, setup)?;
     let finished = book.run_alone()?;
+    printable_runs();
     let text = report(alloc, options.trace, &finished)?;
     let status = status_after(&finished.cause);
     Ok(Report { text, status })

@@ -304,7 +304,7 @@ fn occurrences(alloc: Global, x: Value, y: Value) -> Result<Vec<Occurrence>, Mem
     let occurrence = Occurrence {
         number: 0,
         time: 0,
-        element,
+        element: Arc::new(alloc, element)?,
     };
     Ok(Vec::from_array(alloc, [occurrence])?)
 }

@@ -1,6 +1,11 @@
 -- A completion is a claim that is done, what is committed then, and the cut that is owed.
-use Rattle.std.proofs.Common.{◌≡◌, None, refl, sym, ap, ◌∙◌, slice_get, slice_set}
+use Rattle.std.proofs.Common.{◌≡◌, ◌++◌, ◌∷◌, [], map, None, Result, Ok, Err, OnOk, OnErr, refl, sym, ap, ◌∙◌, slice_get, slice_set, append_assoc}
+use Rattle.std.specs.Option.{option_map}
 use Rattle.cpn_runs.specs.FinishedViews.{setup_view}
+use Rattle.cpn_runs.specs.State.{claim_completed}
+use Rattle.cpn_runs.specs.Views.{event_view}
+use Rattle.cpn_book.specs.Standings.{cut_view, events_in}
+use Rattle.cpn_book.specs.States.{cut_events}
 use Rattle.cpn_book.specs.Tickets.{evaluated_number}
 use Rattle.cpn_book.proofs.CommittedStandings.{same_but_journal, still_at, still_through}
 use Rattle.cpn_book.proofs.HeldSeats.{where_ok, freed}
@@ -8,6 +13,22 @@ use Rattle.cpn_book.proofs.completing.complete_claim.Goals as goal
 
 pub fill_claim-requires-clause-at : goal.fill_claim-requires-clause-at
 fill_claim-requires-clause-at c = same_but_journal (setup_view c.args.setup.now) c.args.standing.now _ c.requires.at refl c.reserve.ensures.items
+
+-- what follows from either answer
+either : {T E : Type 0} (r : Result T E) (P Q G : Type 0) → OnOk r P → OnErr r Q → (P → G) → (Q → G) → G
+either (Ok x) P Q G ok err so otherwise = so ok
+either (Err e) P Q G ok err so otherwise = otherwise err
+
+pub returns-clause-begins : goal.returns-clause-begins
+returns-clause-begins c =
+    let old = events_in c.args.standing.now in
+    let done = claim_completed c.args.seat (evaluated_number c.args.done) in
+    let cut = cut_events (option_map cut_view c.make_owed_cut.new.standing.cut) in
+    let filled : events_in c.fill_claim.new.standing ≡ old ++ done ∷ [] = c.in_ok-fill_claim.ensures.events ∙ ap (λ es. map event_view es ++ done ∷ []) c.reserve.ensures.items in
+    let committed : events_in c.commit_all.new.standing ≡ old ++ done ∷ [] = ap (λ es. map event_view es.items) c.commit_all.ensures.journal ∙ filled in
+    either c.make_owed_cut.result _ _ _ c.make_owed_cut.ensures.events c.make_owed_cut.ensures.stays
+    (λ is. (done ∷ cut, is ∙ ap (λ es. es ++ cut) committed ∙ append_assoc old (done ∷ []) cut))
+    (λ same. (done ∷ [], ap (λ es. map event_view es.items) same ∙ committed))
 
 pub returns-clause-frees : goal.returns-clause-frees
 returns-clause-frees c =

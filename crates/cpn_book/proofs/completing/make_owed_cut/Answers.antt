@@ -65,8 +65,8 @@ returns-clause-at c = λ setup at.
     let number = c.committed-number.ensures in
     let next : IsNext log (stands_failed fault) = next_stands log (stands_failed fault) (ap (slice_get (standings log)) (sym number) ∙ c.state.ensures ∙ ap (λ s. Some (state_view s)) c.in-Failed.is) in
     let job : slice_get (jobs_in old.log) k ≡ Some c.deref.result.now = ap (slice_get (jobs_in old.log)) (sym number) ∙ c.job.ensures ∙ ap Some (sym c.deref.ensures) in
-    let copied : element_view c.in_ok-element.element ≡ element_view c.deref.result.now.element = ap₂ (λ t b. record { transition = t; binding = b }) c.in_ok-element.ensures.transition c.in_ok-element.ensures.binding in
-    let element : element_view c.in_ok-element.element ≡ next.claim.element = copied ∙ element_next setup old at (stands_failed fault) next c.deref.result.now job in
+    let copied : element_view c.in_ok-element.element ≡ element_view c.deref-2.result.now = ap₂ (λ t b. record { transition = t; binding = b }) c.in_ok-element.ensures.transition c.in_ok-element.ensures.binding in
+    let element : element_view c.in_ok-element.element ≡ next.claim.element = copied ∙ ap element_view c.deref-2.ensures ∙ element_next setup old at (stands_failed fault) next c.deref.result.now job in
     let none_taken : c.committed-number.result - length log.committed ≡ 0 = omega (arith, number) in
     let cut_is : (log_view c.cut.new.self).claims ≡ [] = c.in_ok-cut.ensures.cut ∙ ap (λ i. take i log.claims) none_taken in
     let jobs : jobs_in c.cut.new.self ≡ take k (jobs_in old.log) = c.in_ok-cut.ensures.jobs ∙ ap (λ i. take i (jobs_in old.log)) number in

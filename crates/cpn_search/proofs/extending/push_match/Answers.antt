@@ -1,5 +1,5 @@
 -- What is kept is what fits.
-use Rattle.std.proofs.Common.{rules, sym, ap, ◌∙◌, subst}
+use Rattle.std.proofs.Common.{rules, subst}
 use Rattle.std.specs.Bool.{OnTrue, OnFalse}
 use Rattle.cpn_core.specs.Views.{value_view}
 use Rattle.cpn_core.specs.Inscriptions.{pattern_view}

@@ -1,5 +1,5 @@
 -- The sort is by the values of the variables.
-use Rattle.std.proofs.Common.{ap, ◌≡◌, rules, is_lt}
+use Rattle.std.proofs.Common.{◌≡◌, rules, is_lt}
 use Rattle.std.proofs.lemmas.Cmp.{lists_total}
 use Rattle.std.proofs.lemmas.Fn.{always_returns_same}
 use Rattle.std.proofs.lemmas.List.Sorted.{ranks_by}

@@ -1,5 +1,5 @@
 -- One stage more is tried.
-use Rattle.std.proofs.Common.{rules, arith, length}
+use Rattle.std.proofs.Common.{arith, length}
 use Rattle.cpn_search.proofs.TriedPlans.{one_tried, rest_placed}
 use Rattle.cpn_search.proofs.trials.trials_of.Goals as goal
 

@@ -1,14 +1,11 @@
 -- The state begins, each turn keeps it, and at its end all is found.
-use Rattle.std.proofs.Common.{◌≡◌, ◌<◌, ◌++◌, ◌∷◌, [], rules, arith, map, drop, sym, ◌∙◌, ap, subst, refl}
-use Rattle.cpn_definitions.specs.Net.{transition_at}
+use Rattle.std.proofs.Common.{◌<◌, arith, map, drop, sym, subst, refl}
 use Rattle.cpn_core.specs.Nets.{net_view}
-use Rattle.cpn_stages.specs.Partial.{unbound}
 use Rattle.cpn_search.specs.FoundViews.{found_view}
 use Rattle.cpn_search.specs.TrialViews.{trials_view, under_way_view, all_under_way}
 use Rattle.cpn_search.specs.Searches.{SearchState, still_made}
-use Rattle.cpn_search.proofs.KnownTransitions.{transition_is}
 use Rattle.cpn_search.proofs.TurnSteps.{vars_listed, last_taken, none_taken, begun}
-use Rattle.cpn_search.proofs.TurnedSearches.{state_begins, state_turned, fewer_turned, state_ends}
+use Rattle.cpn_search.proofs.TurnedSearches.{state_turned, fewer_turned, state_ends}
 use Rattle.cpn_search.proofs.turns.all_found.Goals as goal
 
 pub loop-next-init : goal.loop-next-init

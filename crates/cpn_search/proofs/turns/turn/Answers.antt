@@ -1,9 +1,9 @@
 -- Where no trial is left it is an end; else the next trial evaluates what has a meaning.
-use Rattle.std.proofs.Common.{rules, arith, map, drop, sym, refl}
+use Rattle.std.proofs.Common.{arith, map, drop, refl}
 use Rattle.cpn_core.specs.Nets.{net_view}
 use Rattle.cpn_search.specs.FoundViews.{found_view}
 use Rattle.cpn_search.specs.TrialViews.{trial_view, trials_view, under_way_view, all_under_way}
-use Rattle.cpn_search.proofs.TurnSteps.{trials_over, trials_go_on, vars_listed, solvable_at, declared_at, turn_ends, turn_goes_on}
+use Rattle.cpn_search.proofs.TurnSteps.{trials_over, trials_go_on, vars_listed, solvable_at, declared_at, turn_goes_on}
 use Rattle.cpn_search.proofs.TurnedSearches.{own_state, next_means, end_binds}
 use Rattle.cpn_search.proofs.turns.turn.Goals as goal
 

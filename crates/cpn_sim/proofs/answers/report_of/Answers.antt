@@ -9,7 +9,6 @@ use Rattle.cpn_core.specs.declared.nets.Net.{Net}
 use Rattle.cpn_core.specs.Nets.{net_view}
 use Rattle.std.specs.Arc.{arc_value}
 use Rattle.cpn_flat.specs.Views.{loaded_view}
-use Rattle.cpn_sim.proofs.PrintableReports.{is_printable}
 use Rattle.cpn_sim.proofs.answers.report_of.Goals as goal
 
 pub report-requires : goal.report-requires
@@ -22,4 +21,4 @@ report-requires c =
     let Runs : PlainSetup → Type 0 = λ s. IsRun s (finished_view run) in
     let at : setup_view run.setup ≡ _ = c.in_ok-finished.ensures.setup ∙ c.in_ok-book.ensures.setup in
     let start : Starts (setup_view run.setup) = subst Starts (sym at) (subst OfNet (sym same) (loaded.sound, loaded.named, loaded.marking)) in
-    record { printable = is_printable (setup_view run.setup) (finished_view run) start.0 start.1 start.2 (subst Runs (sym c.in_ok-finished.ensures.setup) c.in_ok-finished.ensures.run) }
+    record { printable = c.printable_runs.ensures.printable (setup_view run.setup) (finished_view run) (record { sound = start.0; named = start.1 }) start.2 (subst Runs (sym c.in_ok-finished.ensures.setup) c.in_ok-finished.ensures.run) }

@@ -35,7 +35,7 @@ returns-clause-none_open c =
     let number : evaluated_number c.in-Ok.done ≡ claims_made (log_view c.reach_next_time.new.self.standing.log) = c.in-Ok.ensures.number ∙ c.in_ok-ticket.ensures.number in
     let claims : c.open_claim.new.standing.held.items ≡ slice_set c.reach_next_time.new.self.standing.held.items 0 (Some (evaluated_number c.in-Ok.done)) = c.in_ok-ticket.ensures.holds ∙ ap (λ k. slice_set c.reach_next_time.new.self.standing.held.items 0 (Some k)) (sym number) in
     let after : count_by is_some c.complete_claim.new.standing.held.items ≡ 0 = none_open_after before c.open_claim.new.standing.held.items c.complete_claim.new.standing.held.items (evaluated_number c.in-Ok.done) none claims within c.in_ok-complete_claim.ensures.frees in
-    in_any_case c.search.result _ (ap (λ (s : Standing). count_by is_some s.held.items) c.search.ensures.standing ∙ after)
+    in_any_case c.search_by.result _ (ap (λ (s : Standing). count_by is_some s.held.items) c.search_by.ensures.standing ∙ after)
 
 pub returns-clause-follows : goal.returns-clause-follows
 returns-clause-follows c =
@@ -43,8 +43,8 @@ returns-clause-follows c =
     let claims = c.open_claim.ensures.begins in
     let completes = c.complete_claim.ensures.begins in
     let setup = ap (λ (b : Book). setup_in b) c.reach_next_time.ensures.same.book in
-    in_any_case c.search.result _
-    (follows_so c.args.self.now c.reach_next_time.new.self c.search.new.self c.open_claim.new.standing c.complete_claim.new.standing c.reach_next_time.ensures.same c.requires.kept.committed
+    in_any_case c.search_by.result _
+    (follows_so c.args.self.now c.reach_next_time.new.self c.search_by.new.self c.open_claim.new.standing c.complete_claim.new.standing c.reach_next_time.ensures.same c.requires.kept.committed
     moves.0 moves.1 claims.0 claims.1 (subst (λ s. StillCommitted s c.reach_next_time.new.self.standing c.open_claim.new.standing) setup c.open_claim.ensures.committed)
     completes.0 completes.1 (subst (λ s. StillCommitted s c.open_claim.new.standing c.complete_claim.new.standing) setup c.complete_claim.ensures.committed)
-    c.search.ensures.same)
+    c.search_by.ensures.same)

@@ -22,6 +22,9 @@ returns-in-Some-clause-bounded c =
     run_bounded s (finished_view c.ended.result) c.requires.kept.playable
     (shown_run s c.take_end.new.self (end_view c.in-Some.cause) (finished_view c.ended.result) c.in-Some.ensures.end c.ended.ensures.shown (c.take_end.ensures.setup ∙ ap setup_view c.loop-number.invariant.setup))
 
+pub complete_open-requires-clause-running : goal.complete_open-requires-clause-running
+complete_open-requires-clause-running c = c.requires.kept.running c.if-self.false
+
 pub loop-number-preserved : goal.loop-number-preserved
 loop-number-preserved c =
     let mid = c.take_end.new.self in

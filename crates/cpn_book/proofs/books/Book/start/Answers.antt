@@ -4,6 +4,7 @@ use Rattle.cpn_core.specs.Elements.{entry_view}
 use Rattle.cpn_core.specs.Nets.{net_view}
 use Rattle.cpn_definitions.specs.Enabled.{Enabled}
 use Rattle.cpn_jobs.specs.Views.{work_view}
+use Rattle.cpn_log.specs.LogViews.{log_view}
 use Rattle.cpn_runs.specs.FinishedViews.{setup_view}
 use Rattle.cpn_runs.specs.Views.{event_view}
 use Rattle.cpn_book.specs.Shown.{outlook_at}
@@ -24,7 +25,7 @@ returns-clause-kept c =
       standing = refl;
       events = ap (map event_view) c.reserve.ensures.items;
       enabled =
-          subst (λ n. Enabled (net_view n) c.in_ok-standing.standing.log.unclaimed c.args.setup.clock entries) c.deref-2.ensures
+          subst (λ n. Enabled (net_view n) (log_view c.in_ok-standing.standing.log).unclaimed c.args.setup.clock entries) c.deref-2.ensures
           (subst (λ m. Enabled (net_view c.deref-2.result.now) m c.args.setup.clock entries) c.unclaimed.ensures c.in_ok-entries.ensures.enabled);
       opening = c.outlook-opening.ensures.outlook ∙ ap (λ es. outlook_at c.args.setup.clock (map entry_view es)) c.deref-3.ensures.value;
       room = omega (arith, c.in_ok-reserve.ensures.ok);

@@ -7,6 +7,7 @@ use Rattle.cpn_log.specs.Changed.{AreChanges, differs, each_once, touched}
 use Rattle.cpn_log.specs.ChangedViews.{change_view, change_views, changes_view}
 use Rattle.cpn_log.specs.ClaimViews.{claim_view}
 use Rattle.cpn_log.specs.LogViews.{log_view}
+use Rattle.cpn_log.specs.MarkingViews.{settled_in, unclaimed_in}
 use Rattle.cpn_log.specs.declared.claims.Claim.{Claim}
 use Rattle.cpn_log.proofs.ChangeOrder.{sorted_in_order}
 use Rattle.cpn_log.proofs.CutClaims.{cut_changes}
@@ -27,7 +28,7 @@ pub returns-clause-jobs : goal.returns-clause-jobs
 returns-clause-jobs c = ap (map (λ (claim : Claim). claim.job.value)) c.truncate.ensures.items ∙ sym (take-map (λ (claim : Claim). claim.job.value) c.args.number c.args.self.now.claims.items)
 
 pub returns-clause-kept : goal.returns-clause-kept
-returns-clause-kept c = kept_cut c.args.self.now c.args.number c.truncate.new.self.items c.in_ok-left.left c.requires.open c.requires.within c.truncate.ensures.items c.in_ok-left.ensures c.requires.kept
+returns-clause-kept c = kept_cut c.args.self.now c.args.number c.truncate.new.self.items (settled_in c.replace.new.self) (unclaimed_in c.replace.new.self) c.requires.open c.requires.within c.truncate.ensures.items c.replace.ensures.settled (c.replace.ensures.unclaimed ∙ c.in_ok-left.ensures) c.requires.kept
 
 pub returns-clause-changes : goal.returns-clause-changes
 returns-clause-changes c =
@@ -38,5 +39,6 @@ returns-clause-changes c =
     ap (map claim_view) (whole_rest c.args.number c.as_slice.result.now) ∙ ap (λ cs. map claim_view (drop c.args.number cs)) c.as_slice.ensures.value ∙ sym (rest_is log c.args.number c.requires.open) in
     let same = subst (λ cs. IsPermutation (touched cs) (change_views items)) rest c.in_ok-touched.ensures.same in
     let changes = cut_changes (log_view log) n c.in_ok-left.left (change_views items) c.requires.kept c.in_ok-left.ensures same (sorted_in_order change_view items c.in_ok-touched.ensures.in_order) in
-    let told : changes_view c.in_ok-changes.changes ≡ each_once (filter (differs log.unclaimed c.in_ok-left.left) (change_views items)) = c.in_ok-changes.ensures ∙ ap (λ xs. each_once (filter (differs log.unclaimed c.in_ok-left.left) (change_views xs))) c.as_slice-2.ensures.value in
-    subst (AreChanges log.unclaimed c.in_ok-left.left) (sym told) changes
+    let told : changes_view c.in_ok-changes.changes ≡ each_once (filter (differs (log_view log).unclaimed c.in_ok-left.left) (change_views items)) =
+    c.in_ok-changes.ensures ∙ ap (λ m. each_once (filter (differs m c.in_ok-left.left) (change_views c.as_slice-2.result.now))) c.unclaimed.ensures ∙ ap (λ xs. each_once (filter (differs (log_view log).unclaimed c.in_ok-left.left) (change_views xs))) c.as_slice-2.ensures.value in
+    subst (λ m. AreChanges (log_view log).unclaimed m (changes_view c.in_ok-changes.changes)) (sym c.replace.ensures.unclaimed) (subst (AreChanges (log_view log).unclaimed c.in_ok-left.left) (sym told) changes)

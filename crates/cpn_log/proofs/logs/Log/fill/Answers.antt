@@ -5,13 +5,14 @@ use Rattle.cpn_runs.specs.HoleRun.{done_with}
 use Rattle.cpn_log.specs.Changed.{AreChanges, differs, each_once, made_change}
 use Rattle.cpn_log.specs.ChangedViews.{change_views, changes_view}
 use Rattle.cpn_log.specs.LogViews.{log_view}
+use Rattle.cpn_log.specs.MarkingViews.{settled_in, unclaimed_in}
 use Rattle.cpn_log.proofs.LogParts.{made_is, open_at}
 use Rattle.cpn_log.proofs.LogSteps.{open_within, all_behind, behind_all}
 use Rattle.cpn_log.proofs.Completions.{kept_completed, left_by_last, room_behind_last, last_changes, earlier_changes, left_by_all, all_in_range, room_for_each}
 use Rattle.cpn_log.proofs.logs.Log.fill.Goals as goal
 
-pub add_copies-requires : goal.add_copies-requires
-add_copies-requires c =
+pub add-requires : goal.add-requires
+add-requires c =
     let log = log_view c.args.self.now in
     let made = made_is c.args.self.now c.args.self.now.within in
     record { room = room_behind_last log c.args.number c.requires.kept (open_at log c.args.number c.requires.open) c.args.outputs (omega (arith, made, c.if-position-len.true, c.len.ensures)) c.requires.few }
@@ -35,15 +36,15 @@ returns-then-position-len-clause-kept c =
     let log = log_view c.args.self.now in
     let made = made_is c.args.self.now c.args.self.now.within in
     let o = open_at log c.args.number c.requires.open in
-    kept_completed log c.args.number c.requires.kept o (log_view c.complete.new.self) (done_with c.args.outputs) c.requires.few c.complete.ensures.committed c.complete.ensures.settled c.complete.ensures.completed
-    (c.complete.ensures.unclaimed ∙ c.in_ok-add_copies.ensures.added ∙ left_by_last log c.args.number c.requires.kept o c.args.outputs (omega (arith, made, c.if-position-len.true, c.len.ensures)))
+    kept_completed log c.args.number c.requires.kept o (log_view c.complete.new.self) (done_with c.args.outputs) c.requires.few c.complete.ensures.committed (c.complete.ensures.settled ∙ c.add.ensures.settled) c.complete.ensures.completed
+    (c.complete.ensures.unclaimed ∙ c.in_ok-add.ensures.added ∙ left_by_last log c.args.number c.requires.kept o c.args.outputs (omega (arith, made, c.if-position-len.true, c.len.ensures)))
 
 pub returns-then-position-len-clause-changes : goal.returns-then-position-len-clause-changes
 returns-then-position-len-clause-changes c =
     let log = log_view c.args.self.now in
     let o = open_at log c.args.number c.requires.open in
     let changes = last_changes log c.args.number c.requires.kept o c.args.outputs c.of_outputs.ensures.in_order c.requires.in_range in
-    let left = c.complete.ensures.unclaimed ∙ c.in_ok-add_copies.ensures.added in
+    let left = c.complete.ensures.unclaimed ∙ c.in_ok-add.ensures.added in
     subst (λ m. AreChanges log.unclaimed m (changes_view c.in_ok-told.told)) (sym left) (rw c.in_ok-told.ensures.told changes)
 
 -- ---- an earlier claim
@@ -72,7 +73,7 @@ returns-clause-kept c =
     let new = log_view c.complete-2.new.self in
     let o = open_at log c.args.number c.requires.open in
     let left = left_by_all log c.args.number c.requires.kept o new (done_with c.args.outputs) (c.len-2.result - length new.committed) c.in_ok-left.left c.complete-2.ensures.completed c.complete-2.ensures.settled (all_behind c.complete-2.new.self c.len-2.result (omega (arith, c.len-2.ensures))) c.in_ok-left.ensures in
-    kept_completed log c.args.number c.requires.kept o (record new { unclaimed = c.in_ok-left.left }) (done_with c.args.outputs) c.requires.few c.complete-2.ensures.committed c.complete-2.ensures.settled c.complete-2.ensures.completed left
+    kept_completed log c.args.number c.requires.kept o (record new { settled = settled_in c.replace.new.self; unclaimed = unclaimed_in c.replace.new.self }) (done_with c.args.outputs) c.requires.few c.complete-2.ensures.committed (c.replace.ensures.settled ∙ c.complete-2.ensures.settled) c.complete-2.ensures.completed (c.replace.ensures.unclaimed ∙ left)
 
 pub returns-clause-changes : goal.returns-clause-changes
 returns-clause-changes c =
@@ -81,7 +82,7 @@ returns-clause-changes c =
     let o = open_at log c.args.number c.requires.open in
     let left = left_by_all log c.args.number c.requires.kept o new (done_with c.args.outputs) (c.len-2.result - length new.committed) c.in_ok-left.left c.complete-2.ensures.completed c.complete-2.ensures.settled (all_behind c.complete-2.new.self c.len-2.result (omega (arith, c.len-2.ensures))) c.in_ok-left.ensures in
     let changes = earlier_changes log c.args.number c.requires.kept o c.args.outputs c.in_ok-left.left c.of_outputs.ensures.in_order left in
-    let old : c.complete-2.new.self.unclaimed ≡ log.unclaimed = c.complete-2.ensures.unclaimed in
+    let old : c.unclaimed.result.now ≡ log.unclaimed = c.unclaimed.ensures ∙ c.complete-2.ensures.unclaimed in
     let told : changes_view c.in_ok-changes.changes ≡ each_once (filter (differs log.unclaimed c.in_ok-left.left) (each_once (map made_change c.args.outputs))) =
     c.in_ok-changes.ensures ∙ ap (λ m. each_once (filter (differs m c.in_ok-left.left) (change_views c.items.result.now))) old ∙ ap (λ cs. each_once (filter (differs log.unclaimed c.in_ok-left.left) cs)) (c.items.ensures ∙ c.in_ok-told.ensures.told) in
-    subst (AreChanges log.unclaimed c.in_ok-left.left) (sym told) changes
+    subst (λ m. AreChanges log.unclaimed m (changes_view c.in_ok-changes.changes)) (sym c.replace.ensures.unclaimed) (subst (AreChanges log.unclaimed c.in_ok-left.left) (sym told) changes)

@@ -3,10 +3,9 @@ use Rattle.std.proofs.Common.{refl, sym, ap, subst, ◌∙◌}
 use Rattle.cpn_definitions.specs.Occurrence.{threshold, subtract}
 use Rattle.cpn_jobs.specs.declared.work.Job.{Job}
 use Rattle.cpn_log.specs.Changed.{AreChanges}
-use Rattle.cpn_definitions.specs.Occurrence.{threshold, subtract}
-use Rattle.cpn_jobs.specs.declared.work.Job.{Job}
 use Rattle.cpn_log.specs.ChangedViews.{changes_view}
 use Rattle.cpn_log.specs.LogViews.{log_view}
+use Rattle.cpn_log.specs.MarkingViews.{settled_in, unclaimed_in}
 use Rattle.cpn_log.specs.declared.claims.Course.TheVariants as courses
 use Rattle.cpn_log.proofs.TouchedStamps.{taken_changes}
 use Rattle.cpn_log.proofs.KeptLogs.{unclaimed_sorted}
@@ -15,10 +14,11 @@ use Rattle.cpn_log.proofs.logs.Log.push.Goals as goal
 
 pub returns-clause-kept : goal.returns-clause-kept
 returns-clause-kept c =
-    kept_pushed c.args.self.now (record { seat = c.args.seat; job = c.args.job; needs = c.args.needs; course = courses.Open }) c.push.new.self.items c.subtract.new.self refl c.in_ok-push.ensures.items (c.subtract.ensures.subtracted ∙ ap (λ (job : Job). subtract (threshold job.time) c.args.needs c.args.self.now.unclaimed) c.deref.ensures) c.requires.kept c.requires.room c.requires.in_time c.of_needs.ensures.in_order c.requires.covered
+    kept_pushed c.args.self.now (record { seat = c.args.seat; job = c.args.job; needs = c.args.needs; course = courses.Open }) c.push.new.self.items (settled_in c.take.new.self) (unclaimed_in c.take.new.self) refl c.in_ok-push.ensures.items c.take.ensures.settled
+    (c.in_ok-take.ensures.taken ∙ ap (λ (job : Job). subtract (threshold job.time) c.args.needs (log_view c.args.self.now).unclaimed) c.deref.ensures) c.requires.kept c.requires.room c.requires.in_time c.of_needs.ensures.in_order c.requires.covered
 
 pub returns-clause-changes : goal.returns-clause-changes
 returns-clause-changes c =
-    let log = c.args.self.now in
-    let changes = taken_changes c.args.job.value.time c.args.needs log.unclaimed (unclaimed_sorted (log_view log) c.requires.kept) c.of_needs.ensures.in_order c.requires.covered in
-    subst (λ m. AreChanges log.unclaimed m (changes_view c.in_ok-changes.changes)) (sym (c.subtract.ensures.subtracted ∙ ap (λ (job : Job). subtract (threshold job.time) c.args.needs log.unclaimed) c.deref.ensures)) (rw c.in_ok-changes.ensures.told changes)
+    let log = log_view c.args.self.now in
+    let changes = taken_changes c.args.job.value.time c.args.needs log.unclaimed (unclaimed_sorted log c.requires.kept) c.of_needs.ensures.in_order c.requires.covered in
+    subst (λ m. AreChanges log.unclaimed m (changes_view c.in_ok-changes.changes)) (sym (c.in_ok-take.ensures.taken ∙ ap (λ (job : Job). subtract (threshold job.time) c.args.needs log.unclaimed) c.deref.ensures)) (rw c.in_ok-changes.ensures.told changes)

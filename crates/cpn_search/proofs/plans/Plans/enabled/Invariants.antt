@@ -1,9 +1,9 @@
 -- The entries are the enabled elements of the transitions so far.
 use Rattle.std.proofs.Common.{map}
-use Rattle.cpn_core.specs.Nets.{net_view}
 use Rattle.cpn_core.specs.Elements.{entry_view}
 use Rattle.cpn_search.specs.Found.{EnabledBelow}
-use Rattle.cpn_search.proofs.searching.enabled.Given as goal
+use Rattle.cpn_search.specs.PlannedNets.{planned_net}
+use Rattle.cpn_search.proofs.plans.Plans.enabled.Given as goal
 
 abbrev pub invariant-loop-t : goal.invariant-loop-t
-invariant-loop-t l = EnabledBelow (net_view l.net) l.fn.marking l.clock l.t (map entry_view l.entries.items)
+invariant-loop-t l = EnabledBelow (planned_net l.self) l.fn.marking l.clock l.t (map entry_view l.entries.items)

@@ -1,0 +1,156 @@
+//! The unclaimed and the settled marking of a log.
+
+ghost use Rattle.cpn_log.specs.SettledViews.{CatchesUp};
+
+use crate::settled::{Behind, Exchange, Settled, caught_up};
+use crate::tokens::add_copies;
+use cpn_core::{Memory, Needs, Outputs};
+use cpn_tmset::Marking;
+use std::mem;
+
+/// How the settled marking is kept.
+#[derive(Drop)]
+pub(crate) enum SettledAs {
+    /// It is the unclaimed one. Beside it may stand a marking that is behind by an exchange.
+    Unclaimed(Option<Behind>),
+    /// It stands apart.
+    Apart(Settled),
+}
+
+/// The marking that all claims leave, and the one that the committed claims leave. They are one as long as all claims are
+/// committed; the next claim sets the settled one apart.
+#[derive(Drop)]
+pub(crate) struct Markings {
+    unclaimed: Marking,
+    settled: SettledAs,
+    ghost catches_up: { CatchesUp unclaimed settled },
+}
+
+impl Markings {
+    ghost use Rattle.std.specs.Prelude.{◌≡◌, ◌≤◌, true, length, OnOk, OnErr};
+    ghost use Rattle.cpn_definitions.specs.Times.{last_time};
+    ghost use Rattle.cpn_definitions.specs.Occurrence.{add_made, subtract, threshold};
+    ghost use Rattle.cpn_tmset.specs.Limits.{HaveRoomFor};
+    ghost use Rattle.cpn_log.specs.Exchanges.{exchanged, LeadsTo};
+    ghost use Rattle.cpn_log.specs.MarkingViews.{IsApart, settled_in, unclaimed_in};
+
+    /// The marking of no claim. It takes no memory.
+    pub(crate) fn new(marking: Marking) -> Markings
+        ensures unclaimed { unclaimed_in result ≡ marking }
+        ensures settled { settled_in result ≡ marking }
+    {
+        Markings {
+            unclaimed: marking,
+            settled: SettledAs::Unclaimed(None),
+        }
+    }
+
+    pub(crate) fn unclaimed(&self) -> &Marking
+        ensures same { result.now ≡ unclaimed_in self.now }
+    {
+        &self.unclaimed
+    }
+
+    pub(crate) fn settled(&self) -> &Marking
+        ensures same { result.now ≡ settled_in self.now }
+    {
+        match &self.settled {
+            SettledAs::Unclaimed(_) => &self.unclaimed,
+            SettledAs::Apart(settled) => settled.marking(),
+        }
+    }
+
+    /// The unclaimed marking alone. It takes no memory.
+    pub(crate) fn into_unclaimed(self) -> Marking
+        ensures same { result ≡ unclaimed_in self }
+    {
+        self.unclaimed
+    }
+
+    /// Takes needs out of the unclaimed marking. After `Memory` both are as they were.
+    pub(crate) fn take(&mut self, needs: &Needs, time: u64) -> Result<(), Memory>
+        requires in_time { time ≤ last_time }
+        ensures taken { OnOk result (unclaimed_in self.new ≡ subtract (threshold time) needs.now (unclaimed_in self.old)) }
+        ensures unchanged { OnErr result (unclaimed_in self.new ≡ unclaimed_in self.old) }
+        ensures settled { settled_in self.new ≡ settled_in self.old }
+    {
+        self.set_apart()?;
+        self.unclaimed.subtract(needs, time);
+        Ok(())
+    }
+
+    /// Puts copies of outputs into the unclaimed marking. After `Memory` some of them may stand there.
+    pub(crate) fn add(&mut self, outputs: &Outputs) -> Result<(), Memory>
+        requires room { HaveRoomFor (length outputs.now) (unclaimed_in self.old) }
+        ensures added { OnOk result (unclaimed_in self.new ≡ add_made outputs.now (unclaimed_in self.old)) }
+        ensures settled { settled_in self.new ≡ settled_in self.old }
+    {
+        self.set_apart()?;
+        add_copies(&mut self.unclaimed, outputs)
+    }
+
+    /// Replaces the unclaimed marking. It takes no memory.
+    pub(crate) fn replace(&mut self, left: Marking)
+        ensures unclaimed { unclaimed_in self.new ≡ left }
+        ensures settled { settled_in self.new ≡ settled_in self.old }
+    {
+        let old = mem::replace(&mut self.unclaimed, left);
+        if let SettledAs::Unclaimed(_) = &self.settled {
+            self.settled = SettledAs::Apart(Settled::new(old));
+        }
+    }
+
+    /// Makes an exchange in the settled marking. The last one there is leads it to the unclaimed one, and takes no memory. After
+    /// `Memory` both are as they were.
+    pub(crate) fn settle(&mut self, exchange: Exchange, is_last: bool) -> Result<(), Memory>
+        requires in_time { exchange.time ≤ last_time }
+        requires room { HaveRoomFor (length exchange.outputs) (settled_in self.old) }
+        requires last { is_last ≡ true → unclaimed_in self.old ≡ exchanged exchange.needs exchange.time exchange.outputs (settled_in self.old) }
+        ensures settled { OnOk result (settled_in self.new ≡ exchanged exchange.needs exchange.time exchange.outputs (settled_in self.old)) }
+        ensures unchanged { OnErr result (settled_in self.new ≡ settled_in self.old) }
+        ensures unclaimed { unclaimed_in self.new ≡ unclaimed_in self.old }
+    {
+        if is_last {
+            self.join(exchange);
+            return Ok(());
+        }
+        self.set_apart()?;
+        match &mut self.settled {
+            SettledAs::Apart(settled) => settled.change(exchange),
+            SettledAs::Unclaimed(_) => unreachable!(),
+        }
+    }
+
+    // The settled marking is the unclaimed one from here on: the exchange leads it there.
+    fn join(&mut self, exchange: Exchange)
+        requires leads { LeadsTo exchange.needs exchange.time exchange.outputs (settled_in self.old) (unclaimed_in self.old) }
+        ensures settled { settled_in self.new ≡ unclaimed_in self.old }
+        ensures unclaimed { unclaimed_in self.new ≡ unclaimed_in self.old }
+    {
+        if let SettledAs::Apart(settled) = mem::replace(
+            &mut self.settled,
+            SettledAs::Unclaimed(None),
+        ) {
+            let marking = settled.into_marking();
+            self.settled = SettledAs::Unclaimed(Some(Behind { marking, exchange }));
+        }
+    }
+
+    // Sets the settled marking apart: it is the one that was behind, which catches up, or else a copy.
+    fn set_apart(&mut self) -> Result<(), Memory>
+        ensures apart { OnOk result (IsApart self.new) }
+        ensures unclaimed { unclaimed_in self.new ≡ unclaimed_in self.old }
+        ensures settled { settled_in self.new ≡ settled_in self.old }
+    {
+        let second = match &mut self.settled {
+            SettledAs::Apart(_) => return Ok(()),
+            SettledAs::Unclaimed(spare) => spare.take(),
+        };
+        let settled = match second {
+            None => self.unclaimed.copy()?,
+            Some(behind) => caught_up(behind)?,
+        };
+        self.settled = SettledAs::Apart(Settled::new(settled));
+        Ok(())
+    }
+}

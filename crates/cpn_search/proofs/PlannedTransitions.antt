@@ -1,0 +1,22 @@
+-- Plans of transitions: one more, and the one of a number.
+use Rattle.std.proofs.Common.{◌≡◌, ℕ, zero, suc, ◌+◌, ◌<◌, List, [], ◌∷◌, ◌++◌, length, get_or, sym, subst, arith}
+use Rattle.cpn_definitions.specs.Net.{PlainNet}
+use Rattle.cpn_search.specs.PlannedNets.{IsPlan, ArePlansFrom}
+use Rattle.cpn_search.specs.declared.plan.Plan.{Plan}
+
+-- the plan of the next transition behind those before
+plans_more : (n : PlainNet) (k : ℕ) (plans : List Plan) (plan : Plan) → ArePlansFrom n k plans → IsPlan n (k + length plans) plan → ArePlansFrom n k (plans ++ plan ∷ [])
+plans_more n k [] plan are is = (subst (λ (t : ℕ). IsPlan n t plan) (omega arith) is, tt)
+plans_more n k (p ∷ plans) plan are is = (are.0, plans_more n (k + 1) plans plan are.1 (subst (λ (t : ℕ). IsPlan n t plan) (omega arith) is))
+
+pub one_more : (n : PlainNet) (t : ℕ) (plans new : List Plan) (plan : Plan) → ArePlansFrom n 0 plans → length plans ≡ t → IsPlan n t plan → new ≡ plans ++ plan ∷ [] → ArePlansFrom n 0 new
+one_more n t plans new plan are number is now = subst (ArePlansFrom n 0) (sym now) (plans_more n 0 plans plan are (subst (λ (i : ℕ). IsPlan n i plan) (omega (arith, number)) is))
+
+plan_from : (n : PlainNet) (k : ℕ) (plans : List Plan) (t : ℕ) (plan : Plan) → t < length plans → plan ≡ get_or plans t plan → ArePlansFrom n k plans → IsPlan n (k + t) plan
+plan_from n k [] t plan lt is are = absurd (omega arith)
+plan_from n k (p ∷ plans) zero plan lt is are = subst (λ (t : ℕ). IsPlan n t plan) (omega arith) (subst (IsPlan n k) (sym is) are.0)
+plan_from n k (p ∷ plans) (suc t) plan lt is are = subst (λ (i : ℕ). IsPlan n i plan) (omega arith) (plan_from n (k + 1) plans t plan (omega arith) is are.1)
+
+-- the plan of a transition
+pub plan_at : (n : PlainNet) (plans : List Plan) (t : ℕ) (plan : Plan) → t < length plans → plan ≡ get_or plans t plan → ArePlansFrom n 0 plans → IsPlan n t plan
+plan_at n plans t plan lt is are = subst (λ (i : ℕ). IsPlan n i plan) (omega arith) (plan_from n 0 plans t plan lt is are)
