@@ -6,7 +6,6 @@ use Rattle.cpn_definitions.specs.Marking.{Marking}
 use Rattle.cpn_definitions.specs.Net.{PlainNet}
 use Rattle.cpn_definitions.specs.Outcome.{Outcome, gives, HasMeaning}
 use Rattle.cpn_definitions.specs.Occurrence.{PlainElement, Needed, Made, threshold, threshold_in, are_covered, may_occur, needs_of, covered, outputs_of}
-use Rattle.cpn_definitions.specs.Sound.{Gives}
 use Rattle.cpn_definitions.specs.Times.{last_time}
 use Rattle.cpn_definitions.proofs.LegalSequences.{covered_is_bound}
 use Rattle.cpn_definitions.proofs.Outcomes.{gives_and_parts}
@@ -66,9 +65,6 @@ module _ (setup : PlainSetup) (s : Standing) (is : IsAt setup s) (playable : IsP
   module _ (entries : List PlainEntry) (enabled : Enabled setup.net (log_view s.log).unclaimed s.clock entries) (k : ℕ) (x : PlainEntry) (drawn : IsDrawn setup.seed k (ready s.clock entries) x) where
     pub is_covered : covered setup.net (log_view s.log).unclaimed s.clock x.element ≡ true
     is_covered = drawn_covered setup.net (log_view s.log).unclaimed s.clock entries (word setup.seed k % length (ready s.clock entries)) x enabled drawn
-
-    pub has_needs : Gives (needs_of setup.net x.element)
-    has_needs = let has = covered_has_needs setup.net (log_view s.log).unclaimed s.clock x.element is_covered in (has.needs, has.are)
 
     pub transition_known : x.element.transition < length setup.net.transitions
     transition_known = ltb-true x.element.transition (length setup.net.transitions) (and_parts (nat_lt x.element.transition (length setup.net.transitions)) _ (covered_is_bound setup.net (log_view s.log).unclaimed s.clock x.element is_covered)).0

@@ -10,7 +10,6 @@ use Rattle.cpn_definitions.specs.Enabled.{Enabled, ready}
 use Rattle.cpn_definitions.specs.Net.{PlainNet}
 use Rattle.cpn_definitions.specs.Outcome.{gives}
 use Rattle.cpn_definitions.specs.Occurrence.{PlainElement, Needed, threshold, are_covered, needs_of}
-use Rattle.cpn_definitions.specs.Sound.{Gives}
 use Rattle.cpn_draw.specs.Draw.{generator}
 use Rattle.cpn_jobs.specs.declared.work.Job.{Job}
 use Rattle.cpn_jobs.specs.Views.{job_view, work_view}
@@ -23,7 +22,9 @@ use Rattle.cpn_book.specs.Evaluations.{IsReadyToEvaluate}
 use Rattle.cpn_book.specs.Standings.{IsAt, job_for}
 use Rattle.cpn_book.specs.Works.{AreWorks}
 use Rattle.cpn_book.specs.declared.standings.Standing.{Standing}
-use Rattle.cpn_book.proofs.DrawnElements.{draw_is, has_needs, transition_known, needs_covered, ready_job}
+use Rattle.cpn_search.specs.CoveredNeeds.{StandBeside}
+use Rattle.cpn_book.proofs.ReadyEntries.{item_at, stand_as_many, stands_at}
+use Rattle.cpn_book.proofs.DrawnElements.{draw_is, transition_known, needs_covered, ready_job}
 
 -- the work at a place among works is that of its transition
 work_there : {W : Type 0} (view : W → PlainWork) (works : List W) (t : ℕ) (v right : PlainWork) → t < length works → IfSome (slice_get works t) (λ w. v ≡ view w) → ((w : PlainWork) → slice_get (map view works) t ≡ Some w → w ≡ right) → v ≡ right
@@ -56,12 +57,6 @@ module _ (setup : PlainSetup) (s : Standing) (entries : List Entry) (element : E
   pub same_element : element_view element ≡ element_view d.entry.element
   same_element = ap₂ (λ t b. record { transition = t; binding = b }) d.transition d.binding
 
-  pub gives_needs : (n : PlainNet) → n ≡ setup.net → Gives (needs_of n (element_view element))
-  gives_needs n net =
-      let P : PlainNet → Type 0 = λ k. Gives (needs_of k (element_view element)) in
-      let Q : PlainElement → Type 0 = λ e. Gives (needs_of setup.net e) in
-      subst P (sym net) (subst Q (sym same_element) (has_needs setup s d.is d.playable (map entry_view entries) d.enabled (claims_made (log_view s.log)) (entry_view d.entry) drawn))
-
   pub needs_given : (n : PlainNet) (needs : List Needed) → n ≡ setup.net → needs_of n (element_view element) ≡ gives needs → needs_of setup.net (element_view d.entry.element) ≡ gives needs
   needs_given n needs net are = ap₂ needs_of (sym net) (sym same_element) ∙ are
 
@@ -84,3 +79,50 @@ module _ (setup : PlainSetup) (s : Standing) (entries : List Entry) (element : E
 
       pub job_is_ready : IsReadyToEvaluate (job_view job)
       job_is_ready = subst IsReadyToEvaluate (sym job_is) (ready_job setup s d.is d.playable (map entry_view entries) d.enabled (claims_made (log_view s.log)) (entry_view d.entry) drawn seat)
+
+-- ---- what is taken out of the list
+
+-- The entry at a place, its element, and the needs beside it, as they are read in the list and taken out of it.
+pub record IsTakenAt (setup : PlainSetup) (s : Standing) (entries : List Entry) (position : ℕ) (element : Element) : Type 0 where
+  pub is : IsAt setup s
+  pub playable : IsPlayable setup
+  pub uncut : s.cut ≡ None
+  pub enabled : Enabled setup.net (log_view s.log).unclaimed s.clock (map entry_view entries)
+  pub read : List Entry
+  pub read_is : read ≡ entries
+  pub within : position < length read
+  pub draws : (entry : Entry) → slice_get read position ≡ Some entry → (seed k : ℕ) → s.draw ≡ generator seed k → IsDrawn seed k (ready s.clock (map entry_view read)) (entry_view entry)
+  pub opened : List Entry
+  pub opened_is : opened ≡ entries
+  pub takes : (entry : Entry) → slice_get opened position ≡ Some entry → element_view element ≡ element_view entry.element
+
+module _ (setup : PlainSetup) (s : Standing) (entries : List Entry) (position : ℕ) (element : Element) (t : IsTakenAt setup s entries position element) where
+  taken_entry : (x : Entry) × (slice_get t.read position ≡ Some x)
+  taken_entry = item_at t.read position t.within
+
+  of_entry : element_view element ≡ element_view taken_entry.0.element
+  of_entry = t.takes taken_entry.0 (ap (λ es. slice_get es position) (t.opened_is ∙ sym t.read_is) ∙ taken_entry.1)
+
+  pub taken_drawn : HasDrawn setup s entries element
+  taken_drawn = record {
+    is = t.is;
+    playable = t.playable;
+    uncut = t.uncut;
+    enabled = t.enabled;
+    entry = taken_entry.0;
+    drawn_by = subst (λ es. (seed k : ℕ) → s.draw ≡ generator seed k → IsDrawn seed k (ready s.clock (map entry_view es)) (entry_view taken_entry.0)) t.read_is (t.draws taken_entry.0 taken_entry.1);
+    transition = ap (λ (e : PlainElement). e.transition) of_entry;
+    binding = ap (λ (e : PlainElement). e.binding) of_entry;
+  }
+
+  -- there are needs at its place, too
+  pub needs_within : (needs kept : List (List Needed)) → StandBeside setup.net entries needs → kept ≡ needs → position < length kept
+  needs_within needs kept beside same =
+      let long = stand_as_many setup.net entries needs beside in let within = t.within in let read = ap (λ (es : List Entry). length es) t.read_is in let alike = ap (λ (xs : List (List Needed)). length xs) same in
+      omega (arith, long, within, read, alike)
+
+  -- and they are what the element needs
+  pub needs_taken : (needs kept : List (List Needed)) (taken : List Needed) → StandBeside setup.net entries needs → kept ≡ needs → slice_get kept position ≡ Some taken → needs_of setup.net (element_view element) ≡ gives taken
+  needs_taken needs kept taken beside same at =
+      ap (needs_of setup.net) of_entry
+      ∙ stands_at setup.net entries needs position taken_entry.0 taken beside (ap (λ es. slice_get es position) (sym t.read_is) ∙ taken_entry.1) (ap (λ xs. slice_get xs position) (sym same) ∙ at)

@@ -96,6 +96,7 @@ module _ (book : Book) (time : ℕ) (s : Standing) (running : IsRunning book) (n
   moved_runs = record {
     at = moved_at;
     enabled = enabled_then (setup_in book).net (log_view book.standing.log).unclaimed running.at.at.state.clock time (map entry_view book.entries.items) enabled next;
+    needs = running.needs;
     room = λ none. let some = moved_ready in let zero = ap length none in absurd (omega (arith, some, zero));
   }
 

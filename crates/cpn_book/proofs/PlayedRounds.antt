@@ -33,7 +33,7 @@ pub follows_so : (old moved new : Book) (claimed completed : Standing) → IsMov
     → (more : List PlainEvent) → journal_in moved ≡ journal_in old ++ more
     → (claim : List PlainEvent) → events_in claimed ≡ events_in moved.standing ++ claim → StillCommitted (setup_in old) moved.standing claimed
     → (completion : List PlainEvent) → events_in completed ≡ events_in claimed ++ completion → StillCommitted (setup_in old) claimed completed
-    → new ≡ record moved { standing = completed; entries = new.entries }
+    → new ≡ record moved { standing = completed; entries = new.entries; needs = new.needs }
     → Follows old new
 follows_so old moved new claimed completed is_moved has more moves claim claims first completion completes second same =
     let standing : new.standing ≡ completed = ap (λ (b : Book). b.standing) same in

@@ -16,6 +16,7 @@ use Rattle.cpn_runs.specs.FinishedViews.{outlook_view}
 use Rattle.cpn_runs.specs.Playable.{IsPlayable}
 use Rattle.cpn_runs.specs.Run.{Outlook, HasOutlook}
 use Rattle.cpn_standing.specs.Standing.{IsTold}
+use Rattle.cpn_search.specs.CoveredNeeds.{StandBeside}
 use Rattle.cpn_book.specs.Books.{setup_in, works_in, IsBook}
 use Rattle.cpn_book.specs.Shown.{outlook_at}
 use Rattle.cpn_book.specs.Standings.{IsAt, events_in}
@@ -45,6 +46,7 @@ pub record HasStarted (book : Book) (s : Standing) : Type 0 where
   pub standing : book.standing ≡ record s { journal = book.standing.journal }
   pub events : events_in book.standing ≡ events_in s
   pub enabled : Enabled (setup_in book).net (log_view s.log).unclaimed (setup_in book).clock (map entry_view book.entries.items)
+  pub needs : StandBeside (setup_in book).net book.entries.items book.needs.items
   pub opening : outlook_view book.opening ≡ outlook_at (setup_in book).clock (map entry_view book.entries.items)
   pub room : vec_len book.standing.journal < vec_capacity book.standing.journal
 
@@ -89,5 +91,5 @@ module _ (book : Book) (s : Standing) (did : HasStarted book s) where
     state = starts_at.at.state;
     reached = starts_at.at.told.reached;
     committed = has_committed_at (setup_in book) book.standing starts_at.at;
-    running = λ unspent. record { at = starts_at; enabled = enabled_now; room = λ none. did.room };
+    running = λ unspent. record { at = starts_at; enabled = enabled_now; needs = did.needs; room = λ none. did.room };
   }

@@ -9,6 +9,7 @@ use Rattle.cpn_runs.specs.Playable.{IsPlayable}
 use Rattle.cpn_runs.specs.Run.{HasOutlook, PlainFinished}
 use Rattle.cpn_runs.specs.State.{PlainSetup, PlainEvent, PlainState, PlainEnd, PlainOccurrence, IsState}
 use Rattle.cpn_runs.specs.FinishedViews.{setup_view, outlook_view}
+use Rattle.cpn_search.specs.CoveredNeeds.{StandBeside}
 use Rattle.cpn_book.specs.Standings.{events_in, occurrences_in, IsAt, HasCommitted}
 use Rattle.cpn_book.specs.Works.{AreWorks}
 use Rattle.cpn_book.specs.Shown.{outlook_at}
@@ -42,11 +43,12 @@ is_spent_in book = book.spent
 abbrev pub InState : Book → (PlainState → Type 0) → Type 0
 InState book P = (state : PlainState) → IsState (setup_in book) (journal_in book) state → P state
 
--- A book that is not spent: its run stands where the journal leads, what is enabled in the unclaimed marking is listed, and where
--- nothing is ready there is room for the move of the clock.
+-- A book that is not spent: its run stands where the journal leads, what is enabled in the unclaimed marking is listed beside what it
+-- needs, and where nothing is ready there is room for the move of the clock.
 pub record IsRunning (book : Book) : Type 0 where
   pub at : IsAt (setup_in book) book.standing
   pub enabled : Enabled (setup_in book).net (log_view book.standing.log).unclaimed book.standing.clock (map entry_view book.entries.items)
+  pub needs : StandBeside (setup_in book).net book.entries.items book.needs.items
   pub room : ready book.standing.clock (map entry_view book.entries.items) ≡ [] → vec_len book.standing.journal < vec_capacity book.standing.journal
 
 -- A book: from a setup that a run may start from, with the work of each transition and the outlook at the start. Its journal leads to

@@ -33,7 +33,7 @@ pub record IsMovedFrom (old new : Book) : Type 0 where
 
 -- A book like another, but that it is spent, without a list of what is enabled, and for its journal.
 pub record IsSpentFrom (old new : Book) : Type 0 where
-  pub book : new ≡ record old { spent = true; standing = new.standing; entries = new.entries }
+  pub book : new ≡ record old { spent = true; standing = new.standing; entries = new.entries; needs = new.needs }
   pub standing : new.standing ≡ record old.standing { journal = new.standing.journal }
 
 -- A run that goes on, where no claim is open: no cut stands, fewer claims were made than may be, and the next time is one that it may

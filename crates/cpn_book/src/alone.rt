@@ -102,7 +102,8 @@ impl Book {
             self.alloc,
             &self.setup,
             &self.works,
-            &self.entries,
+            &mut self.entries,
+            &mut self.needs,
             &mut self.standing,
             0,
         )?;

@@ -26,10 +26,10 @@ use crate::completing::complete_claim;
 use crate::outlooks::{next_time, outlook, ready_count};
 use crate::standings::{Standing, at_start};
 use crate::tickets::{Evaluated, Ticket};
-use cpn_core::{Entry, Memory};
+use cpn_core::{Entry, Memory, Needs};
 use cpn_jobs::{Work, works_of};
 use cpn_runs::{Event, Outlook, Setup};
-use cpn_search::{Plans, enabled};
+use cpn_search::{Listed, Plans, list_enabled};
 use cpn_tmset::Marking;
 use std::alloc::Global;
 use std::sync::Arc;
@@ -50,6 +50,7 @@ pub struct Book {
     pub(crate) standing: Standing,
     pub(crate) opening: Outlook,
     pub(crate) entries: Vec<Entry>,
+    pub(crate) needs: Vec<Needs>,
     pub(crate) spent: bool,
 }
 
@@ -69,7 +70,12 @@ impl Book {
         let works = works_of(alloc, &setup.net)?;
         let mut standing = at_start(alloc, &setup)?;
         standing.journal.reserve(1)?;
-        let entries = enabled(alloc, &setup.net, standing.log.unclaimed(), setup.clock)?;
+        let Listed { entries, needs } = list_enabled(
+            alloc,
+            &setup.net,
+            standing.log.unclaimed(),
+            setup.clock,
+        )?;
         let opening = outlook(&entries, setup.clock);
         Ok(Book {
             alloc,
@@ -78,6 +84,7 @@ impl Book {
             standing,
             opening,
             entries,
+            needs,
             spent: false,
         })
     }
@@ -233,7 +240,8 @@ impl Book {
             self.alloc,
             &self.setup,
             &self.works,
-            &self.entries,
+            &mut self.entries,
+            &mut self.needs,
             &mut self.standing,
             seat,
         )?;
@@ -339,14 +347,16 @@ impl Book {
         requires room { vec_len self.old.standing.journal < vec_capacity self.old.standing.journal }
         ensures running { OnOk result (IsRunning self.new) }
         ensures standing { self.new.standing ≡ self.old.standing }
-        ensures same { self.new ≡ record self.old { entries = self.new.entries } }
+        ensures same { self.new ≡ record self.old { entries = self.new.entries; needs = self.new.needs } }
     {
-        self.entries = enabled(
+        let Listed { entries, needs } = list_enabled(
             self.alloc,
             &self.setup.net,
             self.standing.log.unclaimed(),
             self.standing.clock,
         )?;
+        self.entries = entries;
+        self.needs = needs;
         Ok(())
     }
 
@@ -359,10 +369,12 @@ impl Book {
         requires room { vec_len self.old.standing.journal < vec_capacity self.old.standing.journal }
         ensures running { OnOk result (IsRunning self.new) }
         ensures standing { self.new.standing ≡ self.old.standing }
-        ensures same { self.new ≡ record self.old { entries = self.new.entries } }
+        ensures same { self.new ≡ record self.old { entries = self.new.entries; needs = self.new.needs } }
     {
         let marking = self.standing.log.unclaimed();
-        self.entries = plans.enabled(self.alloc, marking, self.standing.clock)?;
+        let Listed { entries, needs } = plans.enabled(self.alloc, marking, self.standing.clock)?;
+        self.entries = entries;
+        self.needs = needs;
         Ok(())
     }
 
@@ -375,6 +387,7 @@ impl Book {
     {
         self.standing.journal.truncate(events);
         self.entries.clear();
+        self.needs.clear();
         self.spent = true;
     }
 }

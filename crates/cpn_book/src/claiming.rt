@@ -1,12 +1,9 @@
 //! How a seat makes a claim.
 
 ghost use Rattle.std.specs.Prelude.{◌≡◌, ℕ, ◌+◌, ◌<◌, Some, None, List, [], ◌∷◌, ◌++◌, length, map, slice_get, slice_set, IfOk, IfSome, OnOk, vec_len, vec_capacity};
-ghost use Rattle.cpn_core.specs.Nets.{net_view};
+ghost use Rattle.cpn_core.specs.declared.entries.Entry.{Entry};
 ghost use Rattle.cpn_core.specs.Elements.{element_view, entry_view};
-ghost use Rattle.cpn_definitions.specs.Outcome.{gives};
-ghost use Rattle.cpn_definitions.specs.Occurrence.{needs_of};
 ghost use Rattle.cpn_definitions.specs.Enabled.{Enabled, ready};
-ghost use Rattle.cpn_definitions.specs.Sound.{Gives};
 ghost use Rattle.cpn_jobs.specs.Views.{job_view, work_view};
 ghost use Rattle.cpn_log.specs.Logs.{claims_made};
 ghost use Rattle.cpn_log.specs.LogViews.{log_view, jobs_in};
@@ -14,6 +11,7 @@ ghost use Rattle.cpn_runs.specs.FinishedViews.{setup_view};
 ghost use Rattle.cpn_runs.specs.Playable.{IsPlayable};
 ghost use Rattle.cpn_draw.specs.Draw.{generator};
 ghost use Rattle.cpn_runs.specs.State.{PlainEvent, IsDrawn, claim_made};
+ghost use Rattle.cpn_search.specs.CoveredNeeds.{StandBeside};
 ghost use Rattle.cpn_book.specs.Standings.{IsAt, StillCommitted, events_in, occurrences_in};
 ghost use Rattle.cpn_book.specs.Tickets.{number_of, job_of};
 ghost use Rattle.cpn_book.specs.Works.{AreWorks};
@@ -21,13 +19,12 @@ ghost use Rattle.cpn_book.specs.Works.{AreWorks};
 use crate::outlooks::ready_count;
 use crate::standings::Standing;
 use crate::tickets::Ticket;
-use cpn_core::{Element, Entry, Memory, Needs, Net};
+use cpn_core::{Binding, Element, Entry, Memory, Needs};
 use cpn_draw::Draw;
-use cpn_elements::needs_of;
-use cpn_eval::Refused;
 use cpn_jobs::{Job, Work};
 use cpn_runs::{Event, Setup};
 use std::alloc::Global;
+use std::mem;
 use std::sync::Arc;
 
 /// The next claim, of a seat that holds none, on the element that the next word draws from the ready ones. It leaves room in the
@@ -36,7 +33,8 @@ pub(crate) fn open_claim(
     alloc: Global,
     setup: &Setup,
     works: &[Arc<Work>],
-    entries: &[Entry],
+    entries: &mut Vec<Entry>,
+    needs: &mut Vec<Needs>,
     standing: &mut Standing,
     seat: u32,
 ) -> Result<Ticket, Memory>
@@ -47,8 +45,9 @@ pub(crate) fn open_claim(
     requires below { claims_made (log_view standing.old.log) < setup.now.limits.steps }
     requires known { seat < setup.now.limits.seats }
     requires free { slice_get standing.old.held.items seat ≡ Some None }
-    requires enabled { Enabled (setup_view setup.now).net (log_view standing.old.log).unclaimed standing.old.clock (map entry_view entries.now) }
-    requires some { 0 < length (ready standing.old.clock (map entry_view entries.now)) }
+    requires enabled { Enabled (setup_view setup.now).net (log_view standing.old.log).unclaimed standing.old.clock (map entry_view entries.old.items) }
+    requires needs { StandBeside (setup_view setup.now).net entries.old.items needs.old.items }
+    requires some { 0 < length (ready standing.old.clock (map entry_view entries.old.items)) }
     ensures at { OnOk result (IsAt (setup_view setup.now) standing.new) }
     ensures uncut { standing.new.cut ≡ None }
     ensures clock { standing.new.clock ≡ standing.old.clock }
@@ -65,12 +64,12 @@ pub(crate) fn open_claim(
 {
     standing.journal.reserve(2)?;
     let number = standing.log.len();
-    let drawn = draw_entry(&mut standing.draw, entries, standing.clock);
-    let element = drawn.element.copy()?;
-    let needs = needs_taken(alloc, &setup.net, &element)?;
+    let position = draw_position(&mut standing.draw, entries, standing.clock);
+    let element = take_element(alloc, entries, position);
+    let needed = take_needs(alloc, needs, position);
     let job = job_of_claim(alloc, works, element, standing.clock)?;
     let ticket = Ticket::new(alloc, number, job.clone()?);
-    standing.log.push(seat, job, needs)?;
+    standing.log.push(seat, job, needed)?;
     standing.held[seat as usize] = Some(number);
     standing
         .journal
@@ -78,14 +77,35 @@ pub(crate) fn open_claim(
     Ok(ticket)
 }
 
-/// The entry that the next word draws from the ready ones.
-fn draw_entry<'a>(draw: &mut Draw, entries: &'a [Entry], clock: u64) -> &'a Entry
+/// The place of the entry that the next word draws from the ready ones.
+fn draw_position(draw: &mut Draw, entries: &[Entry], clock: u64) -> usize
     requires some { 0 < length (ready clock (map entry_view entries.now)) }
-    ensures drawn { (seed k : ℕ) → draw.old ≡ generator seed k → IsDrawn seed k (ready clock (map entry_view entries.now)) (entry_view result.now) }
+    ensures within { result < length entries.now }
+    ensures drawn { (entry : Entry) → slice_get entries.now result ≡ Some entry → (seed k : ℕ) → draw.old ≡ generator seed k → IsDrawn seed k (ready clock (map entry_view entries.now)) (entry_view entry) }
     ensures next { (seed k : ℕ) → draw.old ≡ generator seed k → draw.new ≡ generator seed (k + 1) }
 {
-    let position = draw.pick(ready_count(entries, clock));
-    ready_entry(entries, clock, position)
+    let number = draw.pick(ready_count(entries, clock));
+    ready_position(entries, clock, number)
+}
+
+/// Takes the element of the entry at a place out of there.
+fn take_element(alloc: Global, entries: &mut [Entry], position: usize) -> Element
+    requires within { position < length entries.old }
+    ensures element { (entry : Entry) → slice_get entries.old position ≡ Some entry → element_view result ≡ element_view entry.element }
+{
+    let element = &mut entries[position].element;
+    Element {
+        transition: element.transition,
+        binding: mem::replace(&mut element.binding, Binding::new(alloc)),
+    }
+}
+
+/// Takes the needs at a place out of there.
+fn take_needs(alloc: Global, needs: &mut [Needs], position: usize) -> Needs
+    requires within { position < length needs.old }
+    ensures needs { slice_get needs.old position ≡ Some result }
+{
+    mem::replace(&mut needs[position], Needs::new(alloc))
 }
 
 /// The job of a claim on an element: with the work of its transition.
@@ -112,31 +132,20 @@ fn job_of_claim(
     )?)
 }
 
-/// The entry at a position, from 0, among the ready ones.
-fn ready_entry(entries: &[Entry], clock: u64, position: u64) -> &Entry
-    requires within { position < length (ready clock (map entry_view entries.now)) }
-    ensures entry { slice_get (ready clock (map entry_view entries.now)) position ≡ Some (entry_view result.now) }
+/// The place of the entry of a number, from 0, among the ready ones.
+fn ready_position(entries: &[Entry], clock: u64, number: u64) -> usize
+    requires within { number < length (ready clock (map entry_view entries.now)) }
+    ensures within { result < length entries.now }
+    ensures entry { (entry : Entry) → slice_get entries.now result ≡ Some entry → slice_get (ready clock (map entry_view entries.now)) number ≡ Some (entry_view entry) }
 {
-    let mut ahead = position;
-    for entry in entries {
-        if entry.earliest == clock {
+    let mut ahead = number;
+    for position in 0..entries.len() {
+        if entries[position].earliest == clock {
             if ahead == 0 {
-                return entry;
+                return position;
             }
             ahead -= 1;
         }
     }
     unreachable!()
-}
-
-/// The needs of an element that has them.
-fn needs_taken(alloc: Global, net: &Net, element: &Element) -> Result<Needs, Memory>
-    requires given { Gives (needs_of (net_view net.now) (element_view element.now)) }
-    ensures needs { IfOk result (λ needs. needs_of (net_view net.now) (element_view element.now) ≡ gives needs) }
-{
-    match needs_of(alloc, net, element.transition, &element.binding) {
-        Ok(needs) => Ok(needs),
-        Err(Refused::Memory) => Err(Memory),
-        Err(Refused::Fault(_)) => unreachable!(),
-    }
 }

@@ -16,7 +16,7 @@ use Rattle.cpn_definitions.specs.Occurrence.{binds}
 use Rattle.cpn_definitions.specs.Enabled.{PlainFound, binding_cmp, EnabledOf}
 use Rattle.cpn_definitions.proofs.RisingLists.{IsIn, in_from_contains, contains_from_in, each_in, of_one_in, in_map}
 use Rattle.cpn_core.specs.declared.bindings.Pair.{Pair}
-use Rattle.cpn_core.specs.declared.entries.FoundBinding.{FoundBinding}
+use Rattle.cpn_search.specs.declared.covered.Covered.{Covered}
 use Rattle.cpn_core.specs.Pairs.{pairs_view}
 use Rattle.cpn_stages.specs.Work.{AllDiffer}
 use Rattle.cpn_search.specs.Found.{element_of, IsLeastTime}
@@ -36,13 +36,13 @@ order_ends (p ∷ left) (q ∷ right) (suc i) e = order_ends left right i (omega
 -- ---- what is sorted rises
 
 -- by their values, in declaration order
-abbrev pub values_in_order : FoundBinding → List PlainValue
+abbrev pub values_in_order : Covered → List PlainValue
 values_in_order f = map (λ (pair : ℕ × PlainValue). pair.1) f.binding
 
-abbrev comes_before : FoundBinding → FoundBinding → Bool
+abbrev comes_before : Covered → Covered → Bool
 comes_before f g = is_lt (binding_cmp f.binding g.binding)
 
-not_after : (f g : FoundBinding) → comes_before g f ≡ false → (binding_cmp f.binding g.binding ≡ Equal → ⊥) → binding_cmp f.binding g.binding ≡ Less
+not_after : (f g : Covered) → comes_before g f ≡ false → (binding_cmp f.binding g.binding ≡ Equal → ⊥) → binding_cmp f.binding g.binding ≡ Less
 not_after f g before differ = split (binding_cmp f.binding g.binding) refl
   where
     back : binding_cmp g.binding f.binding ≡ ordering_reverse (binding_cmp f.binding g.binding)
@@ -56,7 +56,7 @@ not_after f g before differ = split (binding_cmp f.binding g.binding) refl
         clash : is_lt (binding_cmp g.binding f.binding) ≡ true → is_lt (binding_cmp g.binding f.binding) ≡ false → Greater ≡ Less
         clash h g' = cc
 
-sorted_rest : (f : FoundBinding) (fs : List FoundBinding) → IsSortedBy comes_before (f ∷ fs) → IsSortedBy comes_before fs
+sorted_rest : (f : Covered) (fs : List Covered) → IsSortedBy comes_before (f ∷ fs) → IsSortedBy comes_before fs
 sorted_rest f fs sorted k d low lt =
     let next : suc k + 1 ≡ suc (k + 1) = omega arith in
     subst (λ (j : ℕ). comes_before (get_or (f ∷ fs) j d) (get_or fs k d) ≡ false) next (sorted (suc k) d (omega arith) (omega arith))
@@ -64,23 +64,23 @@ sorted_rest f fs sorted k d low lt =
 -- ---- how often a binding was found
 
 -- one for each that has the binding
-abbrev hits : PlainBinding → FoundBinding → ℕ
+abbrev hits : PlainBinding → Covered → ℕ
 hits b f = if is_eq (binding_cmp b f.binding) then 1 else 0
 
 -- how many have it
-abbrev counted : PlainBinding → List FoundBinding → ℕ
+abbrev counted : PlainBinding → List Covered → ℕ
 counted b [] = 0
 counted b (f ∷ fs) = hits b f + counted b fs
 
-summed_from : (b : PlainBinding) (k : ℕ) (fs : List FoundBinding) → fold (λ (a : ℕ) f. a + hits b f) k fs ≡ k + counted b fs
+summed_from : (b : PlainBinding) (k : ℕ) (fs : List Covered) → fold (λ (a : ℕ) f. a + hits b f) k fs ≡ k + counted b fs
 summed_from b k [] = omega arith
 summed_from b k (f ∷ fs) = let rest = summed_from b (k + hits b f) fs in omega (arith, rest)
 
-summed : (b : PlainBinding) (fs : List FoundBinding) → sum_by (hits b) fs ≡ counted b fs
+summed : (b : PlainBinding) (fs : List Covered) → sum_by (hits b) fs ≡ counted b fs
 summed b fs = let all = summed_from b 0 fs in omega (arith, all)
 
 -- at most one has the binding
-abbrev pub AtMostOne : PlainNet → List ℕ → List FoundBinding → Type 0
+abbrev pub AtMostOne : PlainNet → List ℕ → List Covered → Type 0
 AtMostOne n xs fs = (b : PlainBinding) → binds n xs b ≡ true → counted b fs ≤ 1
 
 equal_is : (o : Ordering) → is_eq o ≡ true → o ≡ Equal
@@ -88,7 +88,7 @@ equal_is Less h = cc
 equal_is Equal h = refl
 equal_is Greater h = cc
 
-no_hits : (n : PlainNet) (xs : List ℕ) (b : PlainBinding) (fs : List FoundBinding) → binds n xs b ≡ true → AllByRecursion (λ (f : FoundBinding). binds n xs f.binding ≡ true) fs → (IsIn b (map (λ (f : PlainFound). f.binding) (map found_view fs)) → ⊥) → counted b fs ≡ 0
+no_hits : (n : PlainNet) (xs : List ℕ) (b : PlainBinding) (fs : List Covered) → binds n xs b ≡ true → AllByRecursion (λ (f : Covered). binds n xs f.binding ≡ true) fs → (IsIn b (map (λ (f : PlainFound). f.binding) (map found_view fs)) → ⊥) → counted b fs ≡ 0
 no_hits n xs b [] own bound other = refl
 no_hits n xs b (f ∷ fs) own bound other = split (is_eq (binding_cmp b f.binding)) refl (no_hits n xs b fs own bound.1 (λ h. other (inr h)))
   where
@@ -96,7 +96,7 @@ no_hits n xs b (f ∷ fs) own bound other = split (is_eq (binding_cmp b f.bindin
     split true is rest = absurd (other (inl (sym (same_binding n xs b f.binding own bound.0 (equal_is (binding_cmp b f.binding) is)))))
     split false is rest = omega (arith, rest)
 
-pub found_once : (n : PlainNet) (xs : List ℕ) (fs : List FoundBinding) → AllDiffer (map (λ (f : PlainFound). f.binding) (map found_view fs)) → AllByRecursion (λ (f : FoundBinding). binds n xs f.binding ≡ true) fs → AtMostOne n xs fs
+pub found_once : (n : PlainNet) (xs : List ℕ) (fs : List Covered) → AllDiffer (map (λ (f : PlainFound). f.binding) (map found_view fs)) → AllByRecursion (λ (f : Covered). binds n xs f.binding ≡ true) fs → AtMostOne n xs fs
 found_once n xs [] differ bound b own = omega arith
 found_once n xs (f ∷ fs) differ bound b own = split (is_eq (binding_cmp b f.binding)) refl (found_once n xs fs differ.1 bound.1 b own)
   where
@@ -107,10 +107,10 @@ found_once n xs (f ∷ fs) differ bound b own = split (is_eq (binding_cmp b f.bi
         omega (arith, others)
     split false is rest = omega (arith, rest)
 
-hit_among : (b : PlainBinding) (fs : List FoundBinding) (g : FoundBinding) → IsIn g fs → binding_cmp b g.binding ≡ Equal → 1 ≤ counted b fs
+hit_among : (b : PlainBinding) (fs : List Covered) (g : Covered) → IsIn g fs → binding_cmp b g.binding ≡ Equal → 1 ≤ counted b fs
 hit_among b [] g h same = absurd h
 hit_among b (f ∷ fs) g (inl e) same =
-    let own : hits b f ≡ 1 = ap (λ (k : FoundBinding). hits b k) e ∙ ap (λ o. if is_eq o then 1 else 0) same in
+    let own : hits b f ≡ 1 = ap (λ (k : Covered). hits b k) e ∙ ap (λ o. if is_eq o then 1 else 0) same in
     omega (arith, own)
 hit_among b (f ∷ fs) g (inr h) same = let rest = hit_among b fs g h same in omega (arith, rest)
 
@@ -118,51 +118,51 @@ binding_itself : (b : PlainBinding) → binding_cmp b b ≡ Equal
 binding_itself b = tied_itself (lists_total value_cmp_total) (map (λ (pair : ℕ × PlainValue). pair.1) b)
 
 pub sorted_rises
-    : (n : PlainNet) (xs : List ℕ) (fs : List FoundBinding) → IsSortedBy comes_before fs → AtMostOne n xs fs → AllByRecursion (λ (f : FoundBinding). binds n xs f.binding ≡ true) fs
+    : (n : PlainNet) (xs : List ℕ) (fs : List Covered) → IsSortedBy comes_before fs → AtMostOne n xs fs → AllByRecursion (λ (f : Covered). binds n xs f.binding ≡ true) fs
     → Rises (λ (f g : PlainFound). binding_cmp f.binding g.binding) (map found_view fs)
 sorted_rises n xs [] sorted once bound = tt
 sorted_rises n xs (f ∷ fs) sorted once bound = (later fs (λ g h. h), sorted_rises n xs fs (sorted_rest f fs sorted) (λ b own. let whole = once b own in omega (arith, whole)) bound.1)
   where
-    twice : (g : FoundBinding) → IsIn g fs → binding_cmp f.binding g.binding ≡ Equal → ⊥
+    twice : (g : Covered) → IsIn g fs → binding_cmp f.binding g.binding ≡ Equal → ⊥
     twice g h same =
         let own : hits f.binding f ≡ 1 = ap (λ o. if is_eq o then 1 else 0) (binding_itself f.binding) in
         let other = hit_among f.binding fs g h same in
         let most = once f.binding bound.0 in
         omega (arith, own, other, most)
 
-    first : (g : FoundBinding) → IsIn g fs → binding_cmp f.binding g.binding ≡ Less
+    first : (g : Covered) → IsIn g fs → binding_cmp f.binding g.binding ≡ Less
     first g h =
         let at = contains_from_in fs g h in
         let far = sorted_far comes_before (ranks_by (lists_total value_cmp_total) values_in_order) (f ∷ fs) sorted 0 (suc at.0) g (omega arith) (let lt = at.1 in omega (arith, lt)) in
-        not_after f g (subst (λ (k : FoundBinding). comes_before k f ≡ false) at.2 far) (twice g h)
+        not_after f g (subst (λ (k : Covered). comes_before k f ≡ false) at.2 far) (twice g h)
 
-    later : (gs : List FoundBinding) → ((g : FoundBinding) → IsIn g gs → IsIn g fs) → AllByRecursion (λ (g : PlainFound). binding_cmp f.binding g.binding ≡ Less) (map found_view gs)
+    later : (gs : List Covered) → ((g : Covered) → IsIn g gs → IsIn g fs) → AllByRecursion (λ (g : PlainFound). binding_cmp f.binding g.binding ≡ Less) (map found_view gs)
     later [] among = tt
     later (g ∷ gs) among = (first g (among g (inl refl)), later gs (λ k h. among k (inr h)))
 
 -- ---- all that was found, in order
 
 -- what is found, in another order
-among_permuted : (n : PlainNet) (m : Marking) (t : ℕ) (bindings : List PlainBinding) (fs gs : List FoundBinding) → FoundAmong n m t bindings (map found_view fs) → IsPermutation fs gs
+among_permuted : (n : PlainNet) (m : Marking) (t : ℕ) (bindings : List PlainBinding) (fs gs : List Covered) → FoundAmong n m t bindings (map found_view fs) → IsPermutation fs gs
     → (x : PlainFound) → Contains (map found_view gs) x ↔ (Contains bindings x.binding × IsLeastTime n m (element_of t x.binding) x.earliest)
 among_permuted n m t bindings fs gs among moved x =
     let views : IsPermutation (map found_view fs) (map found_view gs) = IsPermutation-map found_view fs gs moved in
     let back : IsPermutation (map found_view gs) (map found_view fs) = IsPermutation-sym (map found_view fs) (map found_view gs) views in
     (λ h. (among.exact x).0 (Contains-permutation (map found_view gs) (map found_view fs) x back h), λ is. Contains-permutation (map found_view fs) (map found_view gs) x views ((among.exact x).1 is))
 
-pub sorted_is_enabled : (n : PlainNet) (m : Marking) (t : ℕ) (fs gs : List FoundBinding) → AllFound n m t (map found_view fs) → IsPermutation fs gs → IsSortedBy comes_before gs → EnabledOf n m t (map found_view gs)
+pub sorted_is_enabled : (n : PlainNet) (m : Marking) (t : ℕ) (fs gs : List Covered) → AllFound n m t (map found_view fs) → IsPermutation fs gs → IsSortedBy comes_before gs → EnabledOf n m t (map found_view gs)
 sorted_is_enabled n m t fs gs all moved sorted =
     enabled_from_found n m t all.bindings (map found_view gs) (among_permuted n m t all.bindings fs gs all.among moved)
-    (sorted_rises n (transition_at n t).vars gs sorted once (each_in (λ (f : FoundBinding). binds n (transition_at n t).vars f.binding ≡ true) gs (λ f h. bound_of f (in_from_contains fs f (Contains-permutation gs fs f (IsPermutation-sym fs gs moved) (contains_from_in gs f h))))))
+    (sorted_rises n (transition_at n t).vars gs sorted once (each_in (λ (f : Covered). binds n (transition_at n t).vars f.binding ≡ true) gs (λ f h. bound_of f (in_from_contains fs f (Contains-permutation gs fs f (IsPermutation-sym fs gs moved) (contains_from_in gs f h))))))
     (λ time b is. in_from_contains all.bindings b (all.complete time b is))
   where
-    bound_of : (f : FoundBinding) → IsIn f fs → binds n (transition_at n t).vars f.binding ≡ true
+    bound_of : (f : Covered) → IsIn f fs → binds n (transition_at n t).vars f.binding ≡ true
     bound_of f h =
         of_one_in (λ b. binds n (transition_at n t).vars b ≡ true) all.bindings f.binding all.bound
         (in_from_contains all.bindings f.binding ((all.among.exact (found_view f)).0 (contains_from_in (map found_view fs) (found_view f) (in_map found_view fs f h))).0)
 
     once : AtMostOne n (transition_at n t).vars gs
     once b own =
-        let before = found_once n (transition_at n t).vars fs all.among.differ (each_in (λ (f : FoundBinding). binds n (transition_at n t).vars f.binding ≡ true) fs bound_of) b own in
+        let before = found_once n (transition_at n t).vars fs all.among.differ (each_in (λ (f : Covered). binds n (transition_at n t).vars f.binding ≡ true) fs bound_of) b own in
         let same : counted b gs ≡ counted b fs = sym (summed b gs) ∙ sum_by-IsPermutation (hits b) fs gs moved ∙ summed b fs in
         omega (arith, before, same)

@@ -12,3 +12,4 @@ pub mod TurnSteps
 pub mod TriedPlans
 pub mod PlanSteps
 pub mod PlannedTransitions
+pub mod ListedNeeds

@@ -2,9 +2,13 @@
 use Rattle.std.specs.Prelude.{List, map}
 use Rattle.cpn_definitions.specs.Enabled.{PlainFound}
 use Rattle.cpn_core.specs.declared.entries.FoundBinding.{FoundBinding}
+use Rattle.cpn_search.specs.declared.covered.Covered.{Covered}
 
-abbrev pub found_view : FoundBinding → PlainFound
+abbrev pub found_view : Covered → PlainFound
 found_view found = record { binding = found.binding; earliest = found.earliest }
 
-abbrev pub found_views : List FoundBinding → List PlainFound
+abbrev pub found_binding_view : FoundBinding → PlainFound
+found_binding_view found = record { binding = found.binding; earliest = found.earliest }
+
+abbrev pub found_views : List Covered → List PlainFound
 found_views founds = map found_view founds

@@ -6,6 +6,7 @@
 //! elements. It changes no marking and keeps nothing between two searches.
 #![tactic(auto)]
 
+mod covered;
 mod earliest;
 mod extending;
 mod plan;
@@ -15,7 +16,8 @@ mod sorting;
 mod trials;
 mod turns;
 
+pub use covered::Covered;
 pub use plan::{Plan, Stage};
-pub use plans::Plans;
-pub use searching::{enabled, enabled_of, search};
+pub use plans::{Listed, Plans};
+pub use searching::{enabled, enabled_of, list_enabled, search};
 pub use turns::Searched;

@@ -4,11 +4,12 @@ ghost use Rattle.cpn_definitions.specs.Enabled.{Enabled};
 ghost use Rattle.cpn_definitions.specs.Sound.{IsSound, IsMarking};
 ghost use Rattle.cpn_core.specs.Elements.{entry_view};
 ghost use Rattle.cpn_core.specs.Nets.{net_view};
+ghost use Rattle.cpn_search.specs.CoveredNeeds.{StandBeside};
 ghost use Rattle.cpn_search.specs.PlannedNets.{planned_net, ArePlansFrom, IsPlanned};
 
 use crate::plan::Plan;
 use crate::searching::{push_entries, search_by};
-use cpn_core::{Entry, Memory, Net};
+use cpn_core::{Entry, Memory, Needs, Net};
 use cpn_tmset::Marking;
 use std::alloc::Global;
 
@@ -19,6 +20,17 @@ use std::alloc::Global;
 pub struct Plans<'n> {
     net: &'n Net,
     plans: Vec<Plan<'n>>,
+}
+
+/// The enabled elements of a net, and beside each what it needs.
+///
+/// Source: own choice. A search evaluates the needs, so a claim need not evaluate them again.
+#[derive(Drop)]
+pub struct Listed {
+    /// The elements, in their order.
+    pub entries: Vec<Entry>,
+    /// What each of them needs.
+    pub needs: Vec<Needs>,
 }
 
 impl<'n> Plans<'n> {
@@ -37,30 +49,29 @@ impl<'n> Plans<'n> {
     }
 
     /// The enabled elements of the net, as `enabled` of the net lists them: each binding element that is covered at some time not
-    /// before the clock, once, by transition and then by binding, with the least such time.
+    /// before the clock, once, by transition and then by binding, with the least such time; and what each needs.
     ///
     /// # Errors
     ///
     /// `Memory` where memory is wanted; it leaves nothing behind.
     ///
     /// Source: Jensen and Kristensen, chapter 11; the order is our own choice.
-    pub fn enabled(
-        &self,
-        alloc: Global,
-        marking: &Marking,
-        clock: u64,
-    ) -> Result<Vec<Entry>, Memory>
+    pub fn enabled(&self, alloc: Global, marking: &Marking, clock: u64) -> Result<Listed, Memory>
         requires planned { IsPlanned self.now }
         requires sound { IsSound (planned_net self.now) }
         requires marking { IsMarking (planned_net self.now).places marking.now }
-        ensures enabled { IfOk result (λ entries. Enabled (planned_net self.now) marking.now clock (map entry_view entries.items)) }
+        ensures enabled { IfOk result (λ listed. Enabled (planned_net self.now) marking.now clock (map entry_view listed.entries.items)) }
+        ensures needs { IfOk result (λ listed. StandBeside (planned_net self.now) listed.entries.items listed.needs.items) }
     {
-        let mut entries = Vec::new(alloc);
+        let mut listed = Listed {
+            entries: Vec::new(alloc),
+            needs: Vec::new(alloc),
+        };
         for t in 0..self.plans.len() {
             let found = search_by(alloc, self.net, marking, t as u32, &self.plans[t])?.found;
-            push_entries(&mut entries, found, t as u32, clock)?;
+            push_entries(&mut listed, found, t as u32, clock)?;
         }
-        Ok(entries)
+        Ok(listed)
     }
 }
 

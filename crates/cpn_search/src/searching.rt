@@ -1,19 +1,22 @@
 //! The enabled bindings of a transition, and the enabled elements of a net.
 ghost use Rattle.std.specs.Prelude.{◌≡◌, ◌<◌, ◌++◌, length, map, OnOk, IfOk};
 ghost use Rattle.cpn_definitions.specs.Enabled.{EnabledOf, Enabled};
+ghost use Rattle.cpn_definitions.specs.Net.{PlainNet};
 ghost use Rattle.cpn_definitions.specs.Sound.{IsSound, IsMarking};
 ghost use Rattle.cpn_core.specs.Nets.{net_view};
 ghost use Rattle.cpn_core.specs.Elements.{entry_view};
 ghost use Rattle.cpn_search.specs.Found.{entries_at};
-ghost use Rattle.cpn_search.specs.FoundViews.{found_view};
+ghost use Rattle.cpn_search.specs.FoundViews.{found_binding_view, found_view};
+ghost use Rattle.cpn_search.specs.CoveredNeeds.{HaveNeeds, StandBeside};
 ghost use Rattle.cpn_search.specs.PlannedNets.{IsPlan};
 
+use crate::covered::Covered;
 use crate::plan::Plan;
-use crate::plans::Plans;
+use crate::plans::{Listed, Plans};
 use crate::sorting::in_order;
 use crate::trials::trials_of;
 use crate::turns::{Searched, all_found};
-use cpn_core::{Element, Entry, Found, Memory, Net};
+use cpn_core::{Element, Entry, Found, FoundBinding, Memory, Net};
 use cpn_tmset::Marking;
 use std::alloc::Global;
 
@@ -49,6 +52,7 @@ pub(crate) fn search_by(
     requires in_range { t < length net.now.transitions.items }
     requires planned { IsPlan (net_view net.now) t plan.now }
     ensures enabled { IfOk result (λ searched. EnabledOf (net_view net.now) marking.now t (map found_view searched.found.items)) }
+    ensures needs { IfOk result (λ searched. HaveNeeds (net_view net.now) t searched.found.items) }
 {
     let trials = trials_of(alloc, plan, marking)?;
     let searched = all_found(alloc, net, marking, t, &trials)?;
@@ -66,29 +70,45 @@ pub fn enabled_of(alloc: Global, net: &Net, marking: &Marking, t: u32) -> Result
     requires sound { IsSound (net_view net.now) }
     requires marking { IsMarking (net_view net.now).places marking.now }
     requires in_range { t < length net.now.transitions.items }
-    ensures enabled { IfOk result (λ found. EnabledOf (net_view net.now) marking.now t (map found_view found.items)) }
+    ensures enabled { IfOk result (λ found. EnabledOf (net_view net.now) marking.now t (map found_binding_view found.items)) }
 {
     let searched = search(alloc, net, marking, t)?;
-    Ok(searched.found)
+    bindings_found(alloc, searched.found)
 }
 
-/// Appends the entries of a transition with the bindings, none of them before the clock.
+/// The bindings without their needs.
+fn bindings_found(alloc: Global, covered: Vec<Covered>) -> Result<Found, Memory>
+    ensures same { IfOk result (λ found. map found_binding_view found.items ≡ map found_view covered.items) }
+{
+    let mut found = Vec::new(alloc);
+    for one in covered {
+        found.push(FoundBinding {
+            binding: one.binding,
+            earliest: one.earliest,
+        })?;
+    }
+    Ok(found)
+}
+
+/// Appends the entries of a transition with the bindings, none of them before the clock, and what each needs.
 pub(crate) fn push_entries(
-    entries: &mut Vec<Entry>,
-    found: Found,
+    listed: &mut Listed,
+    found: Vec<Covered>,
     transition: u32,
     clock: u64,
 ) -> Result<(), Memory>
-    ensures appended { OnOk result (map entry_view entries.new.items ≡ map entry_view entries.old.items ++ entries_at clock transition (map found_view found.items)) }
+    ensures appended { OnOk result (map entry_view listed.new.entries.items ≡ map entry_view listed.old.entries.items ++ entries_at clock transition (map found_view found.items)) }
+    ensures needs { OnOk result ((n : PlainNet) → HaveNeeds n transition found.items → StandBeside n listed.old.entries.items listed.old.needs.items → StandBeside n listed.new.entries.items listed.new.needs.items) }
 {
     for one in found {
-        entries.push(Entry {
+        listed.entries.push(Entry {
             earliest: clock.max(one.earliest),
             element: Element {
                 transition,
                 binding: one.binding,
             },
         })?;
+        listed.needs.push(one.needs)?;
     }
     Ok(())
 }
@@ -105,6 +125,22 @@ pub fn enabled(
     requires sound { IsSound (net_view net.now) }
     requires marking { IsMarking (net_view net.now).places marking.now }
     ensures enabled { IfOk result (λ entries. Enabled (net_view net.now) marking.now clock (map entry_view entries.items)) }
+{
+    Ok(list_enabled(alloc, net, marking, clock)?.entries)
+}
+
+/// The enabled elements, as `enabled` lists them, and beside each what it needs. `Memory` comes where memory is wanted, and leaves
+/// nothing behind.
+pub fn list_enabled(
+    alloc: Global,
+    net: &Net,
+    marking: &Marking,
+    clock: u64,
+) -> Result<Listed, Memory>
+    requires sound { IsSound (net_view net.now) }
+    requires marking { IsMarking (net_view net.now).places marking.now }
+    ensures enabled { IfOk result (λ listed. Enabled (net_view net.now) marking.now clock (map entry_view listed.entries.items)) }
+    ensures needs { IfOk result (λ listed. StandBeside (net_view net.now) listed.entries.items listed.needs.items) }
 {
     let plans = Plans::of(alloc, net)?;
     plans.enabled(alloc, marking, clock)

@@ -3,7 +3,8 @@ ghost use Rattle.std.specs.Prelude.{◌≡◌, IsPermutation, IsSortedBy, IfOk};
 ghost use Rattle.std.specs.Ordering.{is_lt};
 ghost use Rattle.cpn_definitions.specs.Enabled.{binding_cmp};
 
-use cpn_core::{Binding, Found, Memory};
+use crate::covered::Covered;
+use cpn_core::{Binding, Memory};
 use std::cmp::Ordering;
 
 /// How two bindings of the same variables compare: by the values of the variables, in declaration order.
@@ -23,7 +24,7 @@ fn compare(binding: &Binding, other: &Binding) -> Ordering
 }
 
 /// What was found, in the order of the bindings.
-pub fn in_order(mut found: Found) -> Result<Found, Memory>
+pub fn in_order(mut found: Vec<Covered>) -> Result<Vec<Covered>, Memory>
     ensures same { IfOk result (λ sorted. IsPermutation found.items sorted.items) }
     ensures rises { IfOk result (λ sorted. IsSortedBy (λ f g. is_lt (binding_cmp f.binding g.binding)) sorted.items) }
 {

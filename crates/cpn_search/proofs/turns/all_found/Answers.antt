@@ -1,6 +1,7 @@
 -- The state begins, each turn keeps it, and at its end all is found.
 use Rattle.std.proofs.Common.{◌<◌, arith, map, drop, sym, subst, refl}
 use Rattle.cpn_core.specs.Nets.{net_view}
+use Rattle.cpn_search.specs.CoveredNeeds.{HaveNeeds}
 use Rattle.cpn_search.specs.FoundViews.{found_view}
 use Rattle.cpn_search.specs.TrialViews.{trials_view, under_way_view, all_under_way}
 use Rattle.cpn_search.specs.Searches.{SearchState, still_made}
@@ -10,19 +11,21 @@ use Rattle.cpn_search.proofs.turns.all_found.Goals as goal
 
 pub loop-next-init : goal.loop-next-init
 loop-next-init c =
-    begun c.args.net.now c.args.marking.now c.args.t (trials_view c.args.trials.now) c.index-transition.result.now c.deref.result.now c.in_ok-partial.partial c.in_ok-ahead.ahead.items c.new-found.result.items c.requires.trials c.requires.in_range c.index-transition.ensures c.deref.ensures.value c.in_ok-partial.ensures.unbound c.in_ok-ahead.ensures.items c.new-found.ensures.items
+    (begun c.args.net.now c.args.marking.now c.args.t (trials_view c.args.trials.now) c.index-transition.result.now c.deref.result.now c.in_ok-partial.partial c.in_ok-ahead.ahead.items c.new-found.result.items c.requires.trials c.requires.in_range c.index-transition.ensures c.deref.ensures.value c.in_ok-partial.ensures.unbound c.in_ok-ahead.ensures.items c.new-found.ensures.items, subst (HaveNeeds (net_view c.args.net.now) c.args.t) (sym c.new-found.ensures.items) tt)
 
 pub turn-requires-clause-state : goal.turn-requires-clause-state
 turn-requires-clause-state c =
     subst (λ xs. SearchState (net_view c.args.net.now) c.args.marking.now c.args.t (trials_view c.args.trials.now) xs (map found_view c.loop-next.found.items))
-    (last_taken c.loop-next.ahead.items c.pop.new.self.items c.in-Some.next c.pop.result c.pop.ensures.items c.in-Some.is) c.loop-next.invariant
+    (last_taken c.loop-next.ahead.items c.pop.new.self.items c.in-Some.next c.pop.result c.pop.ensures.items c.in-Some.is) c.loop-next.invariant.0
 
 pub loop-next-preserved : goal.loop-next-preserved
-loop-next-preserved c =
-    state_turned (net_view c.args.net.now) c.args.marking.now c.args.t (trials_view c.args.trials.now) (all_under_way c.pop.new.self.items) (under_way_view c.in-Some.next) (map found_view c.loop-next.found.items)
-    (subst (λ xs. SearchState (net_view c.args.net.now) c.args.marking.now c.args.t (trials_view c.args.trials.now) xs (map found_view c.loop-next.found.items))
-    (last_taken c.loop-next.ahead.items c.pop.new.self.items c.in-Some.next c.pop.result c.pop.ensures.items c.in-Some.is) c.loop-next.invariant)
-    (vars_listed c.args.net.now c.args.t c.requires.sound c.requires.in_range) (drop c.in-Some.next.tried (trials_view c.args.trials.now)) refl (all_under_way c.turn.new.ahead.items) (map found_view c.turn.new.found.items) c.in_ok-turn.ensures.turned
+loop-next-preserved c = (
+  state_turned (net_view c.args.net.now) c.args.marking.now c.args.t (trials_view c.args.trials.now) (all_under_way c.pop.new.self.items) (under_way_view c.in-Some.next) (map found_view c.loop-next.found.items)
+      (subst (λ xs. SearchState (net_view c.args.net.now) c.args.marking.now c.args.t (trials_view c.args.trials.now) xs (map found_view c.loop-next.found.items))
+      (last_taken c.loop-next.ahead.items c.pop.new.self.items c.in-Some.next c.pop.result c.pop.ensures.items c.in-Some.is) c.loop-next.invariant.0)
+      (vars_listed c.args.net.now c.args.t c.requires.sound c.requires.in_range) (drop c.in-Some.next.tried (trials_view c.args.trials.now)) refl (all_under_way c.turn.new.ahead.items) (map found_view c.turn.new.found.items) c.in_ok-turn.ensures.turned,
+  c.in_ok-turn.ensures.needs c.loop-next.invariant.1,
+)
 
 pub loop-next-smaller : goal.loop-next-smaller
 loop-next-smaller c =
@@ -30,11 +33,10 @@ loop-next-smaller c =
     (sym (last_taken c.loop-next.ahead.items c.pop.new.self.items c.in-Some.next c.pop.result c.pop.ensures.items c.in-Some.is))
     (fewer_turned (net_view c.args.net.now) c.args.marking.now c.args.t (trials_view c.args.trials.now) (all_under_way c.pop.new.self.items) (under_way_view c.in-Some.next) (map found_view c.loop-next.found.items)
     (subst (λ xs. SearchState (net_view c.args.net.now) c.args.marking.now c.args.t (trials_view c.args.trials.now) xs (map found_view c.loop-next.found.items))
-    (last_taken c.loop-next.ahead.items c.pop.new.self.items c.in-Some.next c.pop.result c.pop.ensures.items c.in-Some.is) c.loop-next.invariant)
+    (last_taken c.loop-next.ahead.items c.pop.new.self.items c.in-Some.next c.pop.result c.pop.ensures.items c.in-Some.is) c.loop-next.invariant.0)
     (drop c.in-Some.next.tried (trials_view c.args.trials.now)) refl (all_under_way c.turn.new.ahead.items) (map found_view c.turn.new.found.items) c.in_ok-turn.ensures.turned)
 
-pub returns : goal.returns
-returns c = record {
-  found = state_ends (net_view c.args.net.now) c.args.marking.now c.args.t (trials_view c.args.trials.now) (map found_view c.loop-next.found.items) c.requires.sound.functions_closed (vars_listed c.args.net.now c.args.t c.requires.sound c.requires.in_range)
-      (subst (λ xs. SearchState (net_view c.args.net.now) c.args.marking.now c.args.t (trials_view c.args.trials.now) xs (map found_view c.loop-next.found.items)) (none_taken c.loop-next.ahead.items (omega (arith, c.in_default.ensures.cases.0))) c.loop-next.invariant);
-}
+pub returns-clause-found : goal.returns-clause-found
+returns-clause-found c =
+    state_ends (net_view c.args.net.now) c.args.marking.now c.args.t (trials_view c.args.trials.now) (map found_view c.loop-next.found.items) c.requires.sound.functions_closed (vars_listed c.args.net.now c.args.t c.requires.sound c.requires.in_range)
+    (subst (λ xs. SearchState (net_view c.args.net.now) c.args.marking.now c.args.t (trials_view c.args.trials.now) xs (map found_view c.loop-next.found.items)) (none_taken c.loop-next.ahead.items (omega (arith, c.in_default.ensures.cases.0))) c.loop-next.invariant.0)

@@ -22,8 +22,7 @@ push_next-requires-clause-meaning c =
     next_means (net_view c.args.net.now) c.args.marking.now c.args.t (trials_view c.args.trials.now) (all_under_way c.args.ahead.now.items) (under_way_view c.args.next.now) (map found_view c.args.found.now.items) c.requires.state
     (solvable_at c.args.net.now c.args.t c.requires.sound c.requires.in_range) (trial_view c.index-trials-next.result) _ (trials_go_on c.args.trials.now c.args.next.now.tried c.index-trials-next.result (omega arith) c.index-trials-next.is)
 
-pub returns : goal.returns
-returns c = record {
-  turned = turn_goes_on (net_view c.args.net.now) c.args.marking.now c.args.t (drop c.args.next.now.tried (trials_view c.args.trials.now)) _ (trial_view c.index-trials-next.result) (under_way_view c.args.next.now) (all_under_way c.args.ahead.now.items) (all_under_way c.push_next.new.ahead.items) (map found_view c.args.found.now.items) _
-      (trials_go_on c.args.trials.now c.args.next.now.tried c.index-trials-next.result (omega arith) c.index-trials-next.is) c.in_ok-push_next.ensures.appended refl;
-}
+pub returns-clause-turned : goal.returns-clause-turned
+returns-clause-turned c =
+    turn_goes_on (net_view c.args.net.now) c.args.marking.now c.args.t (drop c.args.next.now.tried (trials_view c.args.trials.now)) _ (trial_view c.index-trials-next.result) (under_way_view c.args.next.now) (all_under_way c.args.ahead.now.items) (all_under_way c.push_next.new.ahead.items) (map found_view c.args.found.now.items) _
+    (trials_go_on c.args.trials.now c.args.next.now.tried c.index-trials-next.result (omega arith) c.index-trials-next.is) c.in_ok-push_next.ensures.appended refl

@@ -6,8 +6,8 @@ use Rattle.cpn_book.specs.Books.{setup_in}
 use Rattle.cpn_book.proofs.MovedBooks.{unclaimed_is_marking}
 use Rattle.cpn_book.proofs.books.Book.search.Goals as goal
 
-pub enabled-requires-clause-marking : goal.enabled-requires-clause-marking
-enabled-requires-clause-marking c =
+pub list_enabled-requires-clause-marking : goal.list_enabled-requires-clause-marking
+list_enabled-requires-clause-marking c =
     let book = c.args.self.now in
     subst (λ n. IsMarking (net_view n).places c.unclaimed.result.now) (sym c.deref.ensures)
     (subst (IsMarking (setup_in book).net.places) (sym c.unclaimed.ensures) (unclaimed_is_marking (setup_in book) book.standing c.requires.at c.requires.playable))

@@ -1,9 +1,0 @@
--- The entry at the position stands among the ready ones that are still to come.
-use Rattle.std.proofs.Common.{◌≡◌, drop, map, slice_get}
-use Rattle.cpn_definitions.specs.Enabled.{ready}
-use Rattle.cpn_core.specs.Elements.{entry_view}
-use Rattle.cpn_book.proofs.claiming.ready_entry.Given as goal
-
-abbrev pub invariant-loop-entry : goal.invariant-loop-entry
-invariant-loop-entry l =
-    slice_get (ready l.clock (map entry_view (drop l.entry-index l.entries))) l.ahead ≡ slice_get (ready l.clock (map entry_view l.entries)) l.fn.position
