@@ -9,7 +9,7 @@ use Rattle.cpn_draw.specs.Draw.{generator}
 use Rattle.cpn_jobs.specs.Views.{job_view}
 use Rattle.cpn_jobs.specs.Work.{PlainJob}
 use Rattle.cpn_log.specs.Kept.{IsKept}
-use Rattle.cpn_log.specs.Logs.{PlainLog, head_of, heads, claims_made, opened}
+use Rattle.cpn_log.specs.Logs.{head_of, heads, claims_made, opened}
 use Rattle.cpn_log.specs.LogViews.{log_view, jobs_in}
 use Rattle.cpn_runs.specs.HoleRun.{PlainClaim}
 use Rattle.cpn_runs.specs.State.{PlainSetup, PlainState, claim_made, IsDrawn, given_needs, new_claim, numbered}
@@ -58,31 +58,34 @@ pub record HasClaimed (setup : PlainSetup) (old new : Standing) (seat : ℕ) : T
   pub draw : new.draw ≡ generator setup.seed (claims_made (log_view old.log) + 1)
   pub events : events_in new ≡ events_in old ++ claim_made seat (claims_made (log_view old.log)) ∷ []
 
+-- the claim that the state has next, of a seat that holds none
+module _ (setup : PlainSetup) (old : Standing) (is : IsAt setup old) (uncut : old.cut ≡ None) (below : claims_made (log_view old.log) < setup.limits.steps) (seat : ℕ) (known : seat < setup.limits.seats) (free : slice_get old.held.items seat ≡ Some None)
+    (entries : List PlainEntry) (enabled : Enabled setup.net (log_view old.log).unclaimed old.clock entries) (drawn : PlainEntry) (drawn_is : IsDrawn setup.seed (claims_made (log_view old.log)) (ready old.clock entries) drawn) where
+  number_was : length is.at.state.claims ≡ claims_made (log_view old.log)
+  number_was = counted setup old is.at
+
+  had_none : held_from 0 seat is.at.state.claims ≡ None
+  had_none = let e : Some (held_from 0 seat is.at.state.claims) ≡ Some None = sym (is.at.told.holds.numbers seat known) ∙ free in cc
+
+  pub next_claim : IsNextClaim setup is.at.state (log_view old.log) seat drawn
+  next_claim = record {
+    no_cut = uncut_in setup old is.at uncut;
+    below_limit = subst (λ (k : ℕ). k < setup.limits.steps) (sym number_was) below;
+    known = known;
+    had_none = had_none;
+    entries = entries;
+    enabled = subst (λ (t : ℕ). Enabled setup.net (log_view old.log).unclaimed t entries) is.at.clock enabled;
+    drawn_is =
+        subst (λ (t : ℕ). IsDrawn setup.seed (length is.at.state.claims) (ready t entries) drawn) is.at.clock
+        (subst (λ (k : ℕ). IsDrawn setup.seed k (ready old.clock entries) drawn) (sym number_was) drawn_is);
+  }
+
 module _ (setup : PlainSetup) (old new : Standing) (seat : ℕ) (is : IsAt setup old) (did : HasClaimed setup old new seat) where
-  state : PlainState
-  state = is.at.state
-
-  log : PlainLog
-  log = log_view old.log
-
   number_is : length is.at.state.claims ≡ claims_made (log_view old.log)
   number_is = counted setup old is.at
 
-  had_none : held_from 0 seat is.at.state.claims ≡ None
-  had_none = let e : Some (held_from 0 seat is.at.state.claims) ≡ Some None = sym (is.at.told.holds.numbers seat did.known) ∙ did.free in cc
-
   next : IsNextClaim setup is.at.state (log_view old.log) seat did.drawn
-  next = record {
-    no_cut = uncut_in setup old is.at did.uncut;
-    below_limit = subst (λ (k : ℕ). k < setup.limits.steps) (sym number_is) did.below;
-    known = did.known;
-    had_none = had_none;
-    entries = did.entries;
-    enabled = subst (λ (t : ℕ). Enabled setup.net (log_view old.log).unclaimed t did.entries) is.at.clock did.enabled;
-    drawn_is =
-        subst (λ (t : ℕ). IsDrawn setup.seed (length is.at.state.claims) (ready t did.entries) did.drawn) is.at.clock
-        (subst (λ (k : ℕ). IsDrawn setup.seed k (ready old.clock did.entries) did.drawn) (sym number_is) did.drawn_is);
-  }
+  next = next_claim setup old is did.uncut did.below seat did.known did.free did.entries did.enabled did.drawn did.drawn_is
 
   abbrev made : PlainClaim
   made = new_claim setup.net seat is.at.state.clock did.drawn.element
@@ -141,10 +144,3 @@ module _ (setup : PlainSetup) (old new : Standing) (seat : ℕ) (is : IsAt setup
     stops = stands.stops;
     none_owed = stands.none_owed;
   }
-
-  -- the log counts one claim more
-  pub counts_one_more : claims_made (log_view new.log) ≡ claims_made (log_view old.log) + 1
-  counts_one_more =
-      let more = ap length did.claims ∙ length-append (log_view old.log).claims (opened seat did.drawn.element old.clock did.needs ∷ []) in
-      let same = ap length did.committed in
-      omega (arith, more, same)

@@ -8,7 +8,7 @@ use Rattle.cpn_definitions.specs.Occurrence.{outputs_of}
 use Rattle.cpn_definitions.specs.Outcome.{Fault}
 use Rattle.cpn_jobs.specs.Views.{job_view}
 use Rattle.cpn_log.specs.Kept.{IsKept}
-use Rattle.cpn_log.specs.Logs.{PlainLog, head_of, heads, claims_made, begin_done, with_committed}
+use Rattle.cpn_log.specs.Logs.{PlainLog, head_of, heads, begin_done, with_committed}
 use Rattle.cpn_log.specs.LogViews.{log_view, jobs_in}
 use Rattle.cpn_runs.specs.HoleRun.{PlainClaim, Status, open_claim, done_with, faulted_with, is_done, is_open}
 use Rattle.cpn_runs.specs.State.{PlainSetup, PlainState, cut_made, cut_at, fault_end, status_after, numbered, committed_occurrences}
@@ -25,7 +25,7 @@ use Rattle.cpn_book.proofs.CountedClaims.{as_many, first_are, heads_are}
 -- ---- what is committed
 
 -- claims as occurrences, with one claim more
-numbered_more : (j : ℕ) (claims : List PlainClaim) (claim : PlainClaim) → numbered j (claims ++ claim ∷ []) ≡ numbered j claims ++ record { number = j + length claims; time = claim.time; element = claim.element } ∷ []
+pub numbered_more : (j : ℕ) (claims : List PlainClaim) (claim : PlainClaim) → numbered j (claims ++ claim ∷ []) ≡ numbered j claims ++ record { number = j + length claims; time = claim.time; element = claim.element } ∷ []
 numbered_more j [] claim = ap (λ (k : ℕ). record { number = k; time = claim.time; element = claim.element } ∷ []) (let e : j ≡ j + 0 = omega arith in e)
 numbered_more j (c ∷ claims) claim =
     ap (λ os. record { number = j; time = c.time; element = c.element } ∷ os)
@@ -118,14 +118,6 @@ module _ (setup : PlainSetup) (old new : Standing) (claim : PlainClaim) (rest : 
           ∙ ap (numbered 0) (sym one_more);
       draw = λ none. ap (λ (s : Standing). s.draw) others ∙ at.draw none;
     }
-
-  -- the log counts as many claims
-  pub counts_same : claims_made (log_view new.log) ≡ claims_made (log_view old.log)
-  counts_same =
-      let a = ap claims_made log_is in
-      let b = length-append (log_view old.log).committed (head_of claim ∷ []) in
-      let c = ap length first in
-      omega (arith, a, b, c)
 
 -- ---- nothing more can be committed
 

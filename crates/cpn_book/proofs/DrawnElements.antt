@@ -50,7 +50,7 @@ pub ready_to_evaluate : (n : PlainNet) (head : PlainHead) → head.time ≤ last
 ready_to_evaluate n head early means = record { in_time = early; meaning = subst (λ (o : Outcome (List Made)). HasMeaning o) (sym (work_makes n head.element head.time)) means }
 
 module _ (setup : PlainSetup) (s : Standing) (is : IsAt setup s) (playable : IsPlayable setup) where
-  clock_is_early : s.clock ≤ last_time
+  pub clock_is_early : s.clock ≤ last_time
   clock_is_early =
       let bounds = every_state_has_bounds setup (events_in s) is.at.state playable is.at.told.reached in
       let c = bounds.clock in

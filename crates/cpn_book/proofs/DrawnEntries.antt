@@ -1,5 +1,5 @@
 -- The drawn element as the program has it: its needs, its work and its job.
-use Rattle.std.proofs.Common.{◌≡◌, ℕ, zero, suc, ◌<◌, true, List, [], ◌∷◌, length, map, Some, None, refl, sym, ap, ◌∙◌, subst, slice_get, arith}
+use Rattle.std.proofs.Common.{◌≡◌, ℕ, zero, suc, ◌<◌, List, [], ◌∷◌, length, map, Some, None, refl, sym, ap, ◌∙◌, subst, slice_get, arith}
 use Rattle.std.proofs.Math.Path.{ap₂}
 use Rattle.std.specs.Prelude.{IfSome}
 use Rattle.std.proofs.lemmas.List.{length-map}
@@ -9,7 +9,7 @@ use Rattle.cpn_core.specs.Elements.{element_view, entry_view}
 use Rattle.cpn_definitions.specs.Enabled.{Enabled, ready}
 use Rattle.cpn_definitions.specs.Net.{PlainNet}
 use Rattle.cpn_definitions.specs.Outcome.{gives}
-use Rattle.cpn_definitions.specs.Occurrence.{PlainElement, Needed, threshold, are_covered, needs_of}
+use Rattle.cpn_definitions.specs.Occurrence.{PlainElement, Needed, needs_of}
 use Rattle.cpn_draw.specs.Draw.{generator}
 use Rattle.cpn_jobs.specs.declared.work.Job.{Job}
 use Rattle.cpn_jobs.specs.Views.{job_view, work_view}
@@ -24,7 +24,7 @@ use Rattle.cpn_book.specs.Works.{AreWorks}
 use Rattle.cpn_book.specs.declared.standings.Standing.{Standing}
 use Rattle.cpn_search.specs.CoveredNeeds.{StandBeside}
 use Rattle.cpn_book.proofs.ReadyEntries.{item_at, stand_as_many, stands_at}
-use Rattle.cpn_book.proofs.DrawnElements.{draw_is, transition_known, needs_covered, ready_job}
+use Rattle.cpn_book.proofs.DrawnElements.{draw_is, transition_known, ready_job}
 
 -- the work at a place among works is that of its transition
 work_there : {W : Type 0} (view : W → PlainWork) (works : List W) (t : ℕ) (v right : PlainWork) → t < length works → IfSome (slice_get works t) (λ w. v ≡ view w) → ((w : PlainWork) → slice_get (map view works) t ≡ Some w → w ≡ right) → v ≡ right
@@ -39,7 +39,7 @@ job_of_parts n head job element time work =
     ∙ ap (λ (t : ℕ). record { element = head.element; time = t; work = work_view job.work.value }) time
     ∙ ap (λ (w : PlainWork). record { element = head.element; time = head.time; work = w }) work
 
--- What the code has drawn: an entry by the words of the seed, and a copy of its element.
+-- What the code has drawn: an entry by the words of the seed, and its element.
 pub record HasDrawn (setup : PlainSetup) (s : Standing) (entries : List Entry) (element : Element) : Type 0 where
   pub is : IsAt setup s
   pub playable : IsPlayable setup
@@ -57,11 +57,8 @@ module _ (setup : PlainSetup) (s : Standing) (entries : List Entry) (element : E
   pub same_element : element_view element ≡ element_view d.entry.element
   same_element = ap₂ (λ t b. record { transition = t; binding = b }) d.transition d.binding
 
-  pub needs_given : (n : PlainNet) (needs : List Needed) → n ≡ setup.net → needs_of n (element_view element) ≡ gives needs → needs_of setup.net (element_view d.entry.element) ≡ gives needs
-  needs_given n needs net are = ap₂ needs_of (sym net) (sym same_element) ∙ are
-
-  pub covers_needs : (n : PlainNet) (needs : List Needed) → n ≡ setup.net → needs_of n (element_view element) ≡ gives needs → are_covered (threshold s.clock) (log_view s.log).unclaimed needs ≡ true
-  covers_needs n needs net are = needs_covered setup s d.is d.playable (map entry_view entries) d.enabled (claims_made (log_view s.log)) (entry_view d.entry) drawn needs (needs_given n needs net are)
+  pub needs_given : (needs : List Needed) → needs_of setup.net (element_view element) ≡ gives needs → needs_of setup.net (element_view d.entry.element) ≡ gives needs
+  needs_given needs are = ap (needs_of setup.net) (sym same_element) ∙ are
 
   pub is_known : element.transition < length setup.net.transitions
   is_known = let k = transition_known setup s d.is d.playable (map entry_view entries) d.enabled (claims_made (log_view s.log)) (entry_view d.entry) drawn in let same = d.transition in omega (arith, k, same)

@@ -30,7 +30,7 @@ use Rattle.cpn_standing.proofs.LoggedClaims.{unclaimed_left}
 use Rattle.cpn_book.specs.Evaluations.{outputs_in, outcome_of, status_by, Tells}
 use Rattle.cpn_book.specs.Standings.{IsToldAt, IsAt, job_for, cut_view, events_in, occurrences_in}
 use Rattle.cpn_book.specs.declared.standings.Cut.{Cut}
-use Rattle.cpn_book.specs.declared.standings.Standing as program
+use Rattle.cpn_book.specs.declared.standings.Standing.{Standing}
 use Rattle.cpn_book.proofs.ClaimedStandings.{stands_at}
 use Rattle.cpn_book.proofs.CountedClaims.{heads_are, standings_are}
 
@@ -55,12 +55,12 @@ status_told (Ok outputs) o is = ap status_after (sym is)
 status_told (Err fault) o is = ap status_after (sym is)
 
 -- What a seat brings: it holds the claim of the number, which has the job, and the evaluation tells what its outputs are.
-pub record IsBrought (setup : PlainSetup) (old : program.Standing) (seat number : ℕ) (job : PlainJob) (result : Result Outputs EvalFault) : Type 0 where
+pub record IsBrought (setup : PlainSetup) (old : Standing) (seat number : ℕ) (job : PlainJob) (result : Result Outputs EvalFault) : Type 0 where
   pub held : slice_get old.held.items seat ≡ Some (Some number)
   pub job_is : slice_get (map job_view (jobs_in old.log)) number ≡ Some job
   pub tells : Tells result job
 
-module _ (setup : PlainSetup) (old : program.Standing) (is : IsAt setup old) (seat number : ℕ) (job : PlainJob) (result : Result Outputs EvalFault) (brought : IsBrought setup old seat number job result) where
+module _ (setup : PlainSetup) (old : Standing) (is : IsAt setup old) (seat number : ℕ) (job : PlainJob) (result : Result Outputs EvalFault) (brought : IsBrought setup old seat number job result) where
   pub held_known : seat < setup.limits.seats
   held_known = held_below old.held.items seat (Some number) brought.held (is.at.told.holds.each)
     where
@@ -134,7 +134,7 @@ module _ (setup : PlainSetup) (old : program.Standing) (is : IsAt setup old) (se
       (few.few, subst (λ (k : ℕ). AllByRecursion (λ made. made.place < k) outputs) (sym long) few.on_places)
 
   -- What the code of a completion does.
-  module _ (new : program.Standing)
+  module _ (new : Standing)
       (log_done : (log_view new.log).claims ≡ with_status (status_by result) (number - length (log_view old.log).committed) (log_view old.log).claims)
       (jobs_same : jobs_in new.log ≡ jobs_in old.log)
       (heads_same : (log_view new.log).committed ≡ (log_view old.log).committed)
@@ -177,8 +177,8 @@ module _ (setup : PlainSetup) (old : program.Standing) (is : IsAt setup old) (se
     filled = record {
       state = after;
       told = told;
-      clock = ap (λ (s : program.Standing). s.clock) rest ∙ is.at.clock;
-      cut = ap (λ (s : program.Standing). option_map cut_view s.cut) rest ∙ is.at.cut;
+      clock = ap (λ (s : Standing). s.clock) rest ∙ is.at.clock;
+      cut = ap (λ (s : Standing). option_map cut_view s.cut) rest ∙ is.at.cut;
       jobs =
           ap (map job_view) jobs_same ∙ is.at.jobs
           ∙ ap (map (job_for setup.net)) (heads_are setup.start is.at.state.claims (log_view old.log) is.at.told.has ∙ sym same_heads ∙ sym (heads_are setup.start after.claims (log_view new.log) told.has));
@@ -186,7 +186,7 @@ module _ (setup : PlainSetup) (old : program.Standing) (is : IsAt setup old) (se
           ap occurrences_in rest ∙ is.at.occurrences
           ∙ sym (same_first is.at.state.claims number (length (log_view old.log).committed) 0 behind)
           ∙ ap (λ hs. numbered 0 (take (length hs) (slice_set is.at.state.claims number done_claim))) (sym heads_same);
-      draw = λ none. ap (λ (s : program.Standing). s.draw) rest ∙ is.at.draw none ∙ ap (λ (k : ℕ). generator setup.seed k) (sym (set_long is.at.state.claims number));
+      draw = λ none. ap (λ (s : Standing). s.draw) rest ∙ is.at.draw none ∙ ap (λ (k : ℕ). generator setup.seed k) (sym (set_long is.at.state.claims number));
     }
       where
         set_long : (cs : List PlainClaim) (i : ℕ) → length (slice_set cs i done_claim) ≡ length cs

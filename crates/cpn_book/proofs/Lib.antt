@@ -9,10 +9,13 @@ pub mod DrawnEntries
 pub mod FilledStandings
 pub mod CommittedStandings
 pub mod HeldSeats
+pub mod DrawnClaims
+pub mod OccurredStandings
 pub mod NextClaims
 pub mod OpenNumbers
 pub mod RunningBooks
 pub mod BoundedBooks
+pub mod GoingAlone
 pub mod PlayedRounds
 pub mod AnsweredBooks
 pub mod AnsweredCompletions

@@ -7,12 +7,12 @@ use Rattle.cpn_definitions.specs.Outcome.{Fault}
 use Rattle.cpn_jobs.specs.declared.work.Job.{Job}
 use Rattle.cpn_jobs.specs.Views.{job_view}
 use Rattle.cpn_jobs.specs.Work.{PlainJob}
-use Rattle.cpn_log.specs.Logs.{PlainLog, PlainHead, Standing, stands_done, stands_failed, standing_of, standings, head_of, heads, claims_made, begin_done, with_committed, next_committed, next_committed_of}
+use Rattle.cpn_log.specs.Logs.{PlainLog, PlainHead, PlainClaimState, stands_done, stands_failed, standing_of, standings, head_of, heads, claims_made, begin_done, with_committed, next_committed, next_committed_of}
 use Rattle.cpn_log.specs.LogViews.{log_view, jobs_in}
 use Rattle.cpn_runs.specs.HoleRun.{PlainClaim, Status, open_claim, done_with, faulted_with, is_done}
 use Rattle.cpn_runs.specs.State.{PlainSetup, cut_at, cut_by}
 use Rattle.cpn_book.specs.Standings.{IsToldAt, job_for}
-use Rattle.cpn_book.specs.declared.standings.Standing as program
+use Rattle.cpn_book.specs.declared.standings.Standing.{Standing}
 
 -- the first of what follows
 first_behind : {A : Type 0} (xs ys : List A) → slice_get (xs ++ ys) (length xs) ≡ slice_get ys 0
@@ -20,13 +20,13 @@ first_behind [] ys = refl
 first_behind (x ∷ xs) ys = first_behind xs ys
 
 -- The next claim, which stands so.
-pub record IsNext (log : PlainLog) (standing : Standing) : Type 0 where
+pub record IsNext (log : PlainLog) (standing : PlainClaimState) : Type 0 where
   pub claim : PlainClaim
   pub rest : List PlainClaim
   pub first : log.claims ≡ claim ∷ rest
   pub stands : standing_of claim.status ≡ standing
 
-pub next_stands : (log : PlainLog) (standing : Standing) → slice_get (standings log) (length log.committed) ≡ Some standing → IsNext log standing
+pub next_stands : (log : PlainLog) (standing : PlainClaimState) → slice_get (standings log) (length log.committed) ≡ Some standing → IsNext log standing
 next_stands log standing is = split log.claims refl (sym (first_behind (map (λ (head : PlainHead). stands_done) log.committed) (map (λ (claim : PlainClaim). standing_of claim.status) log.claims)) ∙ ap (slice_get (standings log)) (length-map log.committed (λ (head : PlainHead). stands_done)) ∙ is)
   where
     split : (claims : List PlainClaim) → log.claims ≡ claims → slice_get (map (λ (claim : PlainClaim). standing_of claim.status) log.claims) 0 ≡ Some standing → IsNext log standing
@@ -54,7 +54,7 @@ module _ (log : PlainLog) (next : IsNext log stands_done) where
   committed_next = ap (next_committed_of log) next.first ∙ ap (λ b. cond b (with_committed log next.claim next.rest) log) is_done_next
 
 -- what the next claim says is what its job has
-module _ (setup : PlainSetup) (s : program.Standing) (at : IsToldAt setup s) (standing : Standing) (next : IsNext (log_view s.log) standing) (job : Job) (is : slice_get (jobs_in s.log) (length (log_view s.log).committed) ≡ Some job) where
+module _ (setup : PlainSetup) (s : Standing) (at : IsToldAt setup s) (standing : PlainClaimState) (next : IsNext (log_view s.log) standing) (job : Job) (is : slice_get (jobs_in s.log) (length (log_view s.log).committed) ≡ Some job) where
   job_next : job_view job ≡ job_for setup.net (head_of next.claim)
   job_next =
       let image : slice_get (map job_view (jobs_in s.log)) (length (log_view s.log).committed) ≡ Some (job_view job) = mapped job_view (jobs_in s.log) (length (log_view s.log).committed) job is in
@@ -73,20 +73,13 @@ module _ (setup : PlainSetup) (s : program.Standing) (at : IsToldAt setup s) (st
   time_next = ap (λ (j : PlainJob). j.time) job_next
 
 -- where the next claim doesn't stand done, or there is none, no more can be committed
-pub not_begun : (log : PlainLog) (standing : Standing) → IsNext log standing → (standing ≡ stands_done → ⊥) → begin_done log.claims ≡ false
+pub not_begun : (log : PlainLog) (standing : PlainClaimState) → IsNext log standing → (standing ≡ stands_done → ⊥) → begin_done log.claims ≡ false
 not_begun log standing next other = ap begin_done next.first ∙ by next.claim.status next.stands
   where
     by : (status : Status) → standing_of status ≡ standing → is_done status ≡ false
     by open_claim is = refl
     by (done_with outputs) is = absurd (other (sym is))
     by (faulted_with fault) is = refl
-
-pub none_begun : (log : PlainLog) → length log.committed ≡ claims_made log → begin_done log.claims ≡ false
-none_begun log all = split log.claims refl
-  where
-    split : (claims : List PlainClaim) → log.claims ≡ claims → begin_done log.claims ≡ false
-    split [] is = ap begin_done is
-    split (claim ∷ rest) is = let long = ap length is in absurd (omega (arith, all, long))
 
 -- where there is none, no cut is owed at it
 pub none_next : (log : PlainLog) (k : ℕ) → length log.committed ≡ claims_made log → cut_at k (slice_get log.claims 0) ≡ None
@@ -97,7 +90,7 @@ none_next log k all = split log.claims refl
     split (claim ∷ rest) is = let long = ap length is in absurd (omega (arith, all, long))
 
 -- nor where it has no fault
-pub owes_none : (log : PlainLog) (k : ℕ) (standing : Standing) → IsNext log standing → ((fault : Fault) → standing ≡ stands_failed fault → ⊥) → cut_at k (slice_get log.claims 0) ≡ None
+pub owes_none : (log : PlainLog) (k : ℕ) (standing : PlainClaimState) → IsNext log standing → ((fault : Fault) → standing ≡ stands_failed fault → ⊥) → cut_at k (slice_get log.claims 0) ≡ None
 owes_none log k standing next other = ap (λ cs. cut_at k (slice_get cs 0)) next.first ∙ by next.claim.status next.stands
   where
     by : (status : Status) → standing_of status ≡ standing → cut_by k next.claim.element status ≡ None

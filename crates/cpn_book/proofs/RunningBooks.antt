@@ -53,14 +53,14 @@ module _ (book : Book) (running : IsRunning book) where
       settled_of k = marking_left (setup_in book).start (take k running.at.at.state.claims)
 
   -- its index is listed anew
-  pub enabled_in : Enabled (setup_in book).net (log_view book.standing.log).unclaimed running.at.at.state.clock (map entry_view book.entries.items)
-  enabled_in = subst (λ (t : ℕ). Enabled (setup_in book).net (log_view book.standing.log).unclaimed t (map entry_view book.entries.items)) running.at.at.clock running.enabled
+  pub enabled_in : Enabled (setup_in book).net (log_view book.standing.log).unclaimed running.at.at.state.clock (map entry_view book.listed.entries.items)
+  enabled_in = subst (λ (t : ℕ). Enabled (setup_in book).net (log_view book.standing.log).unclaimed t (map entry_view book.listed.entries.items)) running.at.at.clock running.enabled
 
-  pub index : IsIndex (setup_in book) running.at.at.state (map entry_view book.entries.items)
+  pub index : IsIndex (setup_in book) running.at.at.state (map entry_view book.listed.entries.items)
   index = record { marking = (log_view book.standing.log).unclaimed; marking_is = unclaimed_is; enabled = enabled_in }
 
-  pub are_ready : (number : ℕ) → number ≡ length (ready book.standing.clock (map entry_view book.entries.items)) → AreReady (setup_in book) running.at.at.state number
-  are_ready number is = (map entry_view book.entries.items, index, is ∙ ap (λ (t : ℕ). length (ready t (map entry_view book.entries.items))) running.at.at.clock)
+  pub are_ready : (number : ℕ) → number ≡ length (ready book.standing.clock (map entry_view book.listed.entries.items)) → AreReady (setup_in book) running.at.at.state number
+  are_ready number is = (map entry_view book.listed.entries.items, index, is ∙ ap (λ (t : ℕ). length (ready t (map entry_view book.listed.entries.items))) running.at.at.clock)
 
 -- a book that follows another and is not spent is a book
 module _ (old new : Book) (is : IsBook old) (setup : new.setup ≡ old.setup) (works : new.works ≡ old.works) (opening : new.opening ≡ old.opening) where
@@ -145,18 +145,18 @@ module _ (book : Book) (is : IsBook book) (running : IsRunning book) (none_held 
       not_all all = let n = number_is in absurd (omega (arith, n, all, below))
 
       -- dead
-      pub by_death : next_time (map entry_view book.entries.items) ≡ None → EndsBy (setup_in book) running.at.at.state dead
-      by_death none = ends dead (not_all, ((log_view book.standing.log).unclaimed, unclaimed_is book running, no_next_is_dead (setup_in book).net (log_view book.standing.log).unclaimed running.at.at.state.clock (map entry_view book.entries.items) (enabled_in book running) none))
+      pub by_death : next_time (map entry_view book.listed.entries.items) ≡ None → EndsBy (setup_in book) running.at.at.state dead
+      by_death none = ends dead (not_all, ((log_view book.standing.log).unclaimed, unclaimed_is book running, no_next_is_dead (setup_in book).net (log_view book.standing.log).unclaimed running.at.at.state.clock (map entry_view book.listed.entries.items) (enabled_in book running) none))
 
-      least : (time : ℕ) → next_time (map entry_view book.entries.items) ≡ Some time → LeastTime (setup_in book).net (log_view book.standing.log).unclaimed running.at.at.state.clock time
-      least time next = next_is_least (setup_in book).net (log_view book.standing.log).unclaimed running.at.at.state.clock time (map entry_view book.entries.items) (enabled_in book running) next
+      least : (time : ℕ) → next_time (map entry_view book.listed.entries.items) ≡ Some time → LeastTime (setup_in book).net (log_view book.standing.log).unclaimed running.at.at.state.clock time
+      least time next = next_is_least (setup_in book).net (log_view book.standing.log).unclaimed running.at.at.state.clock time (map entry_view book.listed.entries.items) (enabled_in book running) next
 
       -- past its time
-      pub by_time : (time : ℕ) → next_time (map entry_view book.entries.items) ≡ Some time → (setup_in book).limits.until < time → EndsBy (setup_in book) running.at.at.state (until_passed time)
+      pub by_time : (time : ℕ) → next_time (map entry_view book.listed.entries.items) ≡ Some time → (setup_in book).limits.until < time → EndsBy (setup_in book) running.at.at.state (until_passed time)
       by_time time next past = ends (until_passed time) (not_all, past, ((log_view book.standing.log).unclaimed, unclaimed_is book running, least time next))
 
       -- and otherwise by no cause
-      pub by_none : (time : ℕ) → next_time (map entry_view book.entries.items) ≡ Some time → time ≤ (setup_in book).limits.until → (cause : PlainEnd) → EndsBy (setup_in book) running.at.at.state cause → ⊥
+      pub by_none : (time : ℕ) → next_time (map entry_view book.listed.entries.items) ≡ Some time → time ≤ (setup_in book).limits.until → (cause : PlainEnd) → EndsBy (setup_in book) running.at.at.state cause → ⊥
       by_none time next in_time cause ends_so = split cause (subst (λ (o : Option PlainCut). MatchOption o (HasCause (setup_in book) running.at.at.state cause) (λ cut. cause ≡ cut.cause)) no_cut ends_so.has_cause)
         where
           marking_of : (m : Marking) → unclaimed_in (setup_in book) running.at.at.state ≡ Some m → m ≡ (log_view book.standing.log).unclaimed
@@ -179,8 +179,8 @@ module _ (book : Book) (is : IsBook book) (running : IsRunning book) (none_held 
   pub shows_run : (cause : PlainEnd) → EndsBy (setup_in book) running.at.at.state cause → IsRun (setup_in book) (shown book cause)
   shows_run cause ends_so =
       let start = marking_is_start (setup_in book) is.playable.marking in
-      let closing : HasOutlook (setup_in book) (log_view book.standing.log).unclaimed running.at.at.state.clock (outlook_at running.at.at.state.clock (map entry_view book.entries.items)) = record { entries = map entry_view book.entries.items; enabled = enabled_in book running; ready_count_is = refl; next_is = refl } in
-      let run = run_is (setup_in book) (journal_in book) running.at.at.state (log_view book.standing.log) book.standing.held.items (stands_at (setup_in book) book.standing running.at) free start cause (outlook_view book.opening) (outlook_at running.at.at.state.clock (map entry_view book.entries.items)) ends_so is.opening closing in
-      let shown_at : List PlainOccurrence → ℕ → PlainFinished = λ os t. record { opening = outlook_view book.opening; journal = journal_in book; occurrences = os; marking = (log_view book.standing.log).unclaimed; clock = t; cause = cause; closing = outlook_at t (map entry_view book.entries.items) } in
+      let closing : HasOutlook (setup_in book) (log_view book.standing.log).unclaimed running.at.at.state.clock (outlook_at running.at.at.state.clock (map entry_view book.listed.entries.items)) = record { entries = map entry_view book.listed.entries.items; enabled = enabled_in book running; ready_count_is = refl; next_is = refl } in
+      let run = run_is (setup_in book) (journal_in book) running.at.at.state (log_view book.standing.log) book.standing.held.items (stands_at (setup_in book) book.standing running.at) free start cause (outlook_view book.opening) (outlook_at running.at.at.state.clock (map entry_view book.listed.entries.items)) ends_so is.opening closing in
+      let shown_at : List PlainOccurrence → ℕ → PlainFinished = λ os t. record { opening = outlook_view book.opening; journal = journal_in book; occurrences = os; marking = (log_view book.standing.log).unclaimed; clock = t; cause = cause; closing = outlook_at t (map entry_view book.listed.entries.items) } in
       subst (λ t. IsRun (setup_in book) (shown_at (committed_in book) t)) (sym running.at.at.clock)
       (subst (λ os. IsRun (setup_in book) (shown_at os running.at.at.state.clock)) (sym (committed_are (setup_in book) book.standing running.at)) run)

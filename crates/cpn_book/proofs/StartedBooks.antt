@@ -45,9 +45,9 @@ pub record HasStarted (book : Book) (s : Standing) : Type 0 where
   pub marking : (log_view s.log).unclaimed ≡ (setup_in book).start
   pub standing : book.standing ≡ record s { journal = book.standing.journal }
   pub events : events_in book.standing ≡ events_in s
-  pub enabled : Enabled (setup_in book).net (log_view s.log).unclaimed (setup_in book).clock (map entry_view book.entries.items)
-  pub needs : StandBeside (setup_in book).net book.entries.items book.needs.items
-  pub opening : outlook_view book.opening ≡ outlook_at (setup_in book).clock (map entry_view book.entries.items)
+  pub enabled : Enabled (setup_in book).net (log_view s.log).unclaimed (setup_in book).clock (map entry_view book.listed.entries.items)
+  pub needs : StandBeside (setup_in book).net book.listed.entries.items book.listed.needs.items
+  pub opening : outlook_view book.opening ≡ outlook_at (setup_in book).clock (map entry_view book.listed.entries.items)
   pub room : vec_len book.standing.journal < vec_capacity book.standing.journal
 
 module _ (book : Book) (s : Standing) (did : HasStarted book s) where
@@ -69,12 +69,12 @@ module _ (book : Book) (s : Standing) (did : HasStarted book s) where
   starts_at : IsAt (setup_in book) book.standing
   starts_at = subst (IsAt (setup_in book)) (sym did.standing) starts_so
 
-  enabled_now : Enabled (setup_in book).net (log_view book.standing.log).unclaimed book.standing.clock (map entry_view book.entries.items)
+  enabled_now : Enabled (setup_in book).net (log_view book.standing.log).unclaimed book.standing.clock (map entry_view book.listed.entries.items)
   enabled_now =
       let clock : (setup_in book).clock ≡ book.standing.clock = sym did.clock ∙ ap (λ (t : Standing). t.clock) (sym did.standing) in
       let log : log_view s.log ≡ log_view book.standing.log = ap (λ (t : Standing). log_view t.log) (sym did.standing) in
-      subst (λ (l : PlainLog). Enabled (setup_in book).net l.unclaimed book.standing.clock (map entry_view book.entries.items)) log
-      (subst (λ (t : ℕ). Enabled (setup_in book).net (log_view s.log).unclaimed t (map entry_view book.entries.items)) clock did.enabled)
+      subst (λ (l : PlainLog). Enabled (setup_in book).net l.unclaimed book.standing.clock (map entry_view book.listed.entries.items)) log
+      (subst (λ (t : ℕ). Enabled (setup_in book).net (log_view s.log).unclaimed t (map entry_view book.listed.entries.items)) clock did.enabled)
 
   pub started : IsBook book
   started = record {
@@ -83,8 +83,8 @@ module _ (book : Book) (s : Standing) (did : HasStarted book s) where
     opening =
         subst (λ (o : Outlook). HasOutlook (setup_in book) (setup_in book).start (setup_in book).clock o) (sym did.opening)
         (record {
-          entries = map entry_view book.entries.items;
-          enabled = subst (λ (m : Marking). Enabled (setup_in book).net m (setup_in book).clock (map entry_view book.entries.items)) did.marking did.enabled;
+          entries = map entry_view book.listed.entries.items;
+          enabled = subst (λ (m : Marking). Enabled (setup_in book).net m (setup_in book).clock (map entry_view book.listed.entries.items)) did.marking did.enabled;
           ready_count_is = refl;
           next_is = refl;
         });

@@ -25,7 +25,7 @@ journal_in book = events_in book.standing
 
 -- its list of what is enabled
 abbrev pub index_in : Book → List PlainEntry
-index_in book = map entry_view book.entries.items
+index_in book = map entry_view book.listed.entries.items
 
 -- its committed occurrences
 abbrev pub committed_in : Book → List PlainOccurrence
@@ -47,9 +47,9 @@ InState book P = (state : PlainState) → IsState (setup_in book) (journal_in bo
 -- needs, and where nothing is ready there is room for the move of the clock.
 pub record IsRunning (book : Book) : Type 0 where
   pub at : IsAt (setup_in book) book.standing
-  pub enabled : Enabled (setup_in book).net (log_view book.standing.log).unclaimed book.standing.clock (map entry_view book.entries.items)
-  pub needs : StandBeside (setup_in book).net book.entries.items book.needs.items
-  pub room : ready book.standing.clock (map entry_view book.entries.items) ≡ [] → vec_len book.standing.journal < vec_capacity book.standing.journal
+  pub enabled : Enabled (setup_in book).net (log_view book.standing.log).unclaimed book.standing.clock (map entry_view book.listed.entries.items)
+  pub needs : StandBeside (setup_in book).net book.listed.entries.items book.listed.needs.items
+  pub room : ready book.standing.clock (map entry_view book.listed.entries.items) ≡ [] → vec_len book.standing.journal < vec_capacity book.standing.journal
 
 -- A book: from a setup that a run may start from, with the work of each transition and the outlook at the start. Its journal leads to
 -- a state, and what was committed stands, also where the book is spent.
@@ -71,5 +71,5 @@ shown book cause = record {
   marking = (log_view book.standing.log).unclaimed;
   clock = book.standing.clock;
   cause = cause;
-  closing = outlook_at book.standing.clock (map entry_view book.entries.items);
+  closing = outlook_at book.standing.clock (map entry_view book.listed.entries.items);
 }

@@ -2,8 +2,10 @@ pub mod Evaluations
 pub mod Tickets
 pub mod Works
 pub mod Standings
+pub mod DrawnClaims
 pub mod Shown
 pub mod Books
 pub mod States
 pub mod Answers
+pub mod GoingAlone
 pub mod Steps

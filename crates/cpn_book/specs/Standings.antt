@@ -1,9 +1,9 @@
 -- Where a run stands, as the program keeps it. Source: own choice.
-use Rattle.std.specs.Prelude.{◌≡◌, true, false, List, ◌++◌, map, length, take, Some, None}
+use Rattle.std.specs.Prelude.{◌≡◌, ℕ, true, false, List, ◌++◌, map, length, take, Some, None}
 use Rattle.std.specs.List.{AllByRecursion}
 use Rattle.std.specs.Option.{option_map}
 use Rattle.cpn_definitions.specs.Net.{PlainNet}
-use Rattle.cpn_definitions.specs.Occurrence.{needs_of, outputs_of}
+use Rattle.cpn_definitions.specs.Occurrence.{PlainElement, needs_of, outputs_of}
 use Rattle.cpn_draw.specs.Draw.{generator}
 use Rattle.cpn_jobs.specs.Views.{job_view}
 use Rattle.cpn_jobs.specs.Work.{PlainJob, work_of}
@@ -27,9 +27,13 @@ events_in s = map event_view s.journal.items
 abbrev pub occurrences_in : Standing → List PlainOccurrence
 occurrences_in s = map occurrence_view s.occurrences.items
 
+-- the job of an element at a time
+abbrev pub job_at : PlainNet → PlainElement → ℕ → PlainJob
+job_at n e time = record { element = e; time = time; work = work_of n e.transition }
+
 -- the job of a claim that says this
 abbrev pub job_for : PlainNet → PlainHead → PlainJob
-job_for n head = record { element = head.element; time = head.time; work = work_of n head.element.transition }
+job_for n head = job_at n head.element head.time
 
 -- Where a run stands after its journal: in the state that the journal leads to, with the jobs of its claims, its committed
 -- occurrences, and the word of the next claim. So it is within a completion, too, before what can be committed is committed.
@@ -63,8 +67,8 @@ pub record HasCommitted (setup : PlainSetup) (s : Standing) : Type 0 where
   pub left : marking_left setup.start claims ≡ Some (log_view s.log).settled
   pub occurrences : occurrences_in s ≡ numbered 0 claims
 
--- What a call leaves that wants memory: each occurrence that was committed still is, and perhaps further ones behind them, with the
--- marking that all of these leave.
+-- What a call leaves of what was committed, also one that wants memory: each occurrence that was committed still is, and perhaps further
+-- ones behind them, with the marking that all of these leave.
 pub record StillCommitted (setup : PlainSetup) (old new : Standing) : Type 0 where
   pub committed : HasCommitted setup new
   pub more : List PlainOccurrence

@@ -33,7 +33,7 @@ pub record IsMovedFrom (old new : Book) : Type 0 where
 
 -- A book like another, but that it is spent, without a list of what is enabled, and for its journal.
 pub record IsSpentFrom (old new : Book) : Type 0 where
-  pub book : new ≡ record old { spent = true; standing = new.standing; entries = new.entries; needs = new.needs }
+  pub book : new ≡ record old { spent = true; standing = new.standing; listed = new.listed }
   pub standing : new.standing ≡ record old.standing { journal = new.standing.journal }
 
 -- A run that goes on, where no claim is open: no cut stands, fewer claims were made than may be, and the next time is one that it may
@@ -42,15 +42,15 @@ pub record MayGoOn (book : Book) : Type 0 where
   pub uncut : book.standing.cut ≡ None
   pub below : claims_made (log_view book.standing.log) < book.setup.limits.steps
   pub time : ℕ
-  pub next : next_time (map entry_view book.entries.items) ≡ Some time
+  pub next : next_time (map entry_view book.listed.entries.items) ≡ Some time
   pub in_time : time ≤ book.setup.limits.until
 
 -- the answer where nothing is ready and no claim is open
 abbrev pub Moves : Book → Book → Advanced → Type 0
 Moves old new (moves.Moved time) =
-    IsRunning new × IsMovedFrom old new × (journal_in new ≡ journal_in old ++ clock_moved time ∷ []) × (next_time (map entry_view old.entries.items) ≡ Some time) × (time ≤ old.setup.limits.until)
-Moves old new (moves.Until time) = (new ≡ old) × (next_time (map entry_view old.entries.items) ≡ Some time) × (old.setup.limits.until < time)
-Moves old new moves.Dead = (new ≡ old) × (next_time (map entry_view old.entries.items) ≡ None)
+    IsRunning new × IsMovedFrom old new × (journal_in new ≡ journal_in old ++ clock_moved time ∷ []) × (next_time (map entry_view old.listed.entries.items) ≡ Some time) × (time ≤ old.setup.limits.until)
+Moves old new (moves.Until time) = (new ≡ old) × (next_time (map entry_view old.listed.entries.items) ≡ Some time) × (old.setup.limits.until < time)
+Moves old new moves.Dead = (new ≡ old) × (next_time (map entry_view old.listed.entries.items) ≡ None)
 Moves old new (moves.Open number) = ⊥
 Moves old new moves.Ready = ⊥
 Moves old new moves.StepLimit = ⊥

@@ -15,11 +15,13 @@ ghost use Rattle.cpn_runs.specs.FinishedViews.{setup_view, finished_view};
 ghost use Rattle.cpn_book.specs.Books.{setup_in, journal_in, is_spent_in, IsBook, IsRunning};
 ghost use Rattle.cpn_book.specs.Standings.{IsAt, StillCommitted, events_in};
 ghost use Rattle.cpn_search.specs.PlannedNets.{planned_net, IsPlanned};
+ghost use Rattle.cpn_book.specs.GoingAlone.{AreCompletions, AreRounds, GoesOnAlone};
 ghost use Rattle.cpn_book.specs.Steps.{Follows, IsMovedFrom, MayGoOn};
 
 use crate::books::Book;
-use crate::claiming::open_claim;
+use crate::claiming::{DrawnClaim, draw_claim};
 use crate::completing::complete_claim;
+use crate::occurring::play_drawn;
 use crate::outlooks::next_time;
 use crate::standings::Standing;
 use crate::tickets::Ticket;
@@ -43,8 +45,8 @@ impl Book {
         // The journal leads to a state that ends by the cause, the occurrences are a legal occurrence sequence,
         // a fault is that of an element that is covered at the end, and the rest is what that state has.
         ensures run { IfOk result (λ f. IsRun (setup_in self) (finished_view f)) }
-        // It goes on from the book's journal.
-        ensures goes_on { IfOk result (λ f. (more : List PlainEvent) × ((finished_view f).journal ≡ journal_in self ++ more)) }
+        // It goes on from the book's journal: by the completions of the open claims, in order of number, and then by rounds of seat 0.
+        ensures goes_on { IfOk result (λ f. (more : List PlainEvent) × ((finished_view f).journal ≡ journal_in self ++ more) × GoesOnAlone more) }
         // The clock does not pass the last time that the run may reach.
         ensures in_time { IfOk result (λ f. f.clock ≤ (setup_in self).limits.until) }
         // On each place there are fewer than 2^48 tokens, with time stamps of at most three times the last time.
@@ -76,6 +78,7 @@ impl Book {
         ensures running { OnOk result (IsRunning self.new) }
         ensures none_open { OnOk result (count_by is_some self.new.standing.held.items ≡ 0) }
         ensures follows { OnOk result (Follows self.old self.new) }
+        ensures completions { OnOk result ((more : List PlainEvent) × (journal_in self.new ≡ journal_in self.old ++ more) × ((limit : ℕ) × AreCompletions 0 limit more)) }
     {
         if self.standing.open() == 0 {
             return Ok(());
@@ -96,21 +99,20 @@ impl Book {
         ensures none_open { OnOk result (count_by is_some self.new.standing.held.items ≡ 0) }
         ensures made { OnOk result (self.new.standing.cut ≡ None → claims_made (log_view self.new.standing.log) ≡ claims_made (log_view self.old.standing.log) + 1) }
         ensures follows { OnOk result (Follows self.old self.new) }
+        ensures rounds { OnOk result ((more : List PlainEvent) × (journal_in self.new ≡ journal_in self.old ++ more) × AreRounds more) }
     {
         self.reach_next_time();
-        let ticket = open_claim(
+        let DrawnClaim { ticket, needs } = draw_claim(
             self.alloc,
             &self.setup,
             &self.works,
-            &mut self.entries,
-            &mut self.needs,
+            &mut self.listed,
             &mut self.standing,
-            0,
         )?;
         let Ok(done) = ticket.evaluate() else {
             return Err(Memory);
         };
-        complete_claim(&self.setup, &mut self.standing, 0, done)?;
+        play_drawn(&self.setup, &mut self.standing, done, needs)?;
         self.search_by(plans)
     }
 
@@ -120,14 +122,14 @@ impl Book {
         requires none_open { count_by is_some self.old.standing.held.items ≡ 0 }
         requires goes_on { MayGoOn self.old }
         ensures running { IsRunning self.new }
-        ensures ready { 0 < length (ready self.new.standing.clock (map entry_view self.new.entries.items)) }
-        ensures events { (more : List PlainEvent) × (journal_in self.new ≡ journal_in self.old ++ more) }
+        ensures ready { 0 < length (ready self.new.standing.clock (map entry_view self.new.listed.entries.items)) }
+        ensures events { (more : List PlainEvent) × (journal_in self.new ≡ journal_in self.old ++ more) × AreRounds more }
         ensures same { IsMovedFrom self.old self.new }
     {
         if self.ready() > 0 {
             return;
         }
-        if let Some(time) = next_time(&self.entries) {
+        if let Some(time) = next_time(&self.listed.entries) {
             self.move_to(time);
         }
     }
@@ -140,7 +142,7 @@ fn complete_all(alloc: Global, setup: &Setup, standing: &mut Standing) -> Result
     ensures at { OnOk result (IsAt (setup_view setup.now) standing.new) }
     ensures none_open { OnOk result (count_by is_some standing.new.held.items ≡ 0) }
     ensures room { OnOk result (vec_len standing.new.journal < vec_capacity standing.new.journal) }
-    ensures begins { (more : List PlainEvent) × (events_in standing.new ≡ events_in standing.old ++ more) }
+    ensures completions { OnOk result ((more : List PlainEvent) × (events_in standing.new ≡ events_in standing.old ++ more) × ((limit : ℕ) × AreCompletions 0 limit more)) }
     ensures committed { StillCommitted (setup_view setup.now) standing.old standing.new }
 {
     standing.journal.reserve(1)?;
@@ -164,7 +166,7 @@ fn complete_number(
     ensures few { OnOk result (claims_made (log_view standing.new.log) ≤ claims_made (log_view standing.old.log)) }
     ensures frees { OnOk result ((s k : ℕ) → slice_get standing.new.held.items s ≡ Some (Some k) → (slice_get standing.old.held.items s ≡ Some (Some k)) × (k ≢ number)) }
     ensures room { OnOk result (vec_len standing.new.journal < vec_capacity standing.new.journal) }
-    ensures begins { (more : List PlainEvent) × (events_in standing.new ≡ events_in standing.old ++ more) }
+    ensures completions { OnOk result ((more : List PlainEvent) × (events_in standing.new ≡ events_in standing.old ++ more) × AreCompletions number (number + 1) more) }
     ensures committed { StillCommitted (setup_view setup.now) standing.old standing.new }
 {
     let Some(job) = standing.open_job(number) else {

@@ -1,19 +1,19 @@
 //! Books: runs under way, by the claims, completions and moves of the clock that their seats ask for.
 
-ghost use Rattle.std.specs.Prelude.{◌≡◌, ◌≢◌, ℕ, ◌+◌, ◌<◌, ◌≤◌, ◌++◌, Some, None, true, false, List, [], ◌∷◌, length, map, take, slice_get, IfOk, OnOk, OnErr, IsOk, vec_len, vec_capacity};
+ghost use Rattle.std.specs.Prelude.{◌≡◌, ◌≢◌, ◌<◌, ◌≤◌, ◌++◌, Some, None, true, false, List, [], ◌∷◌, length, map, take, slice_get, IfOk, OnOk, OnErr, vec_len, vec_capacity};
 ghost use Rattle.std.specs.List.{count_by};
 ghost use Rattle.std.specs.Option.{is_some, option_map};
 ghost use Rattle.cpn_core.specs.Elements.{entry_view};
-ghost use Rattle.cpn_definitions.specs.Enabled.{Enabled, next_time, ready};
+ghost use Rattle.cpn_definitions.specs.Enabled.{next_time, ready};
 ghost use Rattle.cpn_jobs.specs.Views.{job_view};
 ghost use Rattle.cpn_log.specs.Logs.{claims_made};
 ghost use Rattle.cpn_log.specs.LogViews.{log_view, jobs_in};
 ghost use Rattle.cpn_runs.specs.FinishedViews.{setup_view};
 ghost use Rattle.cpn_runs.specs.Playable.{IsPlayable};
-ghost use Rattle.cpn_runs.specs.State.{PlainEvent, PlainOccurrence, claim_made, claim_completed, clock_moved};
+ghost use Rattle.cpn_runs.specs.State.{PlainOccurrence, claim_made, claim_completed, clock_moved};
 ghost use Rattle.cpn_book.specs.Answers.{AnswersClaim, claim_events, MayClaimNext, AnswersEvaluation, IsNotCut, AnswersAdvance, move_events, AnswersFinish};
 ghost use Rattle.cpn_book.specs.Books.{setup_in, journal_in, index_in, committed_in, is_spent_in, InState, IsBook, IsRunning};
-ghost use Rattle.cpn_book.specs.Standings.{IsAt, StillCommitted, cut_view, events_in};
+ghost use Rattle.cpn_book.specs.Standings.{IsAt, cut_view};
 ghost use Rattle.cpn_book.specs.States.{cut_events};
 ghost use Rattle.cpn_book.specs.Steps.{Follows, IsMovedFrom, IsSpentFrom, IsStranger, Moves};
 ghost use Rattle.cpn_book.specs.Tickets.{number_of, job_of, evaluated_number, evaluated_job};
@@ -26,11 +26,10 @@ use crate::completing::complete_claim;
 use crate::outlooks::{next_time, outlook, ready_count};
 use crate::standings::{Standing, at_start};
 use crate::tickets::{Evaluated, Ticket};
-use cpn_core::{Entry, Memory, Needs};
+use cpn_core::Memory;
 use cpn_jobs::{Work, works_of};
 use cpn_runs::{Event, Outlook, Setup};
 use cpn_search::{Listed, Plans, list_enabled};
-use cpn_tmset::Marking;
 use std::alloc::Global;
 use std::sync::Arc;
 
@@ -49,8 +48,7 @@ pub struct Book {
     pub(crate) works: Vec<Arc<Work>>,
     pub(crate) standing: Standing,
     pub(crate) opening: Outlook,
-    pub(crate) entries: Vec<Entry>,
-    pub(crate) needs: Vec<Needs>,
+    pub(crate) listed: Listed,
     pub(crate) spent: bool,
 }
 
@@ -70,21 +68,15 @@ impl Book {
         let works = works_of(alloc, &setup.net)?;
         let mut standing = at_start(alloc, &setup)?;
         standing.journal.reserve(1)?;
-        let Listed { entries, needs } = list_enabled(
-            alloc,
-            &setup.net,
-            standing.log.unclaimed(),
-            setup.clock,
-        )?;
-        let opening = outlook(&entries, setup.clock);
+        let listed = list_enabled(alloc, &setup.net, standing.log.unclaimed(), setup.clock)?;
+        let opening = outlook(&listed.entries, setup.clock);
         Ok(Book {
             alloc,
             setup,
             works,
             standing,
             opening,
-            entries,
-            needs,
+            listed,
             spent: false,
         })
     }
@@ -106,6 +98,7 @@ impl Book {
         ensures unchanged { IfOk result (λ answer. claim_events seat answer ≡ [] → self.new ≡ self.old) }
         ensures due { OnErr result (is_spent_in self.old ≡ false → InState self.old (λ state. MayClaimNext (setup_in self.old) state seat)) }
         ensures spent { OnErr result (is_spent_in self.new ≡ true) }
+        ensures spent_same { is_spent_in self.old ≡ true → self.new ≡ self.old }
         ensures index_gone { OnErr result (is_spent_in self.old ≡ false → index_in self.new ≡ []) }
         ensures events_stay { OnErr result (journal_in self.new ≡ journal_in self.old) }
         ensures committed { committed_in self.new ≡ committed_in self.old }
@@ -151,6 +144,7 @@ impl Book {
         ensures unchanged { IfOk result (λ answer. answer ≢ Completed.Done → self.new ≡ self.old) }
         ensures not_void { OnErr result (is_spent_in self.old ≡ false → InState self.old (λ state. IsNotCut state (evaluated_number done))) }
         ensures spent { OnErr result (is_spent_in self.new ≡ true) }
+        ensures spent_same { is_spent_in self.old ≡ true → self.new ≡ self.old }
         ensures index_gone { OnErr result (is_spent_in self.old ≡ false → index_in self.new ≡ []) }
         ensures events_stay { OnErr result (journal_in self.new ≡ journal_in self.old) }
         ensures committed { (more : List PlainOccurrence) × (committed_in self.new ≡ committed_in self.old ++ more) }
@@ -228,7 +222,7 @@ impl Book {
         requires uncut { self.old.standing.cut ≡ None }
         requires below { claims_made (log_view self.old.standing.log) < self.old.setup.limits.steps }
         requires free { slice_get self.old.standing.held.items seat ≡ Some None }
-        requires some { 0 < length (ready self.old.standing.clock (map entry_view self.old.entries.items)) }
+        requires some { 0 < length (ready self.old.standing.clock (map entry_view self.old.listed.entries.items)) }
         ensures running { OnOk result (IsRunning self.new) }
         ensures events { IfOk result (λ ticket. journal_in self.new ≡ journal_in self.old ++ claim_made seat (number_of ticket) ∷ []) }
         ensures number { IfOk result (λ ticket. number_of ticket ≡ claims_made (log_view self.old.standing.log)) }
@@ -240,8 +234,7 @@ impl Book {
             self.alloc,
             &self.setup,
             &self.works,
-            &mut self.entries,
-            &mut self.needs,
+            &mut self.listed,
             &mut self.standing,
             seat,
         )?;
@@ -299,13 +292,13 @@ impl Book {
     // The move of the clock, where nothing is ready and no claim is open.
     fn move_clock(&mut self) -> Advanced
         requires running { IsRunning self.old }
-        requires none_ready { length (ready self.old.standing.clock (map entry_view self.old.entries.items)) ≡ 0 }
+        requires none_ready { length (ready self.old.standing.clock (map entry_view self.old.listed.entries.items)) ≡ 0 }
         requires none_open { count_by is_some self.old.standing.held.items ≡ 0 }
         requires uncut { self.old.standing.cut ≡ None }
         requires below { claims_made (log_view self.old.standing.log) < self.old.setup.limits.steps }
         ensures moves { Moves self.old self.new result }
     {
-        let Some(time) = next_time(&self.entries) else {
+        let Some(time) = next_time(&self.listed.entries) else {
             return Advanced::Dead;
         };
         if self.setup.limits.until < time {
@@ -318,15 +311,15 @@ impl Book {
     /// Moves the clock to the next time, where nothing is ready and no claim is open.
     pub(crate) fn move_to(&mut self, time: u64)
         requires running { IsRunning self.old }
-        requires none_ready { length (ready self.old.standing.clock (map entry_view self.old.entries.items)) ≡ 0 }
+        requires none_ready { length (ready self.old.standing.clock (map entry_view self.old.listed.entries.items)) ≡ 0 }
         requires none_open { count_by is_some self.old.standing.held.items ≡ 0 }
         requires uncut { self.old.standing.cut ≡ None }
         requires below { claims_made (log_view self.old.standing.log) < self.old.setup.limits.steps }
-        requires next { next_time (map entry_view self.old.entries.items) ≡ Some time }
+        requires next { next_time (map entry_view self.old.listed.entries.items) ≡ Some time }
         requires in_time { time ≤ self.old.setup.limits.until }
         ensures running { IsRunning self.new }
         ensures events { journal_in self.new ≡ journal_in self.old ++ clock_moved time ∷ [] }
-        ensures ready { 0 < length (ready self.new.standing.clock (map entry_view self.new.entries.items)) }
+        ensures ready { 0 < length (ready self.new.standing.clock (map entry_view self.new.listed.entries.items)) }
         ensures same { IsMovedFrom self.old self.new }
     {
         self.standing.journal.push_reserved(Event::Move { time });
@@ -335,9 +328,9 @@ impl Book {
 
     /// How many elements are ready.
     pub(crate) fn ready(&self) -> u64
-        ensures { result ≡ length (ready self.now.standing.clock (map entry_view self.now.entries.items)) }
+        ensures { result ≡ length (ready self.now.standing.clock (map entry_view self.now.listed.entries.items)) }
     {
-        ready_count(&self.entries, self.standing.clock)
+        ready_count(&self.listed.entries, self.standing.clock)
     }
 
     /// Lists anew what is enabled in the unclaimed marking.
@@ -347,16 +340,14 @@ impl Book {
         requires room { vec_len self.old.standing.journal < vec_capacity self.old.standing.journal }
         ensures running { OnOk result (IsRunning self.new) }
         ensures standing { self.new.standing ≡ self.old.standing }
-        ensures same { self.new ≡ record self.old { entries = self.new.entries; needs = self.new.needs } }
+        ensures same { self.new ≡ record self.old { listed = self.new.listed } }
     {
-        let Listed { entries, needs } = list_enabled(
+        self.listed = list_enabled(
             self.alloc,
             &self.setup.net,
             self.standing.log.unclaimed(),
             self.standing.clock,
         )?;
-        self.entries = entries;
-        self.needs = needs;
         Ok(())
     }
 
@@ -369,13 +360,10 @@ impl Book {
         requires room { vec_len self.old.standing.journal < vec_capacity self.old.standing.journal }
         ensures running { OnOk result (IsRunning self.new) }
         ensures standing { self.new.standing ≡ self.old.standing }
-        ensures same { self.new ≡ record self.old { entries = self.new.entries; needs = self.new.needs } }
+        ensures same { self.new ≡ record self.old { listed = self.new.listed } }
     {
         let marking = self.standing.log.unclaimed();
-        let Listed { entries, needs } = plans.enabled(self.alloc, marking, self.standing.clock)?;
-        self.entries = entries;
-        self.needs = needs;
-        Ok(())
+        plans.enabled_into(self.alloc, marking, self.standing.clock, &mut self.listed)
     }
 
     // The book is spent: its journal is the one of so many events that it was, and its list of what is enabled is dropped.
@@ -386,8 +374,8 @@ impl Book {
         ensures same { IsSpentFrom self.old self.new }
     {
         self.standing.journal.truncate(events);
-        self.entries.clear();
-        self.needs.clear();
+        self.listed.entries.clear();
+        self.listed.needs.clear();
         self.spent = true;
     }
 }

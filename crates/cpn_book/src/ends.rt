@@ -1,6 +1,6 @@
 //! How a run ends.
 
-ghost use Rattle.std.specs.Prelude.{◌≡◌, ℕ, ◌<◌, ◌≤◌, Some, None, MatchOption, map};
+ghost use Rattle.std.specs.Prelude.{◌≡◌, ◌<◌, Some, None, MatchOption};
 ghost use Rattle.std.specs.List.{count_by};
 ghost use Rattle.std.specs.Option.{is_some};
 ghost use Rattle.cpn_runs.specs.Run.{IsRun};
@@ -45,7 +45,7 @@ impl Book {
         if self.standing.log.len() == self.setup.limits.steps {
             return Some(End::Steps);
         }
-        let Some(time) = next_time(&self.entries) else {
+        let Some(time) = next_time(&self.listed.entries) else {
             return Some(End::Dead);
         };
         if self.setup.limits.until < time {
@@ -60,7 +60,7 @@ impl Book {
         ensures shown { finished_view result ≡ shown self (end_view cause) }
         ensures setup { setup_view result.setup ≡ setup_in self }
     {
-        let closing = outlook(&self.entries, self.standing.clock);
+        let closing = outlook(&self.listed.entries, self.standing.clock);
         let Book {
             setup,
             standing,

@@ -11,6 +11,7 @@ mod books;
 mod claiming;
 mod completing;
 mod ends;
+mod occurring;
 mod outlooks;
 mod readers;
 mod standings;

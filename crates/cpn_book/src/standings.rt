@@ -1,8 +1,8 @@
 //! Where a run stands.
 
-ghost use Rattle.std.specs.Prelude.{◌≡◌, ℕ, replicate, ◌<◌, ◌≤◌, ◌↔◌, [], List, Some, None, true, false, IsTrue, IfOk, MatchOption, map, slice_get};
+ghost use Rattle.std.specs.Prelude.{◌≡◌, ℕ, replicate, ◌<◌, ◌≤◌, [], Some, None, true, false, IfOk, MatchOption, map, slice_get};
 ghost use Rattle.std.specs.List.{count_by};
-ghost use Rattle.std.specs.Option.{is_some, option_map};
+ghost use Rattle.std.specs.Option.{is_some};
 ghost use Rattle.cpn_jobs.specs.Views.{job_view};
 ghost use Rattle.cpn_log.specs.Logs.{claims_made, standings, stands_open};
 ghost use Rattle.cpn_log.specs.LogViews.{log_view, jobs_in};

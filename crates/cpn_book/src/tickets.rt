@@ -3,7 +3,7 @@
 ghost use Rattle.cpn_jobs.specs.Views.{job_view};
 ghost use Rattle.cpn_book.specs.Evaluations.{IsReadyToEvaluate, Tells};
 
-use cpn_core::{EvalFault, Outputs};
+use cpn_core::{EvalFault, Memory, Outputs};
 use cpn_eval::Refused;
 use cpn_jobs::Job;
 use std::alloc::Global;
@@ -45,6 +45,13 @@ impl Ticket {
         ensures job { job_view result.now ≡ job_of self.now }
     {
         &self.job
+    }
+
+    /// One owner more of the job.
+    pub(crate) fn share_job(&self) -> Result<Arc<Job>, Memory>
+        ensures job { IfOk result (λ job. job_view job.value ≡ job_of self.now) }
+    {
+        Ok(self.job.clone()?)
     }
 
     /// Evaluates the outputs of the job: to the tokens that it makes, or to their first fault. It needs neither the net nor the

@@ -1,7 +1,8 @@
 -- What a log keeps true stays true: at its start, with one more claim, when a claim is completed, cut or committed.
-use Rattle.std.proofs.Common.{◌≡◌, ℕ, zero, suc, ◌+◌, ◌<◌, ◌≤◌, ◌^◌, Bool, true, false, cond, List, [], ◌∷◌, ◌++◌, length, take, drop, map, Some, refl, sym, ap, subst, ◌∙◌, slice_get, arith}
+use Rattle.std.proofs.Common.{◌≡◌, ℕ, zero, suc, ◌+◌, ◌<◌, ◌≤◌, Bool, true, false, cond, List, [], ◌∷◌, ◌++◌, length, take, drop, map, Some, refl, sym, ap, subst, ◌∙◌, slice_get, arith}
 use Rattle.std.specs.List.{AllByRecursion}
 use Rattle.std.proofs.lemmas.List.{length-append, take-append-drop}
+use Rattle.std.proofs.lemmas.Option.{same_Some}
 use Rattle.cpn_definitions.specs.Bounds.{most_made}
 use Rattle.cpn_definitions.specs.Lists.{IsInOrder}
 use Rattle.cpn_definitions.specs.Marking.{Marking, tokens_at, stamps}
@@ -15,21 +16,16 @@ use Rattle.cpn_definitions.proofs.Addition.{places_added, sorted_added}
 use Rattle.cpn_definitions.proofs.RicherMarkings.{sorted_subtracted}
 use Rattle.cpn_tmset.specs.Limits.{HaveRoomFor}
 use Rattle.cpn_runs.specs.Bounds.{most_steps, most_after}
-use Rattle.cpn_runs.specs.HoleRun.{PlainClaim, Status, open_claim, done_with, added, marking_left, is_done}
+use Rattle.cpn_runs.specs.HoleRun.{PlainClaim, Status, open_claim, done_with, added, after_claim, marking_left, is_done}
 use Rattle.cpn_runs.proofs.Items.{split_at, all_joined, all_parts}
 use Rattle.cpn_runs.proofs.Sequences.{left_parts, left_split, marking_left_more}
 use Rattle.cpn_runs.proofs.FilledRuns.{filled_leaves, completed}
-use Rattle.cpn_log.specs.Logs.{PlainLog, claims_made, head_of, with_status, changed_to, opened, started, with_committed, next_committed_of, next_committed}
+use Rattle.cpn_log.specs.Logs.{PlainLog, claims_made, head_of, with_status, changed_to, opened, with_committed, with_occurred, next_committed_of, next_committed}
 use Rattle.cpn_log.specs.Kept.{IsInRange, IsKept}
 use Rattle.cpn_log.specs.Changed.{is_told, made_change, touched}
 use Rattle.cpn_log.specs.Exchanges.{after_claims, number_added}
 use Rattle.cpn_log.proofs.TouchedStamps.{sorted_after, untouched_after, alike_after, untouched_added}
 use Rattle.cpn_log.proofs.LeftMarkings.{left_is_after, left_sorted, after_joined, left_up_to, few_added, room_for}
-
--- ---- the start
-
-pub kept_from_start : (m : Marking) → AllAreSorted m → HasUpTo (2 ^ 47) m → IsKept (started m)
-kept_from_start m sorted few = record { left = refl; sorted = sorted; few = λ p. (let own = few p in omega (arith, own)); number = omega arith; each = tt }
 
 -- ---- what the claims leave
 
@@ -218,3 +214,26 @@ kept_next log kept = split log.claims refl
         choose : (b : Bool) → IsKept (cond b (with_committed log claim claims) log)
         choose true = kept_with_committed log claim claims is kept
         choose false = kept
+
+-- ---- a claim is made, done and committed where none stands behind the committed ones
+
+-- it is what a claim leaves that stands behind them, done, when it is committed
+pub occurred_is_committed : (log : PlainLog) (claim : PlainClaim) → with_occurred log claim ≡ with_committed (record log { claims = claim ∷ []; unclaimed = after_claim claim log.settled }) claim []
+occurred_is_committed log claim = refl
+
+pub kept_with_occurred : (log : PlainLog) (claim : PlainClaim) → IsKept log → log.claims ≡ [] → claims_made log < most_steps → length (added claim.status) ≤ most_made → IsKept (with_occurred log claim)
+kept_with_occurred log claim kept all room few = record {
+  left = refl;
+  sorted = sorted_after claim log.settled kept.sorted;
+  few = λ p. (let up_to = left_up_to (claim ∷ []) log.settled (most_after (length log.committed)) kept.few p in let longer = length-append log.committed (head_of claim ∷ []) in omega (arith, up_to, few, longer));
+  number = (let longer = length-append log.committed (head_of claim ∷ []) in omega (arith, longer, room));
+  each = tt;
+}
+
+-- the two markings are one then
+pub settled_where_all : (log : PlainLog) → IsKept log → log.claims ≡ [] → log.settled ≡ log.unclaimed
+settled_where_all log kept all = same_Some log.settled log.unclaimed (ap (marking_left log.settled) (sym all) ∙ kept.left)
+
+-- and there is room for the outputs of a claim
+pub room_for_one : (log : PlainLog) (outputs : List Made) → IsKept log → claims_made log < most_steps → length outputs ≤ most_made → HaveRoomFor (length outputs) log.settled
+room_for_one log outputs kept room few = room_for log.settled (most_after (length log.committed)) (length outputs) kept.few (omega (arith, room, few))

@@ -2,8 +2,8 @@
 use Rattle.std.proofs.Common.{◌≡◌, ℕ, ◌+◌, ◌-◌, ◌<◌, ◌≤◌, true, cond, List, [], ◌∷◌, ◌++◌, map, length, take, drop, get_or, refl, sym, ap, subst, ◌∙◌, arith}
 use Rattle.std.proofs.Math.ListN.{set}
 use Rattle.std.proofs.Math.Path.{ap₂}
-use Rattle.std.proofs.Math.Seq.{take-length}
-use Rattle.std.proofs.lemmas.List.{take-append-le, drop-append-le, take-map, drop-map, take_more_set, drop-set-lt, drop_more, length-drop, drop-take, take-take, drop-drop}
+use Rattle.std.proofs.Math.Seq.{drop-length, take-length}
+use Rattle.std.proofs.lemmas.List.{take_all, take-append-le, drop-append-le, take-map, drop-map, take_more_set, drop-set-lt, drop_more, length-drop, drop-take, take-take, drop-drop}
 use Rattle.std.proofs.lemmas.Option.{slice_get_within}
 use Rattle.cpn_definitions.specs.Marking.{Marking}
 use Rattle.cpn_definitions.specs.Lists.{IsInOrder}
@@ -11,9 +11,9 @@ use Rattle.cpn_definitions.specs.Occurrence.{Needed, Made, needed_cmp, threshold
 use Rattle.cpn_definitions.specs.Times.{last_time}
 use Rattle.cpn_core.specs.Elements.{element_view}
 use Rattle.cpn_runs.specs.Bounds.{most_steps}
-use Rattle.cpn_runs.specs.HoleRun.{PlainClaim, done_with, added, is_done}
+use Rattle.cpn_runs.specs.HoleRun.{PlainClaim, done_with, added, after_claim, is_done}
 use Rattle.cpn_runs.proofs.Items.{map_more}
-use Rattle.cpn_log.specs.Logs.{PlainHead, PlainLog, claims_made, opened, with_committed, next_committed, next_committed_of}
+use Rattle.cpn_log.specs.Logs.{PlainHead, PlainLog, claims_made, head_of, opened, with_committed, with_occurred, next_committed, next_committed_of}
 use Rattle.cpn_log.specs.Kept.{IsKept}
 use Rattle.cpn_log.specs.Exchanges.{exchanged, after_claims}
 use Rattle.cpn_log.specs.ClaimViews.{claim_view, head_view, status_view}
@@ -78,6 +78,32 @@ next_is k cs old new settled later unclaimed left needs time outputs within is h
 
     first : map claim_view (drop k cs) ≡ claim_view old ∷ behind
     first = ap (map claim_view) (drop_more cs k old within ∙ ap (λ c. c ∷ drop (k + 1) cs) (sym is))
+
+-- ---- one more claim, done and committed
+
+-- where all claims are committed, none stands behind them
+pub all_in : (log : Log) → (log_view log).claims ≡ [] → length log.claims.items ≤ log.committed
+all_in log all =
+    let behind = behind_is log in
+    let none : length (log_view log).claims ≡ 0 = ap (λ (cs : List PlainClaim). length cs) all in
+    omega (arith, behind, none)
+
+pub occurred_is
+    : (log : Log) (claim : Claim) (items : List Claim) (k : ℕ) (left settled : Marking) (done : PlainClaim)
+    → (log_view log).claims ≡ []
+    → items ≡ log.claims.items ++ claim ∷ []
+    → k ≡ length items
+    → head_view claim ≡ head_of done
+    → left ≡ after_claim done (log_view log).settled
+    → settled ≡ after_claim done (log_view log).settled
+    → seen k items settled left ≡ with_occurred (log_view log) done
+occurred_is log claim items k left settled done all is count head left_is settled_is =
+    same_log (seen k items settled left) (with_occurred (log_view log) done)
+    (ap (λ n. map head_view (take n items)) count ∙ ap (map head_view) (take-length items ∙ is) ∙ map_more head_view log.claims.items claim
+    ∙ ap₂ (λ hs h. hs ++ h ∷ []) (sym (ap (map head_view) (take_all log.committed log.claims.items (all_in log all)))) head)
+    settled_is
+    (ap (λ n. map claim_view (drop n items)) count ∙ ap (map claim_view) (drop-length items))
+    left_is
 
 -- ---- some of the claims behind
 

@@ -1,7 +1,7 @@
 -- Lists of stamps that are the same rank by rank, and stamps that grow fewer or more.
-use Rattle.std.proofs.Common.{rules, ◌≡◌, ℕ, zero, suc, ◌+◌, ◌<◌, ◌≤◌, ◌==◌, Bool, true, false, ◌&&◌, not, cond, nat_le, List, [], ◌∷◌, length, Option, Some, None, refl, sym, ap, subst, ◌∙◌, slice_get, arith, eqb-true}
+use Rattle.std.proofs.Common.{rules, ◌≡◌, ℕ, zero, suc, ◌+◌, ◌<◌, ◌≤◌, ◌==◌, Bool, true, false, ◌&&◌, not, cond, nat_le, List, [], ◌∷◌, length, Option, Some, None, refl, sym, ap, subst, ◌∙◌, slice_get, arith, eqb-true, eq-eqb}
 use Rattle.std.proofs.Math.Path.{ap₂}
-use Rattle.std.specs.Option.{is_some}
+use Rattle.std.specs.Option.{is_some, option_eq}
 use Rattle.std.proofs.lemmas.Bool.{and_parts}
 use Rattle.cpn_definitions.specs.Value.{PlainValue}
 use Rattle.cpn_definitions.specs.Order.{same_value}
@@ -91,3 +91,22 @@ ended_at_rank ss ts r (Some t) false each end is none = sym (differ_at_rank ss t
 
 pub ended_with_tokens : (v : PlainValue) (ks : Tokens) (most : ℕ) → most ≡ length ks → slice_get (stamps v ks) most ≡ None
 ended_with_tokens v ks most is = none_past (stamps v ks) most (let few = few_stamps v ks in omega (arith, few, is))
+
+-- ---- two stamps at a rank, each of which may be missing
+
+pub alike_at_rank : (o p : Option ℕ) → not (option_eq ◌==◌ o p) ≡ false → o ≡ p
+alike_at_rank None None h = refl
+alike_at_rank None (Some t) h = cc
+alike_at_rank (Some s) None h = cc
+alike_at_rank (Some s) (Some t) h = ap Some (eqb-true s t (was (s == t) h))
+  where
+    was : (b : Bool) → not b ≡ false → b ≡ true
+    was true h = refl
+    was false h = cc
+
+pub unlike_at_rank : (o p : Option ℕ) → not (option_eq ◌==◌ o p) ≡ true → o ≡ p → ⊥
+unlike_at_rank o p h same = split o (subst (λ q. not (option_eq ◌==◌ o q) ≡ true) (sym same) h)
+  where
+    split : (q : Option ℕ) → not (option_eq ◌==◌ q q) ≡ true → ⊥
+    split None h = cc
+    split (Some s) h = let e : (s == s) ≡ true = eq-eqb s s refl in let clash : not true ≡ true = ap not (sym e) ∙ h in cc

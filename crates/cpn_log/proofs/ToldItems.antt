@@ -43,13 +43,6 @@ pub left_out_more : {X : Type 0} (f : X → PlainChange) (test : PlainChange →
 left_out_more f test xs i x old within is so_far fails =
     so_far ∙ ap each_once (sym (ap (filter test) (seen_more f xs i x within is) ∙ filter_more test (map f (take i xs)) (f x) false fails))
 
--- one more is appended
-pub appended_more : {X Y Z : Type 0} (f : X → Y) (g : Y → PlainChange) (view : Z → PlainChange) (xs : List X) (i : ℕ) (x : X) (before : List PlainChange) (old : List Z) (z : Z) → i < length xs → x ≡ get_or xs i x
-    → map view old ≡ before ++ map g (map f (take i xs)) → view z ≡ g (f x) → map view (old ++ z ∷ []) ≡ before ++ map g (map f (take (i + 1) xs))
-appended_more f g view xs i x before old z within is so_far now =
-    map_more view old z ∙ ap (λ c. map view old ++ c ∷ []) now ∙ ap (λ cs. cs ++ g (f x) ∷ []) so_far ∙ append_assoc before (map g (map f (take i xs))) (g (f x) ∷ [])
-    ∙ ap (λ cs. before ++ cs) (sym (ap (map g) (seen_more f xs i x within is) ∙ map_more g (map f (take i xs)) (f x)))
-
 -- what one more claim touches
 touched_joined : (cs : List PlainClaim) (c : PlainClaim) → touched (cs ++ c ∷ []) ≡ touched cs ++ touched_by c
 touched_joined [] c = end (touched_by c)

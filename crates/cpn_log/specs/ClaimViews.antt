@@ -29,9 +29,9 @@ abbrev pub head_view : Claim → PlainHead
 head_view claim = record { seat = claim.seat; element = element_view claim.job.value.element.value; time = claim.job.value.time }
 
 abbrev pub changed_course : Course → ℕ → List Claim → Option Claim → List Claim
-changed_course course place claims None = claims
-changed_course course place claims (Some claim) = slice_set claims place (record claim { course = course })
+changed_course course position claims None = claims
+changed_course course position claims (Some claim) = slice_set claims position (record claim { course = course })
 
--- the claims, of which that at a place has another course
+-- the claims, of which that at a position has another course
 abbrev pub with_course : Course → ℕ → List Claim → List Claim
-with_course course place claims = changed_course course place claims (slice_get claims place)
+with_course course position claims = changed_course course position claims (slice_get claims position)

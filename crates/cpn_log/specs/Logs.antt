@@ -3,7 +3,7 @@
 use Rattle.std.specs.Prelude.{ℕ, ◌+◌, Bool, false, if◌then◌else◌, List, [], ◌∷◌, ◌++◌, length, map, Option, Some, None, slice_get, slice_set}
 use Rattle.cpn_definitions.specs.Marking.{Marking}
 use Rattle.cpn_definitions.specs.Outcome.{Fault}
-use Rattle.cpn_definitions.specs.Occurrence.{PlainElement, Needed}
+use Rattle.cpn_definitions.specs.Occurrence.{PlainElement, Needed, Made}
 use Rattle.cpn_runs.specs.HoleRun.{PlainClaim, Status, open_claim, done_with, faulted_with, is_done, after_claim}
 
 -- What a committed claim says: the seat that made it, its element and time.
@@ -39,18 +39,18 @@ abbrev pub seats : PlainLog → List ℕ
 seats log = map (λ head. head.seat) (heads log)
 
 -- How a claim stands: open, done with its outputs, or done with a fault of them.
-pub data Standing : Type 0 where
-  stands_open : Standing
-  stands_done : Standing
-  stands_failed : Fault → Standing
+pub data PlainClaimState : Type 0 where
+  stands_open : PlainClaimState
+  stands_done : PlainClaimState
+  stands_failed : Fault → PlainClaimState
 
-abbrev pub standing_of : Status → Standing
+abbrev pub standing_of : Status → PlainClaimState
 standing_of open_claim = stands_open
 standing_of (done_with outputs) = stands_done
 standing_of (faulted_with fault) = stands_failed fault
 
 -- how each of the claims stands, by its number: the committed ones are done
-abbrev pub standings : PlainLog → List Standing
+abbrev pub standings : PlainLog → List PlainClaimState
 standings log = map (λ head. stands_done) log.committed ++ map (λ claim. standing_of claim.status) log.claims
 
 -- the claim of a seat on an element at a time, with its needs
@@ -58,12 +58,12 @@ abbrev pub opened : ℕ → PlainElement → ℕ → List Needed → PlainClaim
 opened seat element time needs = record { seat = seat; element = element; time = time; needs = needs; status = open_claim }
 
 abbrev pub changed_to : Status → ℕ → List PlainClaim → Option PlainClaim → List PlainClaim
-changed_to status place claims None = claims
-changed_to status place claims (Some claim) = slice_set claims place (record claim { status = status })
+changed_to status position claims None = claims
+changed_to status position claims (Some claim) = slice_set claims position (record claim { status = status })
 
--- the claims, of which the one at a place has another status
+-- the claims, of which the one at a position has another status
 abbrev pub with_status : Status → ℕ → List PlainClaim → List PlainClaim
-with_status status place claims = changed_to status place claims (slice_get claims place)
+with_status status position claims = changed_to status position claims (slice_get claims position)
 
 -- the log of no claim, from a marking
 abbrev pub started : Marking → PlainLog
@@ -90,3 +90,16 @@ next_committed_of log (claim ∷ claims) = if is_done claim.status then with_com
 -- the log when the next claim has joined the committed part, if it is done with its outputs
 abbrev pub next_committed : PlainLog → PlainLog
 next_committed log = next_committed_of log log.claims
+
+-- the claim of a seat on an element at a time, with its needs, done with its outputs
+abbrev pub made_and_done : ℕ → PlainElement → ℕ → List Needed → List Made → PlainClaim
+made_and_done seat element time needs outputs = record { seat = seat; element = element; time = time; needs = needs; status = done_with outputs }
+
+-- the log of one claim more, which is done and committed, where no claim stands behind the committed ones
+abbrev pub with_occurred : PlainLog → PlainClaim → PlainLog
+with_occurred log claim = record {
+  committed = log.committed ++ head_of claim ∷ [];
+  settled = after_claim claim log.settled;
+  claims = [];
+  unclaimed = after_claim claim log.settled;
+}

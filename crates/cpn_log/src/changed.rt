@@ -113,16 +113,12 @@ fn have_same_stamps(old: &Marking, new: &Marking, change: &Change) -> bool
 {
     let most = tokens_on(old, change.place);
     for rank in 0..most {
-        match stamp_at(old, change, rank) {
-            None => return stamp_at(new, change, rank).is_none(),
-            Some(stamp) => match stamp_at(new, change, rank) {
-                None => return false,
-                Some(other) => {
-                    if stamp != other {
-                        return false;
-                    }
-                }
-            },
+        let stamp = stamp_at(old, change, rank);
+        if stamp != stamp_at(new, change, rank) {
+            return false;
+        }
+        if stamp.is_none() {
+            return true;
         }
     }
     stamp_at(new, change, most).is_none()

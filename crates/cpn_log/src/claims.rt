@@ -1,12 +1,12 @@
 //! What the log keeps of a claim.
 
-ghost use Rattle.std.specs.Prelude.{◌≡◌, ◌≤◌, [], length, false, MatchOption, OnOk};
+ghost use Rattle.std.specs.Prelude.{◌≡◌, ◌≤◌, length, false, MatchOption, OnOk};
 ghost use Rattle.cpn_definitions.specs.Times.{last_time};
 ghost use Rattle.cpn_tmset.specs.Limits.{HaveRoomFor};
 ghost use Rattle.cpn_runs.specs.HoleRun.{added, after_claim, done_with, is_done};
 ghost use Rattle.cpn_log.specs.Logs.{standing_of};
 ghost use Rattle.cpn_log.specs.States.{state_view};
-ghost use Rattle.cpn_log.specs.ClaimViews.{claim_view, head_view, status_view};
+ghost use Rattle.cpn_log.specs.ClaimViews.{claim_view, head_view};
 
 use crate::settled::Exchange;
 use crate::states::ClaimState;

@@ -1,8 +1,9 @@
 //! The log of a run: the claims in claim order, the marking that they leave, and the committed part with its marking.
 //!
 //! A claim takes its needs out of the unclaimed marking and is open; filled with its outputs, it adds them at its own place in
-//! the claim order; a fault adds nothing; a cut removes the claims from a number on, and their tokens go back. Each of these
-//! calls tells which values on which places changed. The crate evaluates nothing, draws nothing, and knows neither what is
+//! the claim order; a fault adds nothing; a cut removes the claims from a number on, and their tokens go back. A claim, a
+//! completion and a cut tell which values on which places changed. Where all claims are committed, one call may make a claim,
+//! complete it and commit it. The crate evaluates nothing, draws nothing, and knows neither what is
 //! enabled nor why a claim is made or cut.
 #![tactic(auto)]
 

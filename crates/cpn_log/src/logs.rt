@@ -18,7 +18,8 @@ use std::sync::Arc;
 /// leaves.
 ///
 /// Source: own choice. A clause sees it as the plain log of the definitions (`log_view`), which is kept (`IsKept`) from its start
-/// on, but not after a call that answered `Memory`: then the committed part and its marking stand, and nothing else is known.
+/// on, but not after a call that answered `Memory`: then the committed part and its marking stand, and nothing else is known;
+/// after `occur` not even these.
 #[derive(Drop)]
 pub struct Log {
     alloc: Global,
@@ -29,7 +30,7 @@ pub struct Log {
 }
 
 impl Log {
-    ghost use Rattle.std.specs.Prelude.{◌≡◌, ◌+◌, ◌-◌, ◌≤◌, ◌<◌, ◌^◌, ℕ, true, [], ◌∷◌, ◌++◌, length, take, Some, IfOk, OnOk, OnErr, map, slice_get};
+    ghost use Rattle.std.specs.Prelude.{◌≡◌, ◌+◌, ◌-◌, ◌≤◌, ◌<◌, ◌^◌, ℕ, true, [], ◌∷◌, ◌++◌, length, take, Some, IfOk, OnOk, OnErr, IsOk, slice_get};
     ghost use Rattle.std.specs.List.{AllByRecursion};
     ghost use Rattle.cpn_definitions.specs.Bounds.{most_made};
     ghost use Rattle.cpn_definitions.specs.Marking.{tokens_at, AreSorted};
@@ -40,7 +41,7 @@ impl Log {
     ghost use Rattle.cpn_tmset.specs.Limits.{HaveRoomFor};
     ghost use Rattle.cpn_runs.specs.Bounds.{most_steps};
     ghost use Rattle.cpn_runs.specs.HoleRun.{done_with, faulted_with};
-    ghost use Rattle.cpn_log.specs.Logs.{begin_done, claims_made, next_committed, opened, seats, standings, stands_open, started, with_status};
+    ghost use Rattle.cpn_log.specs.Logs.{begin_done, claims_made, made_and_done, next_committed, opened, seats, standings, stands_open, started, with_occurred, with_status};
     ghost use Rattle.cpn_log.specs.Kept.{IsInRange, IsKept};
     ghost use Rattle.cpn_log.specs.Changed.{AreChanges};
     ghost use Rattle.cpn_log.specs.ChangedViews.{changes_view};
@@ -88,6 +89,37 @@ impl Log {
             course: Course::Open,
         })?;
         Ok(changes)
+    }
+
+    /// Where all claims are committed, one claim more, of a seat on a job: it takes its needs, is done with its outputs and is
+    /// committed. The log is then as after `push`, `fill` and `commit_one`, and nothing is told of changes. Only one marking is kept
+    /// meanwhile, so after `Memory` nothing is known of the log.
+    pub fn occur(
+        &mut self,
+        seat: u32,
+        job: Arc<Job>,
+        needs: &Needs,
+        outputs: Outputs,
+    ) -> Result<(), Memory>
+        requires kept { IsKept (log_view self.old) }
+        requires all_committed { (log_view self.old).claims ≡ [] }
+        requires room { claims_made (log_view self.old) < most_steps }
+        requires in_time { job.value.time ≤ last_time }
+        requires covered { are_covered (threshold job.value.time) (log_view self.old).unclaimed needs.now ≡ true }
+        requires few { length outputs ≤ most_made }
+        ensures occurred { OnOk result (log_view self.new ≡ with_occurred (log_view self.old) (made_and_done seat (element_view job.value.element.value) job.value.time needs.now outputs)) }
+        ensures jobs { OnOk result (jobs_in self.new ≡ jobs_in self.old ++ job.value ∷ []) }
+        ensures kept { OnOk result (IsKept (log_view self.new)) }
+    {
+        self.markings.exchange(needs, job.time, outputs)?;
+        self.claims.push(Claim {
+            seat,
+            job,
+            needs: Needs::new(self.alloc),
+            course: Course::Done(Outputs::new(self.alloc)),
+        })?;
+        self.committed = self.claims.len();
+        Ok(())
     }
 
     /// Completes an open claim with its outputs, which it adds at its own place in the claim order, and tells which stamps of
@@ -155,7 +187,8 @@ impl Log {
     }
 
     /// The next claim joins the committed part, and its exchange the settled marking; `false` exactly where there is none that is
-    /// done with its outputs. After `Memory` the committed part and its marking stand, and nothing else is known.
+    /// done with its outputs. The commit of a claim with none behind it takes no memory. After `Memory` the committed part and its
+    /// marking stand, and nothing else is known.
     pub fn commit_one(&mut self) -> Result<bool, Memory>
         requires kept { IsKept (log_view self.old) }
         ensures done { IfOk result (λ done. done ≡ begin_done (log_view self.old).claims) }
@@ -164,6 +197,7 @@ impl Log {
         ensures committed { OnErr result ((log_view self.new).committed ≡ (log_view self.old).committed) }
         ensures settled { OnErr result ((log_view self.new).settled ≡ (log_view self.old).settled) }
         ensures kept { OnOk result (IsKept (log_view self.new)) }
+        ensures last { length (log_view self.old).claims ≤ 1 → IsOk result }
     {
         if self.committed == self.claims.len() {
             return Ok(false);

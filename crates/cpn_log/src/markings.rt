@@ -17,8 +17,8 @@ pub(crate) enum SettledAs {
     Apart(Settled),
 }
 
-/// The marking that all claims leave, and the one that the committed claims leave. They are one as long as all claims are
-/// committed; the next claim sets the settled one apart.
+/// The marking that all claims leave, and the one that the committed claims leave. They are one where the last claim was committed
+/// with none behind it; an open claim and a cut set the settled one apart, and an exchange in both does not.
 #[derive(Drop)]
 pub(crate) struct Markings {
     unclaimed: Marking,
@@ -27,7 +27,7 @@ pub(crate) struct Markings {
 }
 
 impl Markings {
-    ghost use Rattle.std.specs.Prelude.{◌≡◌, ◌≤◌, true, length, OnOk, OnErr};
+    ghost use Rattle.std.specs.Prelude.{◌≡◌, ◌≤◌, true, length, OnOk, OnErr, IsOk};
     ghost use Rattle.cpn_definitions.specs.Times.{last_time};
     ghost use Rattle.cpn_definitions.specs.Occurrence.{add_made, subtract, threshold};
     ghost use Rattle.cpn_tmset.specs.Limits.{HaveRoomFor};
@@ -79,6 +79,24 @@ impl Markings {
         Ok(())
     }
 
+    /// Takes needs out of both markings, where they are one, and puts outputs in. After `Memory` nothing is known of either.
+    pub(crate) fn exchange(
+        &mut self,
+        needs: &Needs,
+        time: u64,
+        outputs: Outputs,
+    ) -> Result<(), Memory>
+        requires in_time { time ≤ last_time }
+        requires one { settled_in self.old ≡ unclaimed_in self.old }
+        requires room { HaveRoomFor (length outputs) (settled_in self.old) }
+        ensures unclaimed { OnOk result (unclaimed_in self.new ≡ exchanged needs.now time outputs (settled_in self.old)) }
+        ensures settled { OnOk result (settled_in self.new ≡ exchanged needs.now time outputs (settled_in self.old)) }
+    {
+        self.settled = SettledAs::Unclaimed(None);
+        self.unclaimed.subtract(needs, time);
+        self.unclaimed.add_made(outputs)
+    }
+
     /// Puts copies of outputs into the unclaimed marking. After `Memory` some of them may stand there.
     pub(crate) fn add(&mut self, outputs: &Outputs) -> Result<(), Memory>
         requires room { HaveRoomFor (length outputs.now) (unclaimed_in self.old) }
@@ -109,6 +127,7 @@ impl Markings {
         ensures settled { OnOk result (settled_in self.new ≡ exchanged exchange.needs exchange.time exchange.outputs (settled_in self.old)) }
         ensures unchanged { OnErr result (settled_in self.new ≡ settled_in self.old) }
         ensures unclaimed { unclaimed_in self.new ≡ unclaimed_in self.old }
+        ensures no_memory { is_last ≡ true → IsOk result }
     {
         if is_last {
             self.join(exchange);

@@ -1,6 +1,6 @@
 //! The marking that claims leave, made anew.
 
-ghost use Rattle.std.specs.Prelude.{◌≡◌, ◌≤◌, IfOk};
+ghost use Rattle.std.specs.Prelude.{◌≡◌, IfOk};
 ghost use Rattle.std.specs.List.{AllByRecursion};
 ghost use Rattle.cpn_tmset.specs.Limits.{HaveRoomFor};
 ghost use Rattle.cpn_log.specs.Kept.{IsInRange};

@@ -1,6 +1,6 @@
-// What no clause says: that the calls succeed where memory is left; and a case by hand of two seats, in which the completion of
-// the first claim changes which stamp the second one took.
-ghost use Rattle.std.specs.Prelude.{◌≡◌, ℕ, ◌≤◌, length, true, IfOk, OnOk};
+// What no clause says: that the calls succeed where memory is left; and two cases by hand: one of two seats, in which the
+// completion of the first claim changes which stamp the second one took, and one of a claim that is committed at once.
+ghost use Rattle.std.specs.Prelude.{◌≡◌, ℕ, ◌≤◌, [], length, true, IfOk, OnOk};
 ghost use Rattle.cpn_definitions.specs.Marking.{tokens_at, AreSorted};
 ghost use Rattle.cpn_log.specs.Kept.{IsKept};
 ghost use Rattle.cpn_log.specs.LogViews.{log_view};
@@ -120,6 +120,38 @@ fn fill(
     }
 }
 
+// Takes numbers on places, at the least time at which they are covered, and puts a number on a place, as a claim that is committed
+// at once; whether they are covered at any time.
+fn occur(
+    alloc: Global,
+    log: &mut Log,
+    numbers: &[(u32, i64)],
+    place: u32,
+    made: i64,
+    stamp: u64,
+) -> Result<bool, Memory>
+    requires kept { IsKept (log_view log.old) }
+    requires all { (log_view log.old).claims ≡ [] }
+    ensures kept { OnOk result (IsKept (log_view log.new)) }
+    ensures all { OnOk result ((log_view log.new).claims ≡ []) }
+{
+    let needs = needs_of(alloc, numbers)?;
+    let Some(time) = log.unclaimed().earliest(&needs) else {
+        return Ok(false);
+    };
+    if log.len() >= MANY || time > LAST {
+        return Ok(false);
+    }
+    let mut outputs = Outputs::new(alloc);
+    outputs.add(Made {
+        place,
+        value: Value::Int(made),
+        stamp,
+    })?;
+    log.occur(0, job_at(alloc, time)?, &needs, outputs)?;
+    Ok(true)
+}
+
 // Fails an open claim, and cuts at it.
 fn fail_and_cut(log: &mut Log, number: u64) -> Result<Option<Changes>, Memory>
     requires { IsKept (log_view log.old) }
@@ -226,5 +258,64 @@ fn thousands_of_claims_are_committed(rt: HostRuntime) -> Result<(), Fail> {
     let mut log = Log::start(alloc, marking(alloc)?)?;
     assert_eq!(rt; go_round(alloc, &mut log, 3000)?, 3000);
     assert_eq!(rt; log.committed(), 3000);
+    Ok(())
+}
+
+// Claims 9 on place 2 and commits it there with 7 on place 0, then takes the 7 that was there first and puts a later one in its
+// place, all at once; the text of both markings then.
+fn occur_behind_a_commit(alloc: Global, text: &mut String) -> Result<Log, Memory>
+    ensures { IfOk result (λ log. IsKept (log_view log)) }
+{
+    let mut log = Log::start(alloc, marking(alloc)?)?;
+    claim(alloc, &mut log, 0, &[(2, 9)])?;
+    fill(alloc, &mut log, 0, 0, 7, 2)?;
+    show(text, &mut log)?;
+    if all_are_committed(&log) {
+        let done = occur(alloc, &mut log, &[(0, 7)], 0, 7, 4)?;
+        write!(text, "{done} ")?;
+    }
+    Ok(log)
+}
+
+// Whether no claim stands behind the committed ones.
+fn all_are_committed(log: &Log) -> bool
+    ensures { result ≡ true → (log_view log.now).claims ≡ [] }
+{
+    log.committed() == log.len()
+}
+
+#[test]
+fn a_claim_is_committed_at_once(rt: HostRuntime) -> Result<(), Fail> {
+    let alloc = rt.alloc();
+    let mut text = String::new(alloc);
+    let mut log = occur_behind_a_commit(alloc, &mut text)?;
+    show(&mut text, &mut log)?;
+    tell(&mut text, &claim(alloc, &mut log, 1, &[(0, 7)])?)?;
+    show(&mut text, &mut log)?;
+    assert_eq!(rt;
+        text.as_str(),
+        "@0 @2 | true @0 @2 | true @2 @4 | false @2 @4 | 0:7 @4 | false @2 @4 | "
+    );
+    assert_eq!(rt; log.len(), 3);
+    assert_eq!(rt; log.committed(), 2);
+    Ok(())
+}
+
+// Takes 9 on place 2, and puts it there again, so many times; how many claims are committed by that.
+fn go_round_at_once(alloc: Global, log: &mut Log, times: u64) -> Result<u64, Memory>
+    requires kept { IsKept (log_view log.old) }
+    requires all { (log_view log.old).claims ≡ [] }
+{
+    for _number in 0..times {
+        occur(alloc, log, &[(2, 9)], 2, 9, 0)?;
+    }
+    Ok(log.committed())
+}
+
+#[test]
+fn thousands_of_claims_are_committed_at_once(rt: HostRuntime) -> Result<(), Fail> {
+    let alloc = rt.alloc();
+    let mut log = Log::start(alloc, marking(alloc)?)?;
+    assert_eq!(rt; go_round_at_once(alloc, &mut log, 3000)?, 3000);
     Ok(())
 }

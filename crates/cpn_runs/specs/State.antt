@@ -26,7 +26,7 @@ pub record PlainSetup : Type 0 where
   pub limits : PlainLimits
   pub seed : ℕ
 
--- An event of a run: a seat claims an enabled element, under the next number; a seat completes the
+-- An event of a run: a seat claims a ready element, under the next number; a seat completes the
 -- claim of a number; the clock moves to a time; the claims from a number on are cut off.
 pub data PlainEvent : Type 0 where
   claim_made : ℕ → ℕ → PlainEvent

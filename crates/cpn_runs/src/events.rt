@@ -7,7 +7,7 @@ use cpn_core::{Element, EvalFault};
 /// Source: own choice.
 #[derive(Clone, Copy, Debug, PartialEq, Eq)]
 pub enum Event {
-    /// A seat claims an enabled element under the next number, from 0.
+    /// A seat claims a ready element under the next number, from 0.
     Claim { seat: u32, number: u64 },
     /// A seat completes the claim of this number, with its outputs or with their fault.
     Done { seat: u32, number: u64 },
@@ -20,7 +20,7 @@ pub enum Event {
 /// The limits of a run.
 #[derive(Clone, Copy, Debug, PartialEq, Eq)]
 pub struct Limits {
-    /// How many claims the run may make: 1 to 1,000,000.
+    /// How many claims the run may make: at most 1,000,000.
     pub steps: u64,
     /// The last time that the run may reach: 0 to 2^62.
     pub until: u64,

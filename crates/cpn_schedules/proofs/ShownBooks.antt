@@ -19,15 +19,8 @@ use Rattle.cpn_book.specs.declared.answers.Claimed.{Claimed}
 use Rattle.cpn_book.specs.declared.answers.Claimed.TheVariants as claims
 use Rattle.cpn_book.specs.declared.answers.Completed.{Completed}
 use Rattle.cpn_book.specs.declared.answers.Completed.TheVariants as completions
+use Rattle.std.proofs.lemmas.Option.{same_Some}
 use Rattle.cpn_schedules.specs.Shown.{IsShown, HasElement, TellsElement, KeepsElement}
-
-pub printable_net : (book : Book) → IsShown book → IsPrintableNet (setup_in book).net
-printable_net book is = record { sound = is.kept.playable.sound; named = is.named }
-
--- ---- its claims
-
-same_Some : {A : Type 0} (x y : A) → Some x ≡ Some y → x ≡ y
-same_Some x y e = cc
 
 -- a claim among those of a run has a binding element
 claim_shown : (setup : PlainSetup) (claims : List PlainClaim) (k : ℕ) (claim : PlainClaim) → AllByRecursion (IsClaimOf setup) claims → slice_get claims k ≡ Some claim → HasElement setup.net (claimed_job setup claim)

@@ -1,5 +1,5 @@
 -- One value of a trial more.
-use Rattle.std.proofs.Common.{◌≡◌, ℕ, suc, ◌+◌, ◌<◌, Bool, true, false, nat_lt, List, ◌∷◌, ◌++◌, map, drop, length, get_or, Option, Some, None, sym, ap, ◌∙◌, subst, arith, add-one, drop-cons, append_assoc, append-nil, Bor}
+use Rattle.std.proofs.Common.{◌≡◌, ℕ, suc, ◌+◌, ◌<◌, Bool, true, false, nat_lt, List, ◌∷◌, ◌++◌, drop, length, get_or, Option, Some, None, sym, ap, ◌∙◌, subst, arith, add-one, drop-cons, append_assoc, append-nil}
 use Rattle.std.specs.Bool.{OnTrue, OnFalse}
 use Rattle.std.specs.List.{list_all}
 use Rattle.std.proofs.lemmas.Bool.{and_parts}
@@ -8,8 +8,6 @@ use Rattle.std.proofs.lemmas.List.{map-append}
 use Rattle.cpn_definitions.specs.Value.{PlainValue}
 use Rattle.cpn_definitions.specs.Inscription.{PlainPattern}
 use Rattle.cpn_definitions.specs.Net.{PlainNet}
-use Rattle.cpn_core.specs.declared.values.Value.{Value}
-use Rattle.cpn_core.specs.Views.{value_view}
 use Rattle.cpn_stages.specs.Partial.{PlainPartial, variables_in, Extends}
 use Rattle.cpn_stages.specs.Instances.{Matches, MatchesNot}
 use Rattle.cpn_stages.specs.Fitting.{fitted}
@@ -18,7 +16,6 @@ use Rattle.cpn_stages.proofs.Partials.{extends_variables}
 use Rattle.cpn_stages.proofs.FittedMatches.{match_is_fitted, unmatched_is_unfitted}
 use Rattle.cpn_match.specs.declared.partials.PartialPair.{PartialPair}
 use Rattle.cpn_match.specs.Pairs.{pairs_view}
-use Rattle.cpn_tmset.specs.ListedViews.{pointed_view}
 use Rattle.cpn_search.specs.TrialViews.{PlainUnderWay, after}
 use Rattle.cpn_search.specs.Searches.{AreDeclared}
 
@@ -44,14 +41,6 @@ declared_too k b c is declared = record { all = subst (λ (xs : List ℕ). list_
 
 pub declared_matched : (k : ℕ) (b c : PlainPartial) (p : PlainPattern) (v : PlainValue) → Matches b p v c → AreDeclared k b → AreDeclared k c
 declared_matched k b c p v is all = declared_too k b c is.makes.extends all
-
--- ---- one value more
-
-pub pointed_next : (vs : List (Bor Value)) (i : ℕ) (v : Bor Value) → i < length vs → v ≡ get_or vs i v → pointed_view (drop i vs) ≡ value_view v.now ∷ pointed_view (drop (i + 1) vs)
-pointed_next vs i v lt is = rw add-one (ap pointed_view (drop-cons vs i v lt ∙ ap (λ x. x ∷ drop (suc i) vs) (sym is)))
-
-pub values_next : (vs : List Value) (i : ℕ) (v : Value) → i < length vs → v ≡ get_or vs i v → map value_view (drop i vs) ≡ value_view v ∷ map value_view (drop (i + 1) vs)
-values_next vs i v lt is = rw add-one (ap (map value_view) (drop-cons vs i v lt ∙ ap (λ x. x ∷ drop (suc i) vs) (sym is)))
 
 -- what is added for one value, and then what the values behind it make, is what they make together
 pub one_added

@@ -18,7 +18,7 @@ use Rattle.cpn_stages.specs.Trials.{Trial, next}
 use Rattle.cpn_search.specs.declared.trials.Trial as program
 use Rattle.cpn_search.specs.declared.extending.UnderWay.{UnderWay}
 use Rattle.cpn_search.specs.TrialViews.{PlainUnderWay, trial_view, trials_view, under_way_view, all_under_way, after}
-use Rattle.cpn_search.specs.Searches.{AreDeclared, AreTrials, AddsEnd, IsTurn, SearchState}
+use Rattle.cpn_search.specs.Searches.{AreDeclared, AreTrials, IsTurn, SearchState}
 use Rattle.cpn_search.proofs.KnownTransitions.{length_map, transition_is, in_range}
 use Rattle.cpn_search.specs.FoundViews.{found_view}
 use Rattle.cpn_search.proofs.TurnedSearches.{state_begins}
@@ -57,9 +57,6 @@ declared_at n t b sound lt same = record {
 }
 
 -- ---- the turn
-
-pub turn_ends : (n : PlainNet) (m : Marking) (t : ℕ) (left : List Trial) (o : PlainUnderWay) (old new : List PlainUnderWay) (found now : List PlainFound) → left ≡ [] → new ≡ old → AddsEnd n m t o.0 found now → IsTurn n m t left o old new found now
-turn_ends n m t left o old new found now is same adds = subst (λ (ts : List Trial). IsTurn n m t ts o old new found now) (sym is) (same, adds)
 
 pub turn_goes_on : (n : PlainNet) (m : Marking) (t : ℕ) (left rest : List Trial) (trial : Trial) (o : PlainUnderWay) (old new : List PlainUnderWay) (found now : List PlainFound) → left ≡ trial ∷ rest → new ≡ old ++ after (o.1 + 1) (next n trial o.0) → now ≡ found → IsTurn n m t left o old new found now
 turn_goes_on n m t left rest trial o old new found now is added same = subst (λ (ts : List Trial). IsTurn n m t ts o old new found now) (sym is) (added, same)

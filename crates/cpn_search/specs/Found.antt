@@ -24,12 +24,6 @@ abbrev pub found_of : PlainBinding → Option ℕ → List PlainFound
 found_of b None = []
 found_of b (Some time) = record { binding = b; earliest = time } ∷ []
 
--- Enabled among some bindings of a transition: the list has each of them that is covered at some time once, in order, with
--- the least such time; and it has no other.
-pub record EnabledAmong (n : PlainNet) (m : Marking) (t : ℕ) (bindings : List PlainBinding) (found : List PlainFound) : Type 0 where
-  pub rising : Rises entry_cmp (entries_of t found)
-  pub exact : (x : PlainEntry) → Contains (entries_of t found) x ↔ (Contains bindings x.element.binding × (x.element.transition ≡ t) × IsEarliest n m 0 x)
-
 -- the entry, not before the clock
 abbrev pub not_before : ℕ → PlainEntry → PlainEntry
 not_before clock x = record x { earliest = max clock x.earliest }

@@ -1,5 +1,4 @@
 -- The plain found bindings that those of the program stand for.
-use Rattle.std.specs.Prelude.{List, map}
 use Rattle.cpn_definitions.specs.Enabled.{PlainFound}
 use Rattle.cpn_core.specs.declared.entries.FoundBinding.{FoundBinding}
 use Rattle.cpn_search.specs.declared.covered.Covered.{Covered}
@@ -9,6 +8,3 @@ found_view found = record { binding = found.binding; earliest = found.earliest }
 
 abbrev pub found_binding_view : FoundBinding → PlainFound
 found_binding_view found = record { binding = found.binding; earliest = found.earliest }
-
-abbrev pub found_views : List Covered → List PlainFound
-found_views founds = map found_view founds

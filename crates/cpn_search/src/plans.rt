@@ -1,5 +1,5 @@
 //! The plans of the searches of a net, which are made once and serve for each marking.
-ghost use Rattle.std.specs.Prelude.{◌≡◌, map, length, IfOk};
+ghost use Rattle.std.specs.Prelude.{◌≡◌, map, length, IfOk, OnOk};
 ghost use Rattle.cpn_definitions.specs.Enabled.{Enabled};
 ghost use Rattle.cpn_definitions.specs.Sound.{IsSound, IsMarking};
 ghost use Rattle.cpn_core.specs.Elements.{entry_view};
@@ -67,11 +67,36 @@ impl<'n> Plans<'n> {
             entries: Vec::new(alloc),
             needs: Vec::new(alloc),
         };
+        self.enabled_into(alloc, marking, clock, &mut listed)?;
+        Ok(listed)
+    }
+
+    /// The same, into a list that is there: what stood in it is dropped, and its memory serves again. After `Memory` nothing is
+    /// known of the list.
+    ///
+    /// # Errors
+    ///
+    /// `Memory` where memory is wanted.
+    pub fn enabled_into(
+        &self,
+        alloc: Global,
+        marking: &Marking,
+        clock: u64,
+        listed: &mut Listed,
+    ) -> Result<(), Memory>
+        requires planned { IsPlanned self.now }
+        requires sound { IsSound (planned_net self.now) }
+        requires marking { IsMarking (planned_net self.now).places marking.now }
+        ensures enabled { OnOk result (Enabled (planned_net self.now) marking.now clock (map entry_view listed.new.entries.items)) }
+        ensures needs { OnOk result (StandBeside (planned_net self.now) listed.new.entries.items listed.new.needs.items) }
+    {
+        listed.entries.clear();
+        listed.needs.clear();
         for t in 0..self.plans.len() {
             let found = search_by(alloc, self.net, marking, t as u32, &self.plans[t])?.found;
-            push_entries(&mut listed, found, t as u32, clock)?;
+            push_entries(listed, found, t as u32, clock)?;
         }
-        Ok(listed)
+        Ok(())
     }
 }
 

@@ -22,7 +22,7 @@ use std::alloc::Global;
 
 /// The enabled bindings of a transition of a sound net: each binding with which it is covered at some time, over all
 /// assignments of admitted values to its variables, once, by the values of the variables in declaration order, with the least
-/// such time; and how many tries it took.
+/// such time and what the transition needs under it; and how many tries it took.
 ///
 /// The search goes by the stages of the transition's plan: binding terms on the tokens of their places, equations of the
 /// guard, small colour sets. Each binding that they make is found if its guard is true and its needs are covered at some
@@ -34,6 +34,7 @@ pub fn search(alloc: Global, net: &Net, marking: &Marking, t: u32) -> Result<Sea
     requires marking { IsMarking (net_view net.now).places marking.now }
     requires in_range { t < length net.now.transitions.items }
     ensures enabled { IfOk result (λ searched. EnabledOf (net_view net.now) marking.now t (map found_view searched.found.items)) }
+    ensures needs { IfOk result (λ searched. HaveNeeds (net_view net.now) t searched.found.items) }
 {
     let plan = Plan::of(alloc, net, t)?;
     search_by(alloc, net, marking, t, &plan)

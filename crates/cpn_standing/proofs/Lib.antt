@@ -6,3 +6,4 @@ pub mod MadeClaims
 pub mod CompletedClaims
 pub mod MovedClocks
 pub mod OpenClaims
+pub mod OccurredClaims

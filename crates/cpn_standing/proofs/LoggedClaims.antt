@@ -24,7 +24,7 @@ behind : {A : Type 0} (xs ys : List A) (i : ℕ) → slice_get (xs ++ ys) (lengt
 behind [] ys i = ap (slice_get ys) (let e : 0 + i ≡ i = omega arith in e)
 behind (x ∷ xs) ys i = let e : suc (length xs) + i ≡ suc (length xs + i) = omega arith in ap (slice_get (x ∷ xs ++ ys)) e ∙ behind xs ys i
 
-changed_behind : {A : Type 0} (xs ys : List A) (i : ℕ) (y : A) → slice_set (xs ++ ys) (length xs + i) y ≡ xs ++ slice_set ys i y
+pub changed_behind : {A : Type 0} (xs ys : List A) (i : ℕ) (y : A) → slice_set (xs ++ ys) (length xs + i) y ≡ xs ++ slice_set ys i y
 changed_behind [] ys i y = ap (λ k. slice_set ys k y) (let e : 0 + i ≡ i = omega arith in e)
 changed_behind (x ∷ xs) ys i y = let e : suc (length xs) + i ≡ suc (length xs + i) = omega arith in ap (λ k. slice_set (x ∷ xs ++ ys) k y) e ∙ ap (λ zs. x ∷ zs) (changed_behind xs ys i y)
 

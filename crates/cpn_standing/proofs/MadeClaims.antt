@@ -51,7 +51,7 @@ equals_itself n = split (eqb_tells n n)
     split (inl h) = h.0
     split (inr h) = absurd (h.1 refl)
 
-own_claim : (setup : PlainSetup) (seat time : ℕ) (e : PlainElement) → is_held_by seat (new_claim setup.net seat time e) ≡ true
+pub own_claim : (setup : PlainSetup) (seat time : ℕ) (e : PlainElement) → is_held_by seat (new_claim setup.net seat time e) ≡ true
 own_claim setup seat time e = rw (equals_itself seat) refl
 
 others_not : (setup : PlainSetup) (seat time : ℕ) (e : PlainElement) (s : ℕ) → (seat ≡ s → ⊥) → is_held_by s (new_claim setup.net seat time e) ≡ false
@@ -96,14 +96,14 @@ module _ (setup : PlainSetup) (journal : List PlainEvent) (state : PlainState) (
     new_is = refl;
   }
 
-  module _ (is : new.claims ≡ log.claims ++ made ∷ []) (heads_same : new.committed ≡ log.committed) (settled_same : new.settled ≡ log.settled) (kept : IsKept new) where
+  module _ (is : new.claims ≡ log.claims ++ made ∷ []) (heads_same : new.committed ≡ log.committed) (settled_same : new.settled ≡ log.settled) where
     has_now : HasClaims setup.start after.claims new
     has_now = has_one_more setup.start state.claims log new stands.told.has heads_same settled_same made is
 
     stops_now : begin_done new.claims ≡ false
     stops_now = ap begin_done is ∙ still_stops log.claims made stands.stops refl
 
-    none_owed_now : owed_cut setup after ≡ None
+    pub none_owed_now : owed_cut setup after ≡ None
     none_owed_now =
         let old_none : cut_at (length log.committed) (slice_get log.claims 0) ≡ None = sym (owed_is setup.start state.claims log new stands.told.has stands.stops) ∙ stands.none_owed in
         owed_is setup.start after.claims new new has_now stops_now
@@ -112,8 +112,8 @@ module _ (setup : PlainSetup) (journal : List PlainEvent) (state : PlainState) (
         ∙ still_owes_none (length log.committed) log.claims made old_none refl
 
     -- where the run stands after the claim
-    pub stands_claimed : StandsAt setup (journal ++ claim_made seat (length state.claims) ∷ []) after new (slice_set held seat (Some (length state.claims)))
-    stands_claimed = record {
+    pub stands_claimed : IsKept new → StandsAt setup (journal ++ claim_made seat (length state.claims) ∷ []) after new (slice_set held seat (Some (length state.claims)))
+    stands_claimed kept = record {
       told = record {
         reached = leads_more setup (first_state setup) journal (claim_made seat (length state.claims) ∷ []) state after stands.told.reached (after, may_claim, refl);
         has = has_now;

@@ -1,5 +1,5 @@
 -- Each open claim is completed, so none is open at the end.
-use Rattle.std.proofs.Common.{◌≢◌, ◌<◌, ◌++◌, [], map, refl, sym, ap, ◌∙◌, arith, append_assoc}
+use Rattle.std.proofs.Common.{◌≢◌, ◌+◌, ◌<◌, ◌++◌, [], map, refl, sym, ap, ◌∙◌, arith, append_assoc}
 use Rattle.std.proofs.lemmas.List.{append-nil}
 use Rattle.cpn_log.specs.Logs.{claims_made}
 use Rattle.cpn_log.specs.LogViews.{log_view}
@@ -7,6 +7,7 @@ use Rattle.cpn_runs.specs.FinishedViews.{setup_view}
 use Rattle.cpn_runs.specs.Views.{event_view}
 use Rattle.cpn_book.specs.Standings.{events_in}
 use Rattle.cpn_book.proofs.CommittedStandings.{same_but_journal, still_at, still_through}
+use Rattle.cpn_book.proofs.GoingAlone.{completions_joined}
 use Rattle.cpn_book.proofs.HeldSeats.{none_counted_held}
 use Rattle.cpn_book.proofs.OpenNumbers.{held_below}
 use Rattle.cpn_book.proofs.alone.complete_all.Goals as goal
@@ -22,7 +23,7 @@ loop-number-init c =
       room = omega (arith, ok);
       few = omega arith;
       closed = λ t k holds. omega arith;
-      events = ([], ap (map event_view) c.reserve.ensures.items ∙ sym (append-nil (events_in old)));
+      events = ([], ap (map event_view) c.reserve.ensures.items ∙ sym (append-nil (events_in old)), omega arith);
       committed = still_at s old _ c.requires.at.at refl refl refl;
     }
 
@@ -30,7 +31,7 @@ pub loop-number-preserved : goal.loop-number-preserved
 loop-number-preserved c =
     let s = setup_view c.args.setup.now in
     let before = c.loop-number.invariant.events in
-    let more = c.complete_number.ensures.begins in
+    let more = c.in_ok-complete_number.ensures.completions in
     let fewer = c.in_ok-complete_number.ensures.few in
     let few = c.loop-number.invariant.few in
     record {
@@ -38,7 +39,7 @@ loop-number-preserved c =
       room = c.in_ok-complete_number.ensures.room;
       few = omega (arith, fewer, few);
       closed = λ t k holds. (let both = c.in_ok-complete_number.ensures.frees t k holds in let le = c.loop-number.invariant.closed t k both.0 in let other : k ≢ c.loop-number.number = both.1 in omega (arith, le, other));
-      events = (before.0 ++ more.0, more.1 ∙ ap (λ es. es ++ more.0) before.1 ∙ append_assoc (events_in c.args.standing.now) before.0 more.0);
+      events = (before.0 ++ more.0, more.1 ∙ ap (λ es. es ++ more.0) before.1 ∙ append_assoc (events_in c.args.standing.now) before.0 more.0, completions_joined 0 c.loop-number.number (c.loop-number.number + 1) before.0 more.0 before.2 more.2);
       committed = still_through s c.args.standing.now c.loop-number.standing c.complete_number.new.standing c.loop-number.invariant.committed c.complete_number.ensures.committed;
     }
 

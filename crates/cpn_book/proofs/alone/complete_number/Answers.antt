@@ -1,13 +1,19 @@
 -- The open claim is held by the seat that made it, and its job is ready to be evaluated.
-use Rattle.std.proofs.Common.{◌≡◌, Some, map, refl, sym, ap, ◌∙◌, subst, slice_get}
+use Rattle.std.proofs.Common.{◌≡◌, suc, ◌+◌, ◌∷◌, ◌++◌, Some, map, refl, sym, ap, ◌∙◌, subst, slice_get, arith}
+use Rattle.std.specs.Option.{option_map}
 use Rattle.cpn_jobs.specs.Views.{job_view}
 use Rattle.cpn_log.specs.Logs.{standings}
 use Rattle.cpn_log.specs.LogViews.{log_view, jobs_in}
 use Rattle.cpn_runs.specs.FinishedViews.{setup_view}
 use Rattle.cpn_book.specs.Evaluations.{IsReadyToEvaluate}
+use Rattle.cpn_runs.specs.State.{claim_completed}
+use Rattle.cpn_book.specs.GoingAlone.{AreCompletions}
+use Rattle.cpn_book.specs.Standings.{cut_view, events_in}
+use Rattle.cpn_book.specs.States.{cut_events}
 use Rattle.cpn_book.specs.Tickets.{evaluated_number, evaluated_job}
 use Rattle.cpn_book.proofs.CommittedStandings.{still_at}
 use Rattle.cpn_book.proofs.FilledStandings.{image_at}
+use Rattle.cpn_book.proofs.GoingAlone.{one_completion}
 use Rattle.cpn_book.proofs.HeldSeats.{where_ok}
 use Rattle.cpn_book.proofs.OpenNumbers.{number_within, holds_number, number_is_ready, held_stands_open}
 use Rattle.cpn_book.proofs.alone.complete_number.Goals as goal
@@ -47,3 +53,13 @@ returns-in_err-job-clause-committed c = still_at (setup_view c.args.setup.now) c
 
 pub returns-in_default-evaluate-clause-committed : goal.returns-in_default-evaluate-clause-committed
 returns-in_default-evaluate-clause-committed c = still_at (setup_view c.args.setup.now) c.args.standing.now _ c.requires.at.at refl refl refl
+
+pub returns-clause-completions : goal.returns-clause-completions
+returns-clause-completions c =
+    let n = c.args.number in
+    let number : evaluated_number c.in-Ok.done ≡ n = c.in-Ok.ensures.number ∙ c.new.ensures.number in
+    let cut = option_map cut_view c.complete_claim.new.standing.cut in
+    let next : suc n ≡ n + 1 = omega arith in
+    where_ok c.complete_claim.result _ _
+    (λ events. (claim_completed c.seat-seat.result n ∷ cut_events cut, events ∙ ap (λ k. events_in c.args.standing.now ++ claim_completed c.seat-seat.result k ∷ cut_events cut) number, subst (λ k. AreCompletions n k (claim_completed c.seat-seat.result n ∷ cut_events cut)) next (one_completion c.seat-seat.result n cut)))
+    c.complete_claim.ensures.events

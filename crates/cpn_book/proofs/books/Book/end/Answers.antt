@@ -25,7 +25,7 @@ pub returns-then-self-time-clause-end : goal.returns-then-self-time-clause-end
 returns-then-self-time-clause-end c =
     let book = c.args.self.now in
     let below = claims_below (setup_in book) book.standing c.requires.running.at c.requires.kept.playable (λ all. c.if-len-self.false (c.len.ensures ∙ all)) in
-    let next : next_time (map entry_view book.entries.items) ≡ Some c.in-Some.time = ap (λ es. next_time (map entry_view es)) (sym c.deref.ensures.value) ∙ sym c.next_time.ensures ∙ c.in-Some.is in
+    let next : next_time (map entry_view book.listed.entries.items) ≡ Some c.in-Some.time = ap (λ es. next_time (map entry_view es)) (sym c.deref.ensures.value) ∙ sym c.next_time.ensures ∙ c.in-Some.is in
     in_state book c.requires.running (λ state. EndsBy (setup_in book) state (until_passed c.in-Some.time))
     (by_time book c.requires.kept c.requires.running c.requires.none_open c.requires.uncut below c.in-Some.time next c.if-self-time.true)
 
@@ -33,7 +33,7 @@ pub returns-else-self-time-clause-end : goal.returns-else-self-time-clause-end
 returns-else-self-time-clause-end c =
     let book = c.args.self.now in
     let below = claims_below (setup_in book) book.standing c.requires.running.at c.requires.kept.playable (λ all. c.if-len-self.false (c.len.ensures ∙ all)) in
-    let next : next_time (map entry_view book.entries.items) ≡ Some c.in-Some.time = ap (λ es. next_time (map entry_view es)) (sym c.deref.ensures.value) ∙ sym c.next_time.ensures ∙ c.in-Some.is in
+    let next : next_time (map entry_view book.listed.entries.items) ≡ Some c.in-Some.time = ap (λ es. next_time (map entry_view es)) (sym c.deref.ensures.value) ∙ sym c.next_time.ensures ∙ c.in-Some.is in
     in_state book c.requires.running (λ state. (cause : PlainEnd) → EndsBy (setup_in book) state cause → ⊥)
     (by_none book c.requires.kept c.requires.running c.requires.none_open c.requires.uncut below c.in-Some.time next c.if-self-time.false)
 

@@ -12,4 +12,4 @@ returns c =
     let book = c.args.self.now in
     let running = c.requires.kept.running c.requires.unspent in
     in_state book running (λ state. IsNextTime (setup_in book) state c.next_time.result)
-    (map entry_view book.entries.items, index book running, c.next_time.ensures ∙ ap (λ es. next_time (map entry_view es)) c.deref.ensures.value)
+    (map entry_view book.listed.entries.items, index book running, c.next_time.ensures ∙ ap (λ es. next_time (map entry_view es)) c.deref.ensures.value)

@@ -7,6 +7,7 @@ use Rattle.cpn_runs.specs.FinishedViews.{setup_view, finished_view}
 use Rattle.cpn_book.specs.Books.{setup_in, journal_in, IsBook}
 use Rattle.cpn_book.specs.declared.books.Book.{Book}
 use Rattle.cpn_book.proofs.BoundedBooks.{shown_run, run_in_time, run_bounded}
+use Rattle.cpn_book.proofs.GoingAlone.{goes_on_by, goes_on_from}
 use Rattle.cpn_book.proofs.RunningBooks.{running_is_book}
 use Rattle.cpn_book.proofs.books.Book.run_alone.Goals as goal
 
@@ -25,6 +26,19 @@ returns-in-Some-clause-bounded c =
 pub complete_open-requires-clause-running : goal.complete_open-requires-clause-running
 complete_open-requires-clause-running c = c.requires.kept.running c.if-self.false
 
+pub loop-number-init : goal.loop-number-init
+loop-number-init c =
+    let follows = c.in_ok-complete_open.ensures.follows in
+    let completed = c.in_ok-complete_open.ensures.completions in
+    record {
+      kept = running_is_book c.args.self c.complete_open.new.self c.requires.kept follows.setup follows.works follows.opening c.in_ok-complete_open.ensures.running;
+      running = c.in_ok-complete_open.ensures.running;
+      none_open = c.in_ok-complete_open.ensures.none_open;
+      setup = follows.setup;
+      events = (completed.0, completed.1, goes_on_from completed.2.0 completed.0 completed.2.1);
+      made = λ uncut. sym c.len-number.ensures;
+    }
+
 pub loop-number-preserved : goal.loop-number-preserved
 loop-number-preserved c =
     let mid = c.take_end.new.self in
@@ -33,12 +47,13 @@ loop-number-preserved c =
     let follows = c.in_ok-play_round.ensures.follows in
     let kept : IsBook c.take_end.new.self = subst IsBook (sym same) c.loop-number.invariant.kept in
     let before = c.loop-number.invariant.events in
+    let round = c.in_ok-play_round.ensures.rounds in
     record {
       kept = running_is_book c.take_end.new.self c.play_round.new.self kept follows.setup follows.works follows.opening c.in_ok-play_round.ensures.running;
       running = c.in_ok-play_round.ensures.running;
       none_open = c.in_ok-play_round.ensures.none_open;
       setup = follows.setup ∙ ap (λ (b : Book). b.setup) same ∙ c.loop-number.invariant.setup;
-      events = (before.0 ++ follows.more, follows.events ∙ ap (λ (b : Book). journal_in b ++ follows.more) same ∙ ap (λ es. es ++ follows.more) before.1 ∙ append_assoc (journal_in c.args.self) before.0 follows.more);
+      events = (before.0 ++ round.0, round.1 ∙ ap (λ (b : Book). journal_in b ++ round.0) same ∙ ap (λ es. es ++ round.0) before.1 ∙ append_assoc (journal_in c.args.self) before.0 round.0, goes_on_by before.0 round.0 before.2 round.2);
       made = λ uncut. (let one = c.in_ok-play_round.ensures.made uncut in let old = ap (λ (b : Book). claims_made (log_view b.standing.log)) same in let number = c.loop-number.invariant.made goes_on.uncut in omega (arith, one, old, number));
     }
 

@@ -16,7 +16,7 @@ use Rattle.cpn_book.proofs.books.Book.start.Goals as goal
 pub returns-clause-kept : goal.returns-clause-kept
 returns-clause-kept c =
     let s = setup_view c.args.setup in
-    let entries = map entry_view c.in_ok-entries.field-0.entries.items in
+    let entries = map entry_view c.in_ok-listed.listed.entries.items in
     started _ c.in_ok-standing.standing (record {
       playable = c.requires.playable;
       starts = c.in_ok-standing.ensures.starts;
@@ -27,8 +27,8 @@ returns-clause-kept c =
       events = ap (map event_view) c.reserve.ensures.items;
       enabled =
           subst (λ n. Enabled (net_view n) (log_view c.in_ok-standing.standing.log).unclaimed c.args.setup.clock entries) c.deref-2.ensures
-          (subst (λ m. Enabled (net_view c.deref-2.result.now) m c.args.setup.clock entries) c.unclaimed.ensures c.in_ok-entries.ensures.enabled);
-      needs = subst (λ n. StandBeside (net_view n) c.in_ok-entries.field-0.entries.items c.in_ok-entries.field-0.needs.items) c.deref-2.ensures c.in_ok-entries.ensures.needs;
+          (subst (λ m. Enabled (net_view c.deref-2.result.now) m c.args.setup.clock entries) c.unclaimed.ensures c.in_ok-listed.ensures.enabled);
+      needs = subst (λ n. StandBeside (net_view n) c.in_ok-listed.listed.entries.items c.in_ok-listed.listed.needs.items) c.deref-2.ensures c.in_ok-listed.ensures.needs;
       opening = c.outlook-opening.ensures.outlook ∙ ap (λ es. outlook_at c.args.setup.clock (map entry_view es)) c.deref-3.ensures.value;
       room = omega (arith, c.in_ok-reserve.ensures.ok);
     })

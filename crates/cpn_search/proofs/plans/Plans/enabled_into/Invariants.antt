@@ -4,7 +4,7 @@ use Rattle.cpn_core.specs.Elements.{entry_view}
 use Rattle.cpn_search.specs.CoveredNeeds.{StandBeside}
 use Rattle.cpn_search.specs.Found.{EnabledBelow}
 use Rattle.cpn_search.specs.PlannedNets.{planned_net}
-use Rattle.cpn_search.proofs.plans.Plans.enabled.Given as goal
+use Rattle.cpn_search.proofs.plans.Plans.enabled_into.Given as goal
 
 abbrev pub invariant-loop-t : goal.invariant-loop-t
 invariant-loop-t l =

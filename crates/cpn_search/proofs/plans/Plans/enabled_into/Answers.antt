@@ -5,7 +5,7 @@ use Rattle.cpn_search.specs.FoundViews.{found_view}
 use Rattle.cpn_search.specs.PlannedNets.{planned_net}
 use Rattle.cpn_search.proofs.PlannedTransitions.{plan_at}
 use Rattle.cpn_search.proofs.Transitions.{entries_more, entries_all}
-use Rattle.cpn_search.proofs.plans.Plans.enabled.Goals as goal
+use Rattle.cpn_search.proofs.plans.Plans.enabled_into.Goals as goal
 
 pub loop-t-preserved : goal.loop-t-preserved
 loop-t-preserved c = (

@@ -1,0 +1,187 @@
+-- Where a run stands after a claim that is made, done and committed at once.
+use Rattle.std.proofs.Common.{◌≡◌, ℕ, ◌+◌, ◌<◌, ◌≤◌, true, inl, List, [], ◌∷◌, ◌++◌, length, map, take, Some, None, refl, sym, ap, ◌∙◌, subst, arith, append-nil, slice_get, length-append}
+use Rattle.std.specs.List.{count_by}
+use Rattle.std.specs.Option.{is_some, option_map}
+use Rattle.std.proofs.lemmas.List.{take_all}
+use Rattle.std.proofs.lemmas.Option.{same_Some}
+use Rattle.cpn_core.specs.Elements.{element_view}
+use Rattle.cpn_definitions.specs.Bounds.{most_made}
+use Rattle.cpn_definitions.specs.Outcome.{gives}
+use Rattle.cpn_definitions.specs.Occurrence.{Needed, Made, are_covered, threshold, needs_of, outputs_of}
+use Rattle.cpn_draw.specs.Draw.{generator}
+use Rattle.cpn_jobs.specs.OutputsByWork.{work_makes}
+use Rattle.cpn_jobs.specs.Views.{job_view}
+use Rattle.cpn_jobs.specs.declared.work.Job.{Job}
+use Rattle.cpn_log.specs.Kept.{IsKept}
+use Rattle.cpn_log.specs.Logs.{PlainLog, head_of, heads, claims_made, made_and_done, with_occurred}
+use Rattle.cpn_log.specs.LogViews.{log_view, jobs_in}
+use Rattle.cpn_runs.specs.HoleRun.{PlainClaim, done_with, marking_left}
+use Rattle.cpn_runs.specs.Playable.{IsPlayable}
+use Rattle.cpn_runs.specs.State.{PlainSetup, PlainState, PlainOccurrence, claim_made, claim_completed, given_needs, new_claim, numbered, status_after}
+use Rattle.cpn_runs.proofs.BoundedStates.{claim_has_few_outputs}
+use Rattle.cpn_runs.proofs.Items.{map_more}
+use Rattle.cpn_standing.specs.Standing.{StandsAt}
+use Rattle.cpn_standing.proofs.MadeClaims.{IsNextClaim}
+use Rattle.cpn_standing.proofs.OccurredClaims.{all_committed, stands_occurred}
+use Rattle.cpn_standing.proofs.OpenClaims.{none_held_where_none}
+use Rattle.cpn_book.specs.DrawnClaims.{IsDrawnClaim, undrawn}
+use Rattle.cpn_book.specs.Evaluations.{outputs_in}
+use Rattle.cpn_book.specs.Standings.{IsAt, StillCommitted, job_for, cut_view, events_in, occurrences_in}
+use Rattle.cpn_book.specs.declared.standings.Standing.{Standing}
+use Rattle.cpn_book.proofs.ClaimedStandings.{stands_at, counted, next_claim}
+use Rattle.cpn_book.proofs.CommittedStandings.{has_committed_at, numbered_more}
+use Rattle.cpn_book.proofs.DrawnElements.{is_covered}
+use Rattle.cpn_book.proofs.DrawnClaims.{drawn_now, drawn_element, drawn_covered}
+
+-- What the code of it does: of seat 0, with the outputs of the job.
+pub record HasOccurred (old new : Standing) (number : ℕ) (job : Job) (needs : List Needed) (outputs : List Made) : Type 0 where
+  pub log : log_view new.log ≡ with_occurred (log_view old.log) (made_and_done 0 (element_view job.element.value) job.time needs outputs)
+  pub jobs : jobs_in new.log ≡ jobs_in old.log ++ job ∷ []
+  pub kept : IsKept (log_view new.log)
+  pub occurrences : occurrences_in new ≡ occurrences_in old ++ record { number = number; time = job.time; element = element_view job.element.value } ∷ []
+  pub events : events_in new ≡ events_in old ++ claim_made 0 number ∷ claim_completed 0 number ∷ []
+  pub others : new ≡ record old { log = new.log; journal = new.journal; occurrences = new.occurrences }
+
+module _ (setup : PlainSetup) (old : Standing) (number : ℕ) (job : Job) (needs : List Needed) (due : IsDrawnClaim setup old number (job_view job) needs) (playable : IsPlayable setup) (none_open : count_by is_some old.held.items ≡ 0) where
+  free : (s : ℕ) → s < setup.limits.seats → slice_get old.held.items s ≡ Some None
+  free s lt = none_held_where_none old.held.items none_open s (let long = due.at.at.told.holds.each in omega (arith, lt, long))
+
+  pub free_now : slice_get old.held.items 0 ≡ Some None
+  free_now = free 0 playable.some_seat
+
+  -- all claims are committed
+  pub all_in : (log_view old.log).claims ≡ []
+  all_in = all_committed setup (events_in old) due.at.at.state (log_view old.log) old.held.items (stands_at setup (undrawn setup old) due.at) free
+
+  module _ (outputs : List Made) (gave : outputs_in (job_view job) ≡ gives outputs) where
+    made_at_clock : outputs_of setup.net due.drawn.element old.clock ≡ gives outputs
+    made_at_clock = sym (ap outputs_in due.job_is ∙ work_makes setup.net due.drawn.element old.clock) ∙ gave
+
+    -- the outputs are few
+    pub few_outputs : length outputs ≤ most_made
+    few_outputs =
+        (claim_has_few_outputs setup (new_claim setup.net 0 old.clock due.drawn.element) outputs playable
+        (record {
+          seat_known = playable.some_seat;
+          needs_are = refl;
+          marking = (log_view old.log).unclaimed;
+          was_covered = is_covered setup (undrawn setup old) due.at playable due.entries due.enabled (claims_made (log_view old.log)) due.drawn due.drawn_is;
+          status_is = inl refl;
+        })
+        made_at_clock).few
+
+    module _ (new : Standing) (did : HasOccurred old new number job needs outputs) where
+      abbrev state : PlainState
+      state = due.at.at.state
+
+      clock_is : old.clock ≡ due.at.at.state.clock
+      clock_is = due.at.at.clock
+
+      number_is : length due.at.at.state.claims ≡ claims_made (log_view old.log)
+      number_is = counted setup (undrawn setup old) due.at.at
+
+      next : IsNextClaim setup due.at.at.state (log_view old.log) 0 due.drawn
+      next = next_claim setup (undrawn setup old) due.at due.uncut due.below 0 playable.some_seat free_now due.entries due.enabled due.drawn due.drawn_is
+
+      abbrev done : PlainClaim
+      done = record (new_claim setup.net 0 due.at.at.state.clock due.drawn.element) { status = done_with outputs }
+
+      needs_are : needs ≡ given_needs (needs_of setup.net due.drawn.element)
+      needs_are = sym (ap given_needs due.needs_are)
+
+      done_is : made_and_done 0 (element_view job.element.value) job.time needs outputs ≡ done
+      done_is =
+          ap (λ e. made_and_done 0 e job.time needs outputs) (drawn_element setup old number job needs due)
+          ∙ ap (λ t. made_and_done 0 due.drawn.element t needs outputs) (drawn_now setup old number job needs due ∙ clock_is)
+          ∙ ap (λ ns. made_and_done 0 due.drawn.element due.at.at.state.clock ns outputs) needs_are
+
+      log_is : log_view new.log ≡ with_occurred (log_view old.log) done
+      log_is = did.log ∙ ap (with_occurred (log_view old.log)) done_is
+
+      -- its needs were covered in the settled marking, which was the unclaimed one
+      covers : are_covered (threshold due.at.at.state.clock) (log_view old.log).settled done.needs ≡ true
+      covers =
+          let settled : (log_view old.log).settled ≡ (log_view old.log).unclaimed = same_Some (log_view old.log).settled (log_view old.log).unclaimed (ap (marking_left (log_view old.log).settled) (sym all_in) ∙ due.at.at.told.kept.left) in
+          ap (λ ns. are_covered (threshold due.at.at.state.clock) (log_view old.log).settled ns) (sym needs_are)
+          ∙ ap (λ m. are_covered (threshold due.at.at.state.clock) m needs) settled
+          ∙ ap (λ t. are_covered (threshold t) (log_view old.log).unclaimed needs) (sym (drawn_now setup old number job needs due ∙ clock_is))
+          ∙ drawn_covered setup old number job needs due playable
+
+      abbrev after : PlainState
+      after = record due.at.at.state { claims = due.at.at.state.claims ++ done ∷ [] }
+
+      stands : StandsAt setup (events_in new) after (log_view new.log) new.held.items
+      stands =
+          let status : status_after (outputs_of setup.net due.drawn.element due.at.at.state.clock) ≡ Some (done_with outputs) = ap (λ t. status_after (outputs_of setup.net due.drawn.element t)) (sym clock_is) ∙ ap status_after made_at_clock in
+          let first = stands_occurred setup (events_in old) due.at.at.state (log_view old.log) old.held.items (stands_at setup (undrawn setup old) due.at) all_in 0 due.drawn next outputs status covers (subst IsKept log_is did.kept) in
+          let events : events_in old ++ claim_made 0 (length due.at.at.state.claims) ∷ claim_completed 0 (length due.at.at.state.claims) ∷ [] ≡ events_in new =
+          ap (λ k. events_in old ++ claim_made 0 k ∷ claim_completed 0 k ∷ []) (number_is ∙ sym due.number_is) ∙ sym did.events in
+          subst (λ hs. StandsAt setup (events_in new) after (log_view new.log) hs) (sym (ap (λ (s : Standing). s.held.items) did.others))
+          (subst (λ l. StandsAt setup (events_in new) after l old.held.items) (sym log_is)
+          (subst (λ es. StandsAt setup es after (with_occurred (log_view old.log) done) old.held.items) events first))
+
+      committed_were : length (log_view old.log).committed ≡ length due.at.at.state.claims
+      committed_were =
+          let none : length (log_view old.log).claims ≡ 0 = ap (λ (cs : List PlainClaim). length cs) all_in in
+          let n = number_is in omega (arith, none, n)
+
+      heads_are : heads (log_view new.log) ≡ heads (log_view old.log) ++ head_of done ∷ []
+      heads_are =
+          ap heads log_is ∙ append-nil ((log_view old.log).committed ++ head_of done ∷ [])
+          ∙ ap (λ hs. hs ++ head_of done ∷ []) (sym (append-nil (log_view old.log).committed) ∙ ap (λ cs. (log_view old.log).committed ++ map head_of cs) (sym all_in))
+
+      job_is : job_view job ≡ job_for setup.net (head_of done)
+      job_is = due.job_is ∙ ap (λ t. job_for setup.net (record { seat = 0; element = due.drawn.element; time = t })) clock_is
+
+      -- the occurrence is that of the claim
+      noted : ◌≡◌ {A = PlainOccurrence} (record { number = number; time = job.time; element = element_view job.element.value }) (record { number = 0 + length due.at.at.state.claims; time = done.time; element = done.element })
+      noted =
+          ap (λ (k : ℕ). record { number = k; time = job.time; element = element_view job.element.value }) (let e : number ≡ 0 + length due.at.at.state.claims = (let n = number_is in let k = due.number_is in omega (arith, n, k)) in e)
+          ∙ ap (λ (t : ℕ). record { number = 0 + length due.at.at.state.claims; time = t; element = element_view job.element.value }) (drawn_now setup old number job needs due ∙ clock_is)
+          ∙ ap (λ e. record { number = 0 + length due.at.at.state.claims; time = done.time; element = e }) (drawn_element setup old number job needs due)
+
+      -- all are committed
+      taken : take (length (log_view new.log).committed) (due.at.at.state.claims ++ done ∷ []) ≡ due.at.at.state.claims ++ done ∷ []
+      taken =
+          let many = ap (λ (l : PlainLog). length l.committed) log_is ∙ length-append (log_view old.log).committed (head_of done ∷ []) in
+          let long = length-append due.at.at.state.claims (done ∷ []) in
+          let were = committed_were in
+          take_all (length (log_view new.log).committed) (due.at.at.state.claims ++ done ∷ []) (omega (arith, many, long, were))
+
+      -- the run stands with it
+      pub occurred : IsAt setup new
+      occurred = record {
+        at = record {
+          state = after;
+          told = stands.told;
+          clock = ap (λ (s : Standing). s.clock) did.others ∙ due.at.at.clock;
+          cut = ap (λ (s : Standing). option_map cut_view s.cut) did.others ∙ due.at.at.cut;
+          jobs =
+              ap (map job_view) did.jobs ∙ map_more job_view (jobs_in old.log) job
+              ∙ ap (λ js. js ++ job_view job ∷ []) due.at.at.jobs
+              ∙ ap (λ j. map (job_for setup.net) (heads (log_view old.log)) ++ j ∷ []) job_is
+              ∙ sym (map_more (job_for setup.net) (heads (log_view old.log)) (head_of done))
+              ∙ ap (map (job_for setup.net)) (sym heads_are);
+          occurrences =
+              did.occurrences
+              ∙ ap (λ os. os ++ record { number = number; time = job.time; element = element_view job.element.value } ∷ []) (due.at.at.occurrences ∙ ap (numbered 0) (take_all (length (log_view old.log).committed) due.at.at.state.claims (let were = committed_were in omega (arith, were))))
+              ∙ ap (λ (o : PlainOccurrence). numbered 0 due.at.at.state.claims ++ o ∷ []) noted
+              ∙ sym (numbered_more 0 due.at.at.state.claims done)
+              ∙ ap (numbered 0) (sym taken);
+          draw = λ uncut. ap (λ (s : Standing). s.draw) did.others ∙ due.next_word ∙ ap (generator setup.seed) (let n = number_is in let more = length-append due.at.at.state.claims (done ∷ []) in omega (arith, n, more));
+        };
+        stops = stands.stops;
+        none_owed = stands.none_owed;
+      }
+
+      -- what was committed stands, with it
+      pub still_occurred : StillCommitted setup old new
+      still_occurred = record { committed = has_committed_at setup new occurred.at; more = record { number = number; time = job.time; element = element_view job.element.value } ∷ []; occurrences = did.occurrences }
+
+      -- the log counts one claim more
+      pub one_more : claims_made (log_view new.log) ≡ claims_made (log_view old.log) + 1
+      one_more =
+          let made = ap claims_made did.log in
+          let more = length-append (log_view old.log).committed (head_of (made_and_done 0 (element_view job.element.value) job.time needs outputs) ∷ []) in
+          let none : length (log_view old.log).claims ≡ 0 = ap (λ (cs : List PlainClaim). length cs) all_in in
+          omega (arith, made, more, none)

@@ -1,0 +1,77 @@
+-- The claim that is drawn finds its needs, its outputs are few, and the run stands with it, done and committed.
+use Rattle.std.proofs.Common.{Global, ◌≡◌, ℕ, List, [], ◌∷◌, ◌++◌, map, refl, ap, ◌∙◌, append_assoc}
+use Rattle.std.proofs.Math.Path.{ap₂}
+use Rattle.std.specs.declared.sync.Arc.{Arc}
+use Rattle.cpn_core.specs.declared.bindings.Element.{Element}
+use Rattle.cpn_definitions.specs.Occurrence.{PlainElement}
+use Rattle.cpn_runs.specs.declared.occurrences.Occurrence.{Occurrence}
+use Rattle.cpn_core.specs.Elements.{element_view}
+use Rattle.cpn_jobs.specs.declared.work.Job.{Job}
+use Rattle.cpn_runs.specs.FinishedViews.{setup_view}
+use Rattle.cpn_runs.specs.State.{claim_made, claim_completed}
+use Rattle.cpn_runs.specs.Views.{event_view, occurrence_view}
+use Rattle.cpn_runs.specs.declared.events.Event.{Event}
+use Rattle.cpn_runs.specs.declared.events.Event.TheVariants as events
+use Rattle.cpn_runs.proofs.Items.{map_more}
+use Rattle.cpn_book.proofs.DrawnClaims.{drawn_in_time, drawn_covered}
+use Rattle.cpn_book.proofs.OccurredStandings.{HasOccurred, all_in, few_outputs, occurred, still_occurred, one_more}
+use Rattle.cpn_book.proofs.occurring.occur.Goals.{After-drop-needs-inside-2}
+use Rattle.cpn_book.proofs.occurring.occur.Goals as goal
+
+-- the occurrence is noted
+occurrence_noted
+    : (mid old new : List Occurrence) (number time t : ℕ) (element : Arc Element Global) (e : PlainElement) → mid ≡ old → new ≡ mid ++ record { number = number; time = time; element = element } ∷ [] → time ≡ t → element_view element.value ≡ e
+    → map occurrence_view new ≡ map occurrence_view old ++ record { number = number; time = t; element = e } ∷ []
+occurrence_noted mid old new number time t element e same more at of =
+    ap (map occurrence_view) (more ∙ ap (λ os. os ++ record { number = number; time = time; element = element } ∷ []) same) ∙ map_more occurrence_view old (record { number = number; time = time; element = element })
+    ∙ ap₂ (λ (u : ℕ) (f : PlainElement). map occurrence_view old ++ record { number = number; time = u; element = f } ∷ []) at of
+
+-- and so are both events
+events_noted : (mid old first new : List Event) (number : ℕ) → mid ≡ old → first ≡ mid ++ events.Claim 0 number ∷ [] → new ≡ first ++ events.Done 0 number ∷ [] → map event_view new ≡ map event_view old ++ claim_made 0 number ∷ claim_completed 0 number ∷ []
+events_noted mid old first new number same more last =
+    ap (map event_view) (last ∙ ap (λ es. es ++ events.Done 0 number ∷ []) (more ∙ ap (λ es. es ++ events.Claim 0 number ∷ []) same))
+    ∙ map_more event_view (old ++ events.Claim 0 number ∷ []) (events.Done 0 number)
+    ∙ ap (λ es. es ++ claim_completed 0 number ∷ []) (map_more event_view old (events.Claim 0 number))
+    ∙ append_assoc (map event_view old) (claim_made 0 number ∷ []) (claim_completed 0 number ∷ [])
+
+pub occur-requires-clause-all_committed : goal.occur-requires-clause-all_committed
+occur-requires-clause-all_committed c = all_in (setup_view c.args.setup.now) c.args.standing.now c.args.number c.args.job.value c.args.needs c.requires.drawn c.requires.playable c.requires.none_open
+
+pub occur-requires-clause-in_time : goal.occur-requires-clause-in_time
+occur-requires-clause-in_time c = drawn_in_time (setup_view c.args.setup.now) c.args.standing.now c.args.number c.args.job.value c.args.needs c.requires.drawn c.requires.playable
+
+pub occur-requires-clause-covered : goal.occur-requires-clause-covered
+occur-requires-clause-covered c = drawn_covered (setup_view c.args.setup.now) c.args.standing.now c.args.number c.args.job.value c.args.needs c.requires.drawn c.requires.playable
+
+pub occur-requires-clause-few : goal.occur-requires-clause-few
+occur-requires-clause-few c = few_outputs (setup_view c.args.setup.now) c.args.standing.now c.args.number c.args.job.value c.args.needs c.requires.drawn c.requires.playable c.requires.none_open c.args.outputs c.requires.outputs
+
+-- what the code has done when it answers
+did
+    : (c : After-drop-needs-inside-2)
+    → HasOccurred c.args.standing.now (record c.args.standing.now { log = c.occur.new.self; journal = c.push_reserved-3.new.self; occurrences = c.push_reserved.new.self }) c.args.number c.args.job.value c.args.needs c.args.outputs
+did c =
+    let old = c.args.standing.now in
+    let job = c.args.job.value in
+    let same : c.deref-2.result.now ≡ job = c.deref-2.ensures in
+    let element : element_view c.in_ok-clone.field-0.value ≡ element_view job.element.value = ap element_view c.in_ok-clone.ensures.cases ∙ ap (λ (j : Job). element_view j.element.value) same in
+    record {
+      log = c.in_ok-occur.ensures.occurred;
+      jobs = c.in_ok-occur.ensures.jobs;
+      kept = c.in_ok-occur.ensures.kept;
+      occurrences = occurrence_noted c.reserve-2.new.self.items old.occurrences.items c.push_reserved.new.self.items c.args.number c.deref.result.now.time job.time c.in_ok-clone.field-0 (element_view job.element.value) c.reserve-2.ensures.items c.push_reserved.ensures.items (ap (λ (j : Job). j.time) c.deref.ensures) element;
+      events = events_noted c.reserve.new.self.items old.journal.items c.push_reserved-2.new.self.items c.push_reserved-3.new.self.items c.args.number c.reserve.ensures.items c.push_reserved-2.ensures.items c.push_reserved-3.ensures.items;
+      others = refl;
+    }
+
+pub returns-clause-at : goal.returns-clause-at
+returns-clause-at c = occurred (setup_view c.args.setup.now) c.args.standing.now c.args.number c.args.job.value c.args.needs c.requires.drawn c.requires.playable c.requires.none_open c.args.outputs c.requires.outputs _ (did c)
+
+pub returns-clause-made : goal.returns-clause-made
+returns-clause-made c = one_more (setup_view c.args.setup.now) c.args.standing.now c.args.number c.args.job.value c.args.needs c.requires.drawn c.requires.playable c.requires.none_open c.args.outputs c.requires.outputs _ (did c)
+
+pub returns-clause-events : goal.returns-clause-events
+returns-clause-events c = (did c).events
+
+pub returns-clause-committed : goal.returns-clause-committed
+returns-clause-committed c = still_occurred (setup_view c.args.setup.now) c.args.standing.now c.args.number c.args.job.value c.args.needs c.requires.drawn c.requires.playable c.requires.none_open c.args.outputs c.requires.outputs _ (did c)

@@ -1,0 +1,102 @@
+//! How a claim is made and completed at once, where no other one is open.
+
+ghost use Rattle.std.specs.Prelude.{◌≡◌, ◌+◌, ◌<◌, None, List, ◌++◌, [], ◌∷◌, OnOk, vec_len, vec_capacity};
+ghost use Rattle.std.specs.List.{count_by};
+ghost use Rattle.std.specs.Option.{is_some};
+ghost use Rattle.cpn_definitions.specs.Outcome.{gives};
+ghost use Rattle.cpn_jobs.specs.Views.{job_view};
+ghost use Rattle.cpn_log.specs.Logs.{claims_made};
+ghost use Rattle.cpn_log.specs.LogViews.{log_view};
+ghost use Rattle.cpn_runs.specs.FinishedViews.{setup_view};
+ghost use Rattle.cpn_runs.specs.Playable.{IsPlayable};
+ghost use Rattle.cpn_runs.specs.State.{PlainEvent, claim_made, claim_completed};
+ghost use Rattle.cpn_book.specs.DrawnClaims.{IsDrawnClaim};
+ghost use Rattle.cpn_book.specs.Evaluations.{outputs_in};
+ghost use Rattle.cpn_book.specs.GoingAlone.{AreRounds};
+ghost use Rattle.cpn_book.specs.Standings.{IsAt, StillCommitted, events_in};
+ghost use Rattle.cpn_book.specs.Tickets.{evaluated_number, evaluated_job};
+
+use crate::claiming::make_claim;
+use crate::completing::complete_claim;
+use crate::standings::Standing;
+use crate::tickets::Evaluated;
+use cpn_core::{Memory, Needs, Outputs};
+use cpn_jobs::Job;
+use cpn_runs::{Event, Occurrence, Setup};
+use std::sync::Arc;
+
+/// Makes the claim of seat 0 that is drawn and evaluated, where no claim is open, and completes it. It leaves room in the journal for one
+/// event more. After `Memory` nothing is known of where the run stands.
+pub(crate) fn play_drawn(
+    setup: &Setup,
+    standing: &mut Standing,
+    done: Evaluated,
+    needs: Needs,
+) -> Result<(), Memory>
+    requires playable { IsPlayable (setup_view setup.now) }
+    requires drawn { IsDrawnClaim (setup_view setup.now) standing.old (evaluated_number done) (evaluated_job done) needs }
+    requires none_open { count_by is_some standing.old.held.items ≡ 0 }
+    ensures at { OnOk result (IsAt (setup_view setup.now) standing.new) }
+    ensures none_open { OnOk result (count_by is_some standing.new.held.items ≡ 0) }
+    ensures made { OnOk result (standing.new.cut ≡ None → claims_made (log_view standing.new.log) ≡ claims_made (log_view standing.old.log) + 1) }
+    ensures rounds { OnOk result ((more : List PlainEvent) × (events_in standing.new ≡ events_in standing.old ++ more) × AreRounds more) }
+    ensures room { OnOk result (vec_len standing.new.journal < vec_capacity standing.new.journal) }
+    ensures committed { OnOk result (StillCommitted (setup_view setup.now) standing.old standing.new) }
+{
+    let Evaluated {
+        number,
+        job,
+        result,
+    } = done;
+    match result {
+        Ok(outputs) => occur(setup, standing, number, job, needs, outputs),
+        Err(fault) => {
+            make_claim(setup, standing, 0, number, job.clone()?, needs)?;
+            let done = Evaluated {
+                number,
+                job,
+                result: Err(fault),
+            };
+            complete_claim(setup, standing, 0, done)
+        }
+    }
+}
+
+/// Makes the claim of seat 0 that is drawn, where no claim is open, completes it with its outputs and commits it, all at once. It leaves
+/// room in the journal for one event more. After `Memory` nothing is known of where the run stands.
+fn occur(
+    setup: &Setup,
+    standing: &mut Standing,
+    number: u64,
+    job: Arc<Job>,
+    needs: Needs,
+    outputs: Outputs,
+) -> Result<(), Memory>
+    requires playable { IsPlayable (setup_view setup.now) }
+    requires drawn { IsDrawnClaim (setup_view setup.now) standing.old number (job_view job.value) needs }
+    requires none_open { count_by is_some standing.old.held.items ≡ 0 }
+    requires outputs { outputs_in (job_view job.value) ≡ gives outputs }
+    ensures at { OnOk result (IsAt (setup_view setup.now) standing.new) }
+    ensures held { standing.new.held ≡ standing.old.held }
+    ensures made { OnOk result (claims_made (log_view standing.new.log) ≡ claims_made (log_view standing.old.log) + 1) }
+    ensures events { OnOk result (events_in standing.new ≡ events_in standing.old ++ claim_made 0 number ∷ claim_completed 0 number ∷ []) }
+    ensures room { OnOk result (vec_len standing.new.journal < vec_capacity standing.new.journal) }
+    ensures committed { OnOk result (StillCommitted (setup_view setup.now) standing.old standing.new) }
+{
+    standing.journal.reserve(3)?;
+    standing.occurrences.reserve(1)?;
+    let occurrence = Occurrence {
+        number,
+        time: job.time,
+        element: job.element.clone()?,
+    };
+    standing.log.occur(0, job, &needs, outputs)?;
+    standing.occurrences.push_reserved(occurrence);
+    standing
+        .journal
+        .push_reserved(Event::Claim { seat: 0, number });
+    standing
+        .journal
+        .push_reserved(Event::Done { seat: 0, number });
+    Ok(())
+}
