@@ -16,6 +16,7 @@ pub mod OpenNumbers
 pub mod RunningBooks
 pub mod BoundedBooks
 pub mod GoingAlone
+pub mod AloneRows
 pub mod PlayedRounds
 pub mod AnsweredBooks
 pub mod AnsweredCompletions
