@@ -1,2 +1,2 @@
-pub mod AcceptedSides
+mod AcceptedSides
 pub mod SolvableTransitions
