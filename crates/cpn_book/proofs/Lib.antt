@@ -22,3 +22,12 @@ mod AnsweredBooks
 mod AnsweredCompletions
 mod StartedBooks
 mod OneAnswers
+mod HeldClaims
+mod LoggedClaims
+mod SetItems
+mod StartedRuns
+mod MadeClaims
+mod CompletedClaims
+mod MovedClocks
+mod OpenClaims
+mod OccurredClaims

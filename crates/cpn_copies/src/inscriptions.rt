@@ -24,7 +24,7 @@ pub fn copy_guard(guard: &Guard) -> Result<Guard, Memory>
 ///
 /// Memory is wanted.
 #[cycle(copy)]
-#[tactic(auto, using(cpn_levels::proofs::InscriptionLevels::view_op, cpn_levels::proofs::InscriptionLevels::view_and, cpn_levels::proofs::InscriptionLevels::view_or, cpn_levels::proofs::InscriptionLevels::view_if, cpn_levels::proofs::InscriptionLevels::view_case, cpn_levels::proofs::InscriptionLevels::view_let, cpn_levels::proofs::InscriptionLevels::view_fold, cpn_levels::proofs::InscriptionLevels::view_tuple, cpn_levels::proofs::InscriptionLevels::view_list, cpn_levels::proofs::InscriptionLevels::view_bare, cpn_levels::proofs::InscriptionLevels::view_applied, cpn_levels::proofs::InscriptionLevels::view_call))]
+#[tactic(auto, using(cpn_core::proofs::InscriptionLevels::view_op, cpn_core::proofs::InscriptionLevels::view_and, cpn_core::proofs::InscriptionLevels::view_or, cpn_core::proofs::InscriptionLevels::view_if, cpn_core::proofs::InscriptionLevels::view_case, cpn_core::proofs::InscriptionLevels::view_let, cpn_core::proofs::InscriptionLevels::view_fold, cpn_core::proofs::InscriptionLevels::view_tuple, cpn_core::proofs::InscriptionLevels::view_list, cpn_core::proofs::InscriptionLevels::view_bare, cpn_core::proofs::InscriptionLevels::view_applied, cpn_core::proofs::InscriptionLevels::view_call))]
 pub fn copy_expr(expr: &Expr) -> Result<Expr, Memory>
     ensures same { IfOk result (λ copied. expr_view copied ≡ expr_view expr.now) }
 {
@@ -77,7 +77,7 @@ fn copy_each(exprs: &Exprs) -> Result<Exprs, Memory>
 }
 
 #[cycle(copy)]
-#[tactic(auto, using(cpn_levels::proofs::InscriptionLevels::view_arm))]
+#[tactic(auto, using(cpn_core::proofs::InscriptionLevels::view_arm))]
 fn copy_arm(arm: &Arm) -> Result<Arm, Memory>
     ensures same { IfOk result (λ copied. arm_view copied ≡ arm_view arm.now) }
 {

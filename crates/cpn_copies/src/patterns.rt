@@ -11,7 +11,7 @@ use cpn_core::{Memory, Pat, Pats};
 ///
 /// Memory is wanted.
 #[cycle(copy)]
-#[tactic(auto, using(cpn_levels::proofs::InscriptionLevels::view_con_pattern, cpn_levels::proofs::InscriptionLevels::view_cons_pattern))]
+#[tactic(auto, using(cpn_core::proofs::InscriptionLevels::view_con_pattern, cpn_core::proofs::InscriptionLevels::view_cons_pattern))]
 pub fn copy_pattern(pattern: &Pat) -> Result<Pat, Memory>
     ensures same { IfOk result (λ copied. pattern_view copied ≡ pattern_view pattern.now) }
 {

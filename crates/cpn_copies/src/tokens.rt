@@ -13,7 +13,7 @@ use cpn_core::{MArm, MExpr, MExprs, Memory};
 ///
 /// Memory is wanted.
 #[cycle(copy)]
-#[tactic(auto, using(cpn_levels::proofs::InscriptionLevels::tokens_one, cpn_levels::proofs::InscriptionLevels::tokens_times, cpn_levels::proofs::InscriptionLevels::tokens_sum, cpn_levels::proofs::InscriptionLevels::tokens_later, cpn_levels::proofs::InscriptionLevels::tokens_at, cpn_levels::proofs::InscriptionLevels::tokens_if, cpn_levels::proofs::InscriptionLevels::tokens_case, cpn_levels::proofs::InscriptionLevels::tokens_let))]
+#[tactic(auto, using(cpn_core::proofs::InscriptionLevels::tokens_one, cpn_core::proofs::InscriptionLevels::tokens_times, cpn_core::proofs::InscriptionLevels::tokens_sum, cpn_core::proofs::InscriptionLevels::tokens_later, cpn_core::proofs::InscriptionLevels::tokens_at, cpn_core::proofs::InscriptionLevels::tokens_if, cpn_core::proofs::InscriptionLevels::tokens_case, cpn_core::proofs::InscriptionLevels::tokens_let))]
 pub fn copy_tokens(tokens: &MExpr) -> Result<MExpr, Memory>
     ensures same { IfOk result (λ copied. multiset_view copied ≡ multiset_view tokens.now) }
 {
@@ -53,7 +53,7 @@ fn copy_each(parts: &MExprs) -> Result<MExprs, Memory>
 }
 
 #[cycle(copy)]
-#[tactic(auto, using(cpn_levels::proofs::InscriptionLevels::tokens_arm))]
+#[tactic(auto, using(cpn_core::proofs::InscriptionLevels::tokens_arm))]
 fn copy_arm(arm: &MArm) -> Result<MArm, Memory>
     ensures same { IfOk result (λ copied. arc_arm_view copied ≡ arc_arm_view arm.now) }
 {

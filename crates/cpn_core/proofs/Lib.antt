@@ -1,4 +1,6 @@
-mod Levels
+mod ValueLevels
+pub mod InscriptionLevels
+pub mod ShapeLevels
 mod Items
 mod Shapes
 mod NumberedItems

@@ -1,4 +1,4 @@
-pub mod Outcomes
+mod Outcomes
 mod SameTypes
 mod NamesKept
 mod PatternsFit
@@ -10,7 +10,7 @@ mod ColourTypes
 pub mod Functions
 pub mod LeastBindable
 pub mod BindableAnswers
-pub mod TermsOfForms
+mod TermsOfForms
 mod AcceptedMultisets
 mod BothSides
 mod NamesDeclared
@@ -33,3 +33,5 @@ mod FirstKnown
 pub mod Answered
 pub mod Bindings
 pub mod Grown
+mod AcceptedSides
+pub mod SolvableTransitions

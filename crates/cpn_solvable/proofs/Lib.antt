@@ -1,2 +1,0 @@
-mod AcceptedSides
-pub mod SolvableTransitions
