@@ -17,9 +17,9 @@ use Rattle.cpn_runs.specs.State.{PlainSetup, PlainState, PlainEvent, PlainEnd, E
 use Rattle.cpn_runs.specs.Views.{event_view}
 use Rattle.cpn_runs.proofs.Items.{last_is_at}
 use Rattle.cpn_runs.proofs.States.{event_is_unique, no_end_with_an_open_claim}
-use Rattle.cpn_standing.specs.Held.{held_from}
-use Rattle.cpn_standing.proofs.MadeClaims.{IsNextClaim, may_claim}
-use Rattle.cpn_standing.proofs.OpenClaims.{open_count_is, some_counted}
+use Rattle.cpn_book.specs.Held.{held_from}
+use Rattle.cpn_book.proofs.MadeClaims.{IsNextClaim, may_claim}
+use Rattle.cpn_book.proofs.OpenClaims.{open_count_is, some_counted}
 use Rattle.cpn_book.specs.Answers.{IsTicket, AnswersClaim, MayClaimNext, GoesOn, AnswersAdvance}
 use Rattle.cpn_book.specs.Books.{setup_in, journal_in, is_spent_in, InState, IsBook, IsRunning}
 use Rattle.cpn_book.specs.Standings.{HasCommitted, job_for, cut_view}

@@ -15,9 +15,9 @@ use Rattle.cpn_runs.specs.State.{PlainSetup, PlainState, cut_made, cut_at, fault
 use Rattle.cpn_runs.specs.Views.{event_view}
 use Rattle.cpn_runs.proofs.Items.{all_parts}
 use Rattle.cpn_runs.proofs.States.{IsClaimOf, every_state}
-use Rattle.cpn_standing.specs.Standing.{IsTold, StandsAt}
-use Rattle.cpn_standing.proofs.CompletedClaims.{told_committed, stands_committed, stands_cut}
-use Rattle.cpn_standing.proofs.LoggedClaims.{committed_is}
+use Rattle.cpn_book.specs.StandingRuns.{IsTold, StandsAt}
+use Rattle.cpn_book.proofs.CompletedClaims.{told_committed, stands_committed, stands_cut}
+use Rattle.cpn_book.proofs.LoggedClaims.{committed_is}
 use Rattle.cpn_book.specs.Standings.{IsToldAt, IsAt, IsDoneClaim, HasCommitted, StillCommitted, job_for, cut_view, events_in, occurrences_in}
 use Rattle.cpn_book.specs.declared.standings.Standing.{Standing}
 use Rattle.cpn_book.proofs.CountedClaims.{as_many, first_are, heads_are}

@@ -20,7 +20,7 @@ use Rattle.cpn_runs.specs.Playable.{IsPlayable}
 use Rattle.cpn_runs.specs.State.{PlainSetup, IsDrawn}
 use Rattle.cpn_runs.proofs.BoundedStates.{every_state_has_bounds}
 use Rattle.cpn_runs.proofs.Items.{in_from_get}
-use Rattle.cpn_standing.proofs.LoggedClaims.{unclaimed_left}
+use Rattle.cpn_book.proofs.LoggedClaims.{unclaimed_left}
 use Rattle.cpn_book.specs.Evaluations.{IsReadyToEvaluate}
 use Rattle.cpn_book.specs.Standings.{IsAt, job_for, events_in}
 use Rattle.cpn_book.specs.declared.standings.Standing.{Standing}

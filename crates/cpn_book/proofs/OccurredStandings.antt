@@ -20,10 +20,10 @@ use Rattle.cpn_runs.specs.Playable.{IsPlayable}
 use Rattle.cpn_runs.specs.State.{PlainSetup, PlainState, PlainOccurrence, claim_made, claim_completed, given_needs, new_claim, numbered, status_after}
 use Rattle.cpn_runs.proofs.BoundedStates.{claim_has_few_outputs}
 use Rattle.cpn_runs.proofs.Items.{map_more}
-use Rattle.cpn_standing.specs.Standing.{StandsAt}
-use Rattle.cpn_standing.proofs.MadeClaims.{IsNextClaim}
-use Rattle.cpn_standing.proofs.OccurredClaims.{all_committed, stands_occurred}
-use Rattle.cpn_standing.proofs.OpenClaims.{none_held_where_none}
+use Rattle.cpn_book.specs.StandingRuns.{StandsAt}
+use Rattle.cpn_book.proofs.MadeClaims.{IsNextClaim}
+use Rattle.cpn_book.proofs.OccurredClaims.{all_committed, stands_occurred}
+use Rattle.cpn_book.proofs.OpenClaims.{none_held_where_none}
 use Rattle.cpn_book.specs.DrawnClaims.{IsDrawnClaim, undrawn}
 use Rattle.cpn_book.specs.Evaluations.{outputs_in}
 use Rattle.cpn_book.specs.Standings.{IsAt, StillCommitted, job_for, cut_view, events_in, occurrences_in}

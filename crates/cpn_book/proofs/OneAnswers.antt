@@ -13,9 +13,9 @@ use Rattle.cpn_runs.specs.HoleRun.{PlainClaim}
 use Rattle.cpn_runs.specs.State.{PlainSetup, PlainState, unclaimed_in, PlainCut, PlainEvent, owed_cut, claim_completed, MayClaim, MayMove}
 use Rattle.cpn_runs.proofs.Items.{place_known}
 use Rattle.cpn_runs.proofs.States.{claim_is_unique, completion_is_unique, least_is_unique, move_is_unique}
-use Rattle.cpn_standing.specs.Held.{held_from}
-use Rattle.cpn_standing.proofs.HeldClaims.{held_none}
-use Rattle.cpn_standing.proofs.OpenClaims.{some_counted}
+use Rattle.cpn_book.specs.Held.{held_from}
+use Rattle.cpn_book.proofs.HeldClaims.{held_none}
+use Rattle.cpn_book.proofs.OpenClaims.{some_counted}
 use Rattle.cpn_book.specs.States.{open_claims, IsFull, IsIndex, AreReady, claimed_job, cut_events}
 use Rattle.cpn_book.specs.Tickets.{number_of, job_of, evaluated_number}
 use Rattle.cpn_book.specs.Answers.{AnswersClaim, IsNotCut, AnswersCompletion, AnswersAdvance}

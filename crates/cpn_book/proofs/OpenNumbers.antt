@@ -16,8 +16,8 @@ use Rattle.cpn_runs.specs.State.{PlainSetup, is_held_by}
 use Rattle.cpn_runs.proofs.BoundedStates.{every_state_has_bounds}
 use Rattle.cpn_runs.proofs.States.{IsClaimOf, every_state}
 use Rattle.cpn_runs.proofs.Items.{place_known}
-use Rattle.cpn_standing.specs.Held.{held_from}
-use Rattle.cpn_standing.proofs.HeldClaims.{IsItsClaim, its_claim, counted, one_counted}
+use Rattle.cpn_book.specs.Held.{held_from}
+use Rattle.cpn_book.proofs.HeldClaims.{IsItsClaim, its_claim, counted, one_counted}
 use Rattle.cpn_book.specs.Evaluations.{IsReadyToEvaluate}
 use Rattle.cpn_book.specs.Standings.{IsAt, job_for, events_in}
 use Rattle.cpn_book.specs.declared.standings.Standing as program

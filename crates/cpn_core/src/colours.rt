@@ -61,7 +61,7 @@ impl Colour {
 }
 
 #[cycle(admits)]
-#[tactic(auto, using(crate::proofs::Levels::view_con, crate::proofs::Shapes::view_union))]
+#[tactic(auto, using(crate::proofs::ValueLevels::view_con, crate::proofs::Shapes::view_union))]
 fn has_shape(value: &Value, shape: &Shape) -> bool
     ensures exact { result ≡ shape_holds (value_view value.now) (shape_view shape.now) }
 {

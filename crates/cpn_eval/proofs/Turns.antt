@@ -26,7 +26,7 @@ use Rattle.cpn_eval.specs.declared.refusals.NoValue.{NoValue}
 use Rattle.cpn_eval.specs.declared.refusals.NoValue.TheVariants as reasons
 use Rattle.cpn_eval.specs.Answers.{with_front, Stops}
 use Rattle.cpn_eval.specs.Frames.{PlainFrame, parts, argument, also, otherwise, branches, body_of, arms, forget, start, steps, back, State, at, given_at, setting_in, calls_in, meant_at, rest_of, folded, chosen_by, one, through, frame_view, to, locals_of, frames_of, after_value, after_outcome, after_frame, after_waiting, Goes, Ended}
-use Rattle.cpn_levels.proofs.InscriptionLevels.{view_arm}
+use Rattle.cpn_core.proofs.InscriptionLevels.{view_arm}
 use Rattle.cpn_eval.proofs.Binds.{bind_assoc, bind_gives, bind_ext}
 
 -- the last frame is the first to get the value

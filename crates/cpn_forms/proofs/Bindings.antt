@@ -4,7 +4,7 @@ use Rattle.cpn_definitions.specs.Inscription.{PlainExpr, bind}
 use Rattle.cpn_core.specs.Inscriptions.{expr_view}
 use Rattle.cpn_core.specs.declared.inscriptions.Expr.{Expr}
 use Rattle.cpn_core.specs.declared.inscriptions.Expr.TheVariants as exprs
-use Rattle.cpn_levels.proofs.InscriptionLevels.{view_let}
+use Rattle.cpn_core.proofs.InscriptionLevels.{view_let}
 use Rattle.cpn_typing.specs.Types.{PlainTy}
 use Rattle.cpn_typing.specs.Names.{Checked, ok}
 use Rattle.cpn_typing.specs.Rules.{Typed}

@@ -1,4 +1,4 @@
-pub mod AddedTokens
-pub mod ArcsLeft
-pub mod NumberedWork
-pub mod WorkedOutputs
+mod AddedTokens
+mod ArcsLeft
+mod NumberedWork
+mod WorkedOutputs

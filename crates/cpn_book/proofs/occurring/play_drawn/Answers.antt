@@ -2,7 +2,7 @@
 use Rattle.std.proofs.Common.{[], ◌∷◌, ◌++◌, Some, ap, ◌∙◌, append_assoc, arith, slice_get}
 use Rattle.std.specs.Option.{option_map}
 use Rattle.cpn_runs.specs.FinishedViews.{setup_view}
-use Rattle.cpn_standing.proofs.SetItems.{set_there}
+use Rattle.cpn_book.proofs.SetItems.{set_there}
 use Rattle.cpn_runs.specs.State.{claim_made, claim_completed}
 use Rattle.cpn_book.specs.Standings.{cut_view, events_in}
 use Rattle.cpn_book.specs.States.{cut_events}

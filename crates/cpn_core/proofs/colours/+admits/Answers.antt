@@ -3,7 +3,7 @@ use Rattle.std.proofs.Common.{ap, ap₂, ◌∙◌, sym}
 use Rattle.cpn_definitions.specs.Colour.{has_shape, union_shape}
 use Rattle.cpn_core.specs.Views.{value_view}
 use Rattle.cpn_core.specs.Colours.{shape_view, constructors_view}
-use Rattle.cpn_core.proofs.Levels.{view_con}
+use Rattle.cpn_core.proofs.ValueLevels.{view_con}
 use Rattle.cpn_core.proofs.Shapes.{view_union}
 use Rattle.cpn_core.proofs.colours.+admits.Goals as goal
 

@@ -7,10 +7,10 @@ use Rattle.cpn_runs.specs.HoleRun.{PlainClaim, is_open}
 use Rattle.cpn_runs.specs.State.{PlainSetup, PlainEvent, PlainState, is_held_by}
 use Rattle.cpn_runs.proofs.States.{every_state}
 use Rattle.cpn_log.specs.Logs.{PlainLog}
-use Rattle.cpn_standing.specs.Held.{held_from, AreHeld}
-use Rattle.cpn_standing.specs.Standing.{IsTold}
-use Rattle.cpn_standing.proofs.HeldClaims.{counted, none_counted as none_such}
-use Rattle.cpn_standing.proofs.MovedClocks.{seats_known}
+use Rattle.cpn_book.specs.Held.{held_from, AreHeld}
+use Rattle.cpn_book.specs.StandingRuns.{IsTold}
+use Rattle.cpn_book.proofs.HeldClaims.{counted, none_counted as none_such}
+use Rattle.cpn_book.proofs.MovedClocks.{seats_known}
 
 -- ---- sums
 

@@ -10,7 +10,7 @@ use Rattle.cpn_runs.proofs.Items.{all_joined}
 use Rattle.cpn_runs.proofs.Sequences.{left_joined, marking_left_more}
 use Rattle.cpn_log.specs.Logs.{PlainLog, head_of, started, begin_done, with_status, changed_to, with_committed}
 use Rattle.cpn_log.specs.Kept.{IsKept}
-use Rattle.cpn_standing.specs.Logged.{HasClaims}
+use Rattle.cpn_book.specs.Logged.{HasClaims}
 
 -- ---- two parts, the first of which is done
 

@@ -2,9 +2,9 @@
 -- Source: own choice.
 use Rattle.std.specs.Prelude.{◌≡◌, ℕ, false, List, Option, None}
 use Rattle.cpn_runs.specs.State.{PlainSetup, PlainEvent, PlainState, IsState, owed_cut}
-use Rattle.cpn_standing.specs.Held.{AreHeld}
+use Rattle.cpn_book.specs.Held.{AreHeld}
 use Rattle.cpn_log.specs.Kept.{IsKept}
-use Rattle.cpn_standing.specs.Logged.{HasClaims}
+use Rattle.cpn_book.specs.Logged.{HasClaims}
 use Rattle.cpn_log.specs.Logs.{PlainLog, begin_done}
 
 -- The journal leads to the state, whose claims are those of the log, and the seats hold what they have open. So it is within a

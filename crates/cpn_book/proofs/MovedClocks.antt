@@ -9,11 +9,11 @@ use Rattle.cpn_runs.specs.State.{PlainSetup, PlainState, PlainEvent, PlainEnd, P
 use Rattle.cpn_runs.specs.Run.{Outlook, HasOutlook, IsRun}
 use Rattle.cpn_runs.proofs.Journals.{IsStart, ended_is_run, ended_is_settled}
 use Rattle.cpn_runs.proofs.States.{leads_more, IsClaimOf, every_state}
-use Rattle.cpn_standing.specs.Held.{held_from}
+use Rattle.cpn_book.specs.Held.{held_from}
 use Rattle.cpn_log.specs.Logs.{PlainLog}
-use Rattle.cpn_standing.specs.Standing.{StandsAt}
-use Rattle.cpn_standing.proofs.HeldClaims.{none_held}
-use Rattle.cpn_standing.proofs.LoggedClaims.{unclaimed_left}
+use Rattle.cpn_book.specs.StandingRuns.{StandsAt}
+use Rattle.cpn_book.proofs.HeldClaims.{none_held}
+use Rattle.cpn_book.proofs.LoggedClaims.{unclaimed_left}
 
 -- ---- no seat holds a claim
 

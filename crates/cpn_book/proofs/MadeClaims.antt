@@ -7,14 +7,14 @@ use Rattle.cpn_definitions.specs.Occurrence.{PlainElement}
 use Rattle.cpn_runs.specs.HoleRun.{PlainClaim, is_done}
 use Rattle.cpn_runs.specs.State.{PlainSetup, PlainState, PlainEvent, claim_made, new_claim, is_held_by, IsDrawn, MayClaim, first_state, owed_cut, cut_at}
 use Rattle.cpn_runs.proofs.States.{leads_more}
-use Rattle.cpn_standing.specs.Held.{held_from, AreHeld}
+use Rattle.cpn_book.specs.Held.{held_from, AreHeld}
 use Rattle.cpn_log.specs.Kept.{IsKept}
-use Rattle.cpn_standing.specs.Logged.{HasClaims}
+use Rattle.cpn_book.specs.Logged.{HasClaims}
 use Rattle.cpn_log.specs.Logs.{PlainLog, begin_done}
-use Rattle.cpn_standing.specs.Standing.{StandsAt}
-use Rattle.cpn_standing.proofs.HeldClaims.{none_held, held_more, held_by_another}
-use Rattle.cpn_standing.proofs.SetItems.{set_there, set_elsewhere, set_long}
-use Rattle.cpn_standing.proofs.LoggedClaims.{unclaimed_left, has_one_more, owed_is}
+use Rattle.cpn_book.specs.StandingRuns.{StandsAt}
+use Rattle.cpn_book.proofs.HeldClaims.{none_held, held_more, held_by_another}
+use Rattle.cpn_book.proofs.SetItems.{set_there, set_elsewhere, set_long}
+use Rattle.cpn_book.proofs.LoggedClaims.{unclaimed_left, has_one_more, owed_is}
 
 still_stops : (claims : List PlainClaim) (claim : PlainClaim) → begin_done claims ≡ false → is_done claim.status ≡ false → begin_done (claims ++ claim ∷ []) ≡ false
 still_stops [] claim stops is = is

@@ -26,8 +26,8 @@ use Rattle.cpn_typing.proofs.TermsOfForms.{there_is_meaning}
 use Rattle.cpn_typing.proofs.Consistent.{accepted_parts, same_accepted, declarations_consistent}
 use Rattle.cpn_typing.proofs.MeaningsInNets.{world_of, are_bound}
 use Rattle.cpn_definitions.specs.Sound.{IsSolvable}
-use Rattle.cpn_solvable.specs.Sides.{SidesHave}
-use Rattle.cpn_solvable.proofs.AcceptedSides.{sides_have, sides_at}
+use Rattle.cpn_typing.specs.Sides.{SidesHave}
+use Rattle.cpn_typing.proofs.AcceptedSides.{sides_have, sides_at}
 
 -- ---- what is accepted has a meaning
 

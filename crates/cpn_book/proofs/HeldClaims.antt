@@ -6,7 +6,7 @@ use Rattle.std.proofs.lemmas.List.Sums.{sum_by-cons}
 use Rattle.cpn_runs.specs.HoleRun.{PlainClaim}
 use Rattle.cpn_runs.specs.State.{is_held_by}
 use Rattle.cpn_runs.proofs.Cuts.{AreDone, done_is_not_open}
-use Rattle.cpn_standing.specs.Held.{held_from}
+use Rattle.cpn_book.specs.Held.{held_from}
 
 -- ---- whether a seat has one
 

@@ -10,13 +10,13 @@ use Rattle.cpn_runs.proofs.Items.{all_joined, last_is_at}
 use Rattle.cpn_runs.proofs.States.{leads_more}
 use Rattle.cpn_log.specs.Kept.{IsKept}
 use Rattle.cpn_log.specs.Logs.{PlainLog, begin_done, with_occurred}
-use Rattle.cpn_standing.specs.Held.{AreHeld}
-use Rattle.cpn_standing.specs.Logged.{HasClaims}
-use Rattle.cpn_standing.specs.Standing.{StandsAt}
-use Rattle.cpn_standing.proofs.HeldClaims.{done_hold_none}
-use Rattle.cpn_standing.proofs.LoggedClaims.{changed_behind, has_one_more, has_committed, owed_is}
-use Rattle.cpn_standing.proofs.MadeClaims.{IsNextClaim, may_claim, none_owed_now, own_claim}
-use Rattle.cpn_standing.proofs.MovedClocks.{none_open}
+use Rattle.cpn_book.specs.Held.{AreHeld}
+use Rattle.cpn_book.specs.Logged.{HasClaims}
+use Rattle.cpn_book.specs.StandingRuns.{StandsAt}
+use Rattle.cpn_book.proofs.HeldClaims.{done_hold_none}
+use Rattle.cpn_book.proofs.LoggedClaims.{changed_behind, has_one_more, has_committed, owed_is}
+use Rattle.cpn_book.proofs.MadeClaims.{IsNextClaim, may_claim, none_owed_now, own_claim}
+use Rattle.cpn_book.proofs.MovedClocks.{none_open}
 
 -- ---- no claim stands behind the committed ones
 

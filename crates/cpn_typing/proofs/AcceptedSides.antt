@@ -15,7 +15,7 @@ use Rattle.cpn_typing.specs.Places.{Place, is_closed, misplaced_delay, may_tell_
 use Rattle.cpn_typing.specs.Rules.{Typed, Sides, Part, Spot, part, meets, item_wanted, list_wanted, parts_wanted, two, alike, sides, waits, any_type, ordered, a_list, item_of, part_of, part_number, both_of, on_two_of, equated, compared, joined, put_in_front, both_truths, misplaced, infix_rule, on_one_of, prefix_rule, variable_rule, name_rule, time_rule, Called, does, constructs, calls, nothing_called, called_as, Arguments, all_of, parts_of_types, on_list, predeclared_rule, argument_rule, call_rule, list_rule, if_rule, case_rule}
 use Rattle.cpn_typing.specs.Expressions.{spot_at, typed, typed_form, typed_parts, typed_items, typed_arms, typed_let}
 use Rattle.cpn_typing.proofs.Outcomes.{Accepts, accepts_then, accepts_if}
-use Rattle.cpn_solvable.specs.Sides.{SidesHave}
+use Rattle.cpn_typing.specs.Sides.{SidesHave}
 
 -- ---- steps of a check
 

@@ -9,13 +9,13 @@ use Rattle.cpn_runs.specs.State.{PlainSetup, PlainState, PlainEvent, claim_compl
 use Rattle.cpn_runs.proofs.Cuts.{AreDone, done_owe_none, open_is_not_done}
 use Rattle.cpn_runs.proofs.Sequences.{left_parts}
 use Rattle.cpn_runs.proofs.States.{leads_more, every_state, closed_status}
-use Rattle.cpn_standing.specs.Held.{held_from, AreHeld}
+use Rattle.cpn_book.specs.Held.{held_from, AreHeld}
 use Rattle.cpn_log.specs.Kept.{IsKept}
 use Rattle.cpn_log.specs.Logs.{PlainLog, head_of, begin_done, with_status, with_committed}
-use Rattle.cpn_standing.specs.Standing.{IsTold, StandsAt}
-use Rattle.cpn_standing.proofs.HeldClaims.{held_changed, held_closed, done_hold_none}
-use Rattle.cpn_standing.proofs.SetItems.{set_there, set_elsewhere, set_long}
-use Rattle.cpn_standing.proofs.LoggedClaims.{has_changed, has_committed, has_first, owed_is}
+use Rattle.cpn_book.specs.StandingRuns.{IsTold, StandsAt}
+use Rattle.cpn_book.proofs.HeldClaims.{held_changed, held_closed, done_hold_none}
+use Rattle.cpn_book.proofs.SetItems.{set_there, set_elsewhere, set_long}
+use Rattle.cpn_book.proofs.LoggedClaims.{has_changed, has_committed, has_first, owed_is}
 
 -- an open claim stands behind those that are done
 pub behind_done : (done rest : List PlainClaim) (i : ℕ) (claim : PlainClaim) → AreDone done → slice_get (done ++ rest) i ≡ Some claim → is_open claim.status ≡ true → length done ≤ i
