@@ -1,4 +1,3 @@
 mod AddedTokens
 mod ArcsLeft
 mod NumberedWork
-mod WorkedOutputs
