@@ -1,15 +1,12 @@
 -- What is listed.
-use Rattle.std.proofs.Common.{◌≡◌, ℕ, ◌==◌, Bool, true, false, ◌||◌, List, [], ◌∷◌, ◌++◌, refl, sym, ap, ◌∙◌, subst, eqb-true, arith}
-use Rattle.std.proofs.lemmas.Bool.Decides.{nat_tests}
+use Rattle.std.proofs.Common.{◌≡◌, ℕ, ◌==◌, Bool, true, false, ◌||◌, List, [], ◌∷◌, ◌++◌, refl, sym, ap, ◌∙◌, subst, eqb-true}
 use Rattle.std.specs.List.{list_any}
 use Rattle.cpn_bindable.specs.Known.{is_listed}
-
-either_way : (x y : ℕ) → (y == x) ≡ (x == y)
-either_way x y = grind (arith, nat_tests)
+use Rattle.cpn_definitions.proofs.NumberTests.{equals_either_way}
 
 pub flipped : (xs : List ℕ) (x : ℕ) → list_any (λ y. y == x) xs ≡ is_listed xs x
 flipped [] x = refl
-flipped (y ∷ ys) x = rw (either_way x y) (ap (λ b. (x == y) || b) (flipped ys x))
+flipped (y ∷ ys) x = rw (equals_either_way x y) (ap (λ b. (x == y) || b) (flipped ys x))
 
 -- one that is listed already, and one at the end
 pub listed_already : (xs : List ℕ) (y x : ℕ) → is_listed xs y ≡ true → is_listed xs x ≡ is_listed (y ∷ xs) x

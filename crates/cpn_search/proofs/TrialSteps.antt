@@ -1,9 +1,8 @@
 -- One value of a trial more.
-use Rattle.std.proofs.Common.{◌≡◌, ℕ, suc, ◌+◌, ◌<◌, Bool, true, false, nat_lt, List, ◌∷◌, ◌++◌, drop, length, get_or, Option, Some, None, sym, ap, ◌∙◌, subst, arith, add-one, drop-cons, append_assoc, append-nil}
+use Rattle.std.proofs.Common.{◌≡◌, ℕ, suc, ◌+◌, ◌<◌, Bool, true, false, nat_lt, List, ◌∷◌, ◌++◌, drop, length, get_or, Option, Some, None, sym, ap, ◌∙◌, subst, add-one, drop-cons, append_assoc, append-nil, ltb-true}
 use Rattle.std.specs.Bool.{OnTrue, OnFalse}
 use Rattle.std.specs.List.{list_all}
 use Rattle.std.proofs.lemmas.Bool.{and_parts}
-use Rattle.std.proofs.lemmas.Bool.Decides.{nat_tests}
 use Rattle.std.proofs.lemmas.List.{map-append}
 use Rattle.cpn_definitions.specs.Value.{PlainValue}
 use Rattle.cpn_definitions.specs.Inscription.{PlainPattern}
@@ -21,14 +20,11 @@ use Rattle.cpn_search.specs.Searches.{AreDeclared}
 
 -- ---- declared variables
 
-below : (x k : ℕ) → nat_lt x k ≡ true → x < k
-below x k h = grind (arith, nat_tests)
-
 pub first_declared : (pairs : List PartialPair) (i : ℕ) (p : PartialPair) (k : ℕ) → i < length pairs → p ≡ get_or pairs i p → AreDeclared k (pairs_view (drop i pairs)) → p.variable < k
 first_declared pairs i p k lt is declared =
     let split : drop i pairs ≡ p ∷ drop (suc i) pairs = drop-cons pairs i p lt ∙ ap (λ x. x ∷ drop (suc i) pairs) (sym is) in
     let parts = and_parts (nat_lt p.variable k) (list_all (λ x. nat_lt x k) (variables_in (pairs_view (drop (suc i) pairs)))) (subst (λ (ps : List PartialPair). list_all (λ x. nat_lt x k) (variables_in (pairs_view ps)) ≡ true) split declared.all) in
-    below p.variable k parts.0
+    ltb-true p.variable k parts.0
 
 pub others_declared : (pairs : List PartialPair) (i : ℕ) (p : PartialPair) (k : ℕ) → i < length pairs → p ≡ get_or pairs i p → AreDeclared k (pairs_view (drop i pairs)) → AreDeclared k (pairs_view (drop (i + 1) pairs))
 others_declared pairs i p k lt is declared =

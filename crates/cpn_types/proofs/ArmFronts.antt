@@ -12,8 +12,10 @@ use Rattle.cpn_declared.specs.TypeViews.{ty_view}
 use Rattle.cpn_forms.specs.BoundViews.{bound_view}
 use Rattle.cpn_trees.specs.declared.trees.Arm.{Arm}
 use Rattle.cpn_trees.specs.declared.trees.Arm as arm
+use Rattle.cpn_trees.proofs.FormViews.{view_arm}
 use Rattle.cpn_definitions.specs.Inscription.{PlainPattern, PlainExpr, PlainArms, no_arms, more_arms}
 use Rattle.cpn_definitions.specs.Inscription as inscription
+use Rattle.cpn_definitions.proofs.ListItems.{map_more}
 use Rattle.cpn_typing.specs.Types.{PlainTy}
 use Rattle.cpn_typing.specs.Names.{Declared, Scope, Refusal, Checked, ok, refused, ◌>>=◌}
 use Rattle.cpn_typing.specs.Places.{Place}
@@ -79,14 +81,6 @@ arms_done ds place sc subject arms i w xs le =
     let d : drop i arms ≡ [] = drop_of_length-le arms le in
     rw (d, arms_all xs) refl
 
--- the same for what the program holds
-map_more : {A B : Type 0} (f : A → B) (xs : List A) (x : A) → map f (xs ++ x ∷ []) ≡ map f xs ++ f x ∷ []
-map_more f [] x = refl
-map_more f (y ∷ xs) x = ap (λ ys. f y ∷ ys) (map_more f xs x)
-
-arm_is : (x : Arm) → arm_view x ≡ (pat_view x.pattern, ast_view x.result)
-arm_is x = search (rules, arm.the_lemmas)
-
 made_arm : (x : core_arm.Arm) → core.arm_view x ≡ (core.pattern_view x.pat, core.expr_view x.result)
 made_arm x = search (rules, core_arm.the_lemmas)
 
@@ -98,8 +92,8 @@ pub arms_step : (ds : Declared) (place : Place) (sc now : Scope) (subject : Plai
     → before_arms (map core.arm_view ys) (typed_arms ds place (arms_from (map arm_view (drop (i + 1) arms))) sc subject (Some (ty_view r.ty))) ≡ all
 arms_step ds place sc now subject arms i x v w xs ys made locals r all n u y z lt e f g h =
     arm_step ds place sc (sc ++ scope_view locals) subject arms i x w (map core.arm_view xs) (map core.arm_view ys) (bound_view locals made.pat) (typed_view r) all lt e
-    (ap (λ p. typed_pattern ds p.0 sc subject) (arm_is x) ∙ ap (λ s. typed_pattern ds (pat_view x.pattern) s subject) (sym n) ∙ f)
+    (ap (λ p. typed_pattern ds p.0 sc subject) (view_arm x) ∙ ap (λ s. typed_pattern ds (pat_view x.pattern) s subject) (sym n) ∙ f)
     refl
-    (ap (λ p. typed ds place p.1 (sc ++ scope_view locals) w) (arm_is x) ∙ ap (λ s. typed ds place (ast_view x.result) (s ++ scope_view locals) w) (sym n) ∙ ap (λ t. typed ds place (ast_view x.result) (now ++ scope_view locals) t) (sym u) ∙ g)
+    (ap (λ p. typed ds place p.1 (sc ++ scope_view locals) w) (view_arm x) ∙ ap (λ s. typed ds place (ast_view x.result) (s ++ scope_view locals) w) (sym n) ∙ ap (λ t. typed ds place (ast_view x.result) (now ++ scope_view locals) t) (sym u) ∙ g)
     (ap (map core.arm_view) y ∙ map_more core.arm_view xs made ∙ ap (λ p. map core.arm_view xs ++ p ∷ []) (made_arm made ∙ ap (λ q. (core.pattern_view made.pat, core.expr_view q)) z))
     h

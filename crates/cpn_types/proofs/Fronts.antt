@@ -4,6 +4,7 @@ use Rattle.cpn_trees.specs.Trees.{asts_from}
 use Rattle.cpn_trees.specs.AstViews.{ast_view}
 use Rattle.cpn_trees.specs.declared.trees.Ast.{Ast}
 use Rattle.cpn_definitions.specs.Inscription.{PlainExpr, PlainExprs, no_exprs, more_exprs, exprs_from}
+use Rattle.cpn_definitions.proofs.ListItems.{map_more}
 use Rattle.cpn_core.specs.Inscriptions.{expr_view}
 use Rattle.cpn_core.specs.declared.inscriptions.Expr.{Expr}
 use Rattle.cpn_typing.specs.Types.{PlainTy, PlainTys, no_types, more_types, types_from}
@@ -68,11 +69,6 @@ parts_in_front es ts r (refused x) = refl
 items_in_front : (es : List PlainExpr) (r : Typed) (c : Checked Items) → before_items (es ++ r.expr ∷ []) c ≡ before_items es (c >>= λ rest. ok (record { items = more_exprs r.expr rest.items; item_type = rest.item_type }))
 items_in_front es r (ok p) = rw (exprs_more es r.expr p.items) refl
 items_in_front es r (refused x) = refl
-
--- the same for what the program holds
-map_more : {A B : Type 0} (f : A → B) (xs : List A) (x : A) → map f (xs ++ x ∷ []) ≡ map f xs ++ f x ∷ []
-map_more f [] x = refl
-map_more f (y ∷ xs) x = ap (λ ys. f y ∷ ys) (map_more f xs x)
 
 pub parts_more : (ds : Declared) (place : Place) (sc : Scope) (xs : List Ast) (i : ℕ) (x : Ast) (ws : List Ty) (j : ℕ) (es : List PlainExpr) (ts : List PlainTy) (r : Typed) (all : Checked Parts)
     → i < length xs → x ≡ get_or xs i x → typed ds place (ast_view x) sc (first_wanted (tys_view (drop j ws))) ≡ ok r

@@ -1,5 +1,5 @@
 -- The values of a `let`, one after another.
-use Rattle.std.proofs.Common.{◌≡◌, ℕ, ◌+◌, ◌<◌, ◌≤◌, List, [], ◌∷◌, ◌++◌, map, length, get_or, take, drop, min, None, refl, sym, ap, ◌∙◌, subst, string_bytes, arith, rules, add-one, drop-cons, Result, Ok, Err, Vec, Global}
+use Rattle.std.proofs.Common.{◌≡◌, ℕ, ◌+◌, ◌<◌, ◌≤◌, List, [], ◌∷◌, ◌++◌, map, length, get_or, take, drop, min, None, refl, sym, ap, ◌∙◌, subst, string_bytes, arith, add-one, drop-cons, Result, Ok, Err, Vec, Global}
 use Rattle.std.specs.Result.{IsErrAnd}
 use Rattle.std.proofs.Math.ListN.{drop_of_length-le}
 use Rattle.std.proofs.lemmas.List.{map-append, length-take, take-append-le}
@@ -8,7 +8,8 @@ use Rattle.cpn_core.specs.declared.inscriptions.Expr.{Expr}
 use Rattle.cpn_core.specs.Inscriptions.{expr_view}
 use Rattle.cpn_trees.specs.Trees.{PlainAst}
 use Rattle.cpn_trees.specs.AstViews.{ast_view, local_view, locals_from}
-use Rattle.cpn_trees.specs.declared.trees.LocalValue.{LocalValue, the_lemmas}
+use Rattle.cpn_trees.specs.declared.trees.LocalValue.{LocalValue}
+use Rattle.cpn_trees.proofs.FormViews.{view_local}
 use Rattle.cpn_typing.specs.Names.{Name, Scope, local_of, Refusal, Checked, ok, refused, ◌>>=◌}
 use Rattle.cpn_typing.specs.Rules.{Typed}
 use Rattle.cpn_typing.specs.Multisets.{Site, marked_let}
@@ -20,9 +21,6 @@ use Rattle.cpn_declared.specs.TypeViews.{ty_view}
 use Rattle.cpn_forms.specs.declared.scopes.Local.{Local as Here}
 use Rattle.cpn_declared.specs.declared.refusals.TypeError.{TypeError}
 use Rattle.cpn_types.specs.Sites.{value_at, all_bound, LetAnswers}
-
-pub view_local : (v : LocalValue) → local_view v ≡ (string_bytes v.name, ast_view v.value)
-view_local v = search (rules, the_lemmas)
 
 -- around what is checked in the inner scope
 abbrev pub around : List PlainExpr → Checked ArcInscription → Checked ArcInscription

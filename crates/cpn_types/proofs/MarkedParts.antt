@@ -1,12 +1,13 @@
 -- The parts of a sum, and the arms of a `case` over tokens, one after another.
-use Rattle.std.proofs.Common.{◌≡◌, ℕ, ◌+◌, ◌<◌, ◌≤◌, List, [], ◌∷◌, ◌++◌, map, length, get_or, drop, refl, sym, ap, ◌∙◌, rules, add-one, drop-cons}
+use Rattle.std.proofs.Common.{◌≡◌, ℕ, ◌+◌, ◌<◌, ◌≤◌, List, [], ◌∷◌, ◌++◌, map, length, get_or, drop, refl, sym, ap, ◌∙◌, add-one, drop-cons}
 use Rattle.std.proofs.Math.ListN.{drop_of_length-le}
 use Rattle.cpn_definitions.specs.Inscription.{PlainPattern, ArcInscription, ArcInscriptions, no_inscriptions, more_inscriptions, inscriptions_from, ArcArms, no_arc_arms, more_arc_arms, arc_arms_from}
 use Rattle.cpn_trees.specs.Trees.{PlainAst, PlainPat, asts_from}
 use Rattle.cpn_trees.specs.PatViews.{pat_view}
 use Rattle.cpn_trees.specs.AstViews.{ast_view, arm_view, arms_from}
 use Rattle.cpn_trees.specs.declared.trees.Ast.{Ast}
-use Rattle.cpn_trees.specs.declared.trees.Arm.{Arm, the_lemmas}
+use Rattle.cpn_trees.specs.declared.trees.Arm.{Arm}
+use Rattle.cpn_trees.proofs.FormViews.{view_arm}
 use Rattle.cpn_typing.specs.Types.{PlainTy}
 use Rattle.cpn_typing.specs.Names.{Scope, Refusal, Checked, ok, refused, ◌>>=◌}
 use Rattle.cpn_typing.specs.PatternRules.{BoundPattern, typed_pattern}
@@ -67,9 +68,6 @@ pub last_part : (g : Site) (ts : List Ast) (i : ℕ) (sc : Scope) (ms : List Arc
 last_part g ts i sc ms whole le before = before ∙ ap (λ xs. with_front ms (marked_each g (asts_from (map ast_view xs)) sc)) (drop_of_length-le ts le) ∙ ap ok (front_alone ms)
 
 -- ---- the arms of a `case`
-
-pub view_arm : (arm : Arm) → arm_view arm ≡ (pat_view arm.pattern, ast_view arm.result)
-view_arm arm = search (rules, the_lemmas)
 
 abbrev pub arms_ahead_of : List (PlainPattern × ArcInscription) → ArcArms → ArcArms
 arms_ahead_of [] rest = rest

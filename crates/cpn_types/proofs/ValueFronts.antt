@@ -4,7 +4,9 @@ use Rattle.std.proofs.lemmas.List.{take-append-le}
 use Rattle.cpn_trees.specs.AstViews.{locals_from, local_view, ast_view}
 use Rattle.cpn_trees.specs.declared.trees.LocalValue.{LocalValue}
 use Rattle.cpn_trees.specs.declared.trees.LocalValue as local_value
+use Rattle.cpn_trees.proofs.FormViews.{view_local}
 use Rattle.cpn_definitions.specs.Inscription.{PlainExpr, bind}
+use Rattle.cpn_definitions.proofs.ListItems.{map_more}
 use Rattle.cpn_core.specs.Inscriptions.{expr_view}
 use Rattle.cpn_core.specs.declared.inscriptions.Expr.{Expr}
 use Rattle.cpn_forms.specs.declared.scopes.Local.{Local}
@@ -57,13 +59,6 @@ pub body_refused : (q : Option Refusal) (es : List PlainExpr) (c : Checked Typed
 body_refused None es c h = tt
 body_refused (Some q) es c h = ap (around_rest es) h
 
-map_more : {A B : Type 0} (f : A → B) (xs : List A) (x : A) → map f (xs ++ x ∷ []) ≡ map f xs ++ f x ∷ []
-map_more f [] x = refl
-map_more f (y ∷ xs) x = ap (λ ys. f y ∷ ys) (map_more f xs x)
-
-local_value_is : (x : LocalValue) → local_view x ≡ (string_bytes x.name, ast_view x.value)
-local_value_is x = search (rules, local_value.the_lemmas)
-
 -- one more value, which those behind it see
 pub values_step : (ds : Declared) (place : Place) (now now2 next : List Local) (values : List LocalValue) (i : ℕ) (x : LocalValue) (es es2 : List Expr) (r : program.Typed) (name : Bor (List ℕ)) (body : Scope → Checked Typed) (all : Checked Typed)
     → i < length values → x ≡ get_or values i x → typed ds place (ast_view x.value) (scope_view now) None ≡ ok (typed_view r)
@@ -72,10 +67,10 @@ pub values_step : (ds : Declared) (place : Place) (now now2 next : List Local) (
     → around_rest (map expr_view es2) (typed_let ds place (locals_from (map local_view (drop (i + 1) values))) (scope_view next) body) ≡ all
 values_step ds place now now2 next values i x es es2 r name body all lt e f y m n s h =
     value_step ds place (scope_view now) (scope_view next) values i x (map expr_view es) (map expr_view es2) (typed_view r) body all lt e
-    (ap (λ p. typed ds place p.1 (scope_view now) None) (local_value_is x) ∙ f)
+    (ap (λ p. typed ds place p.1 (scope_view now) None) (view_local x) ∙ f)
     (ap (map expr_view) y ∙ map_more expr_view es r.expr)
     (ap scope_view n ∙ ap (λ l. scope_view (l ++ record { name = name; ty = r.ty } ∷ [])) m ∙ map_more _ now (record { name = name; ty = r.ty })
-    ∙ ap (λ p. scope_view now ++ local_of p (ty_view r.ty) ∷ []) (s ∙ ap (λ p. p.0) (sym (local_value_is x))))
+    ∙ ap (λ p. scope_view now ++ local_of p (ty_view r.ty) ∷ []) (s ∙ ap (λ p. p.0) (sym (view_local x))))
     h
 
 pub take_front : {A : Type 0} (n : ℕ) (xs ys zs ws : List A) (x : A) → n ≤ length xs → ys ≡ xs → zs ≡ ys ++ x ∷ [] → take n xs ≡ ws → take n zs ≡ ws
