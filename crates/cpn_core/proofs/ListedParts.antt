@@ -7,7 +7,7 @@ use Rattle.cpn_definitions.specs.Colour.{PlainShapes, list_shape}
 use Rattle.cpn_core.specs.declared.colours.Shape.{Shape}
 use Rattle.cpn_core.specs.declared.colours.Shape.TheViews as views
 use Rattle.cpn_core.specs.Colours.{shape_view, shapes_view, constructors_view}
-use Rattle.cpn_core.specs.ShapeValues.{values_in, rows_in, constructed_in, headed, lists, count_of, count_of_rows, count_of_constructed}
+use Rattle.cpn_core.specs.ShapeValues.{values_in, rows_in, constructed_in, lists, count_of, count_of_rows, count_of_constructed}
 use Rattle.cpn_core.proofs.ShapeCounts.{values_counted, rows_counted}
 use Rattle.cpn_core.proofs.ShapeMembers.{no_item}
 use Rattle.cpn_core.proofs.ShapeLevels.{shape_list}
@@ -16,19 +16,6 @@ use Rattle.cpn_core.proofs.ShapeLevels.{shape_list}
 
 pub no_rows : (ss : PlainShapes) → count_of_rows ss ≡ 0 → rows_in ss ≡ []
 no_rows ss zero_rows = nil_from_length (rows_in ss) (rows_counted ss ∙ zero_rows)
-
--- from the last shape on, those of one shape more have its values ahead
-pub rows_go_on
-    : (ss : List Shape) (done at : ℕ) (s : Shape)
-    → done < length ss
-    → at ≡ length ss - 1 - done
-    → s ≡ get_or ss at s
-    → rows_in (shapes_view (drop (length ss - (done + 1)) ss)) ≡ headed (values_in (shape_view s)) (rows_in (shapes_view (drop (length ss - done) ss)))
-rows_go_on ss done at s lt is es =
-    let here : length ss - (done + 1) ≡ at = omega arith in
-    let later : length ss - done ≡ suc at = omega arith in
-    let ds : drop at ss ≡ s ∷ drop (suc at) ss = drop-cons ss at s (omega arith) ∙ ap (λ x. x ∷ drop (suc at) ss) (sym es) in
-    rw (here, later, ds) refl
 
 -- where there are a few rows, but some, there are a few values of each shape
 few_of_two : (a b m : ℕ) → a * b ≤ m → 0 < a * b → (a ≤ m) × (b ≤ m) × (0 < b)

@@ -9,26 +9,10 @@ use Rattle.std.specs.declared.alloc.Global.{Global}
 use Rattle.std.proofs.lemmas.Bool.{or_parts}
 use Rattle.indexmap.specs.IndexMap.{insert_entry}
 use Rattle.cpn_core.specs.declared.colours.Colour.{Colour}
-use Rattle.cpn_typing.specs.ColourSets.{is_there, is_new, with_new}
-use Rattle.cpn_typing.specs.Names.{Name, predeclared_named, duplicate, Refusal, ok, refused, accepted_if}
+use Rattle.cpn_typing.specs.ColourSets.{is_there, is_new}
+use Rattle.cpn_typing.specs.Names.{Name, predeclared_named, refused}
 use Rattle.cpn_declared.specs.DeclsViews.{colour_entry, meaning_entry, meaning_view}
 use Rattle.cpn_declared.specs.declared.meanings.Meaning.{Meaning}
-
--- ---- accepted or refused
-
-accept : {A : Type 0} (b : Bool) (r : Refusal) (x : A) → b ≡ true → accepted_if b r x ≡ ok x
-accept true r x h = refl
-accept false r x h = cc
-
-refuse : {A : Type 0} (b : Bool) (r : Refusal) (x : A) → b ≡ false → accepted_if b r x ≡ refused r
-refuse true r x h = cc
-refuse false r x h = refl
-
-pub new_accepted : (n : Name) (taken : List Name) → is_new n taken ≡ true → with_new n taken ≡ ok (n ∷ taken)
-new_accepted n taken h = accept (is_new n taken) (duplicate n) (n ∷ taken) h
-
-pub old_refused : (n : Name) (taken : List Name) → is_new n taken ≡ false → with_new n taken ≡ refused (duplicate n)
-old_refused n taken h = refuse (is_new n taken) (duplicate n) (n ∷ taken) h
 
 -- ---- what a map tells
 

@@ -140,11 +140,6 @@ each_flat P f (x ∷ xs) all = each_appended P (f x) (flat_map f xs) all.0 (each
 
 -- ---- rising lists
 
-pub rises_filtered : {X : Type 0} (c : X → X → Ordering) (p : X → Bool) (xs : List X) → Rises c xs → Rises c (filter p xs)
-rises_filtered c p [] h = tt
-rises_filtered c p (x ∷ xs) h =
-    cond_both (p x) (x ∷ filter p xs) (filter p xs) (Rises c) (λ _. (each_filtered (λ y. c x y ≡ Less) p xs h.0, rises_filtered c p xs h.1)) (λ _. rises_filtered c p xs h.1)
-
 pub rises_mapped : {X Y : Type 0} (c : X → X → Ordering) (d : Y → Y → Ordering) (f : X → Y) (xs : List X) → ((x y : X) → c x y ≡ Less → d (f x) (f y) ≡ Less) → Rises c xs → Rises d (map f xs)
 rises_mapped c d f [] so h = tt
 rises_mapped c d f (x ∷ xs) so h =

@@ -33,8 +33,3 @@ pub needed_same : (x y : Needed) → needed_cmp x y ≡ Equal → x ≡ y
 needed_same x y h =
     let parts = equal_parts x.place y.place x.value y.value x.offset y.offset h in
     let e : record { place = x.place; value = x.value; offset = x.offset } ≡ y = ap₂ (λ p v. record { place = p; value = v; offset = x.offset }) parts.places parts.values ∙ ap (λ i. record { place = y.place; value = y.value; offset = i }) parts.numbers in e
-
-pub made_same : (x y : Made) → made_cmp x y ≡ Equal → x ≡ y
-made_same x y h =
-    let parts = equal_parts x.place y.place x.value y.value x.stamp y.stamp h in
-    let e : record { place = x.place; value = x.value; stamp = x.stamp } ≡ y = ap₂ (λ p v. record { place = p; value = v; stamp = x.stamp }) parts.places parts.values ∙ ap (λ i. record { place = y.place; value = y.value; stamp = i }) parts.numbers in e

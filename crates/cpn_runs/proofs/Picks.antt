@@ -31,11 +31,6 @@ pub latest_at_least : (t s : ℕ) (ss : List ℕ) → IsAtMostEach s ss → begi
 latest_at_least t s [] below found = absurd cc
 latest_at_least t s (r ∷ rs) below found = cond_both (begins_by t rs) (latest_stamp t rs) r (λ x. s ≤ x) (λ h. latest_at_least t s rs below.1 h) (λ _. below.0)
 
--- the stamp that is taken is not above the threshold
-latest_by : (t : ℕ) (ss : List ℕ) → begins_by t ss ≡ true → latest_stamp t ss ≤ t
-latest_by t [] found = absurd cc
-latest_by t (s ∷ ss) found = cond_both (begins_by t ss) (latest_stamp t ss) s (λ r. r ≤ t) (λ h. latest_by t ss h) (λ _. leb-true s t found)
-
 -- a stamp stands ahead of those that are all above a threshold that it is not above
 pub ahead_of : (t s : ℕ) (rs : List ℕ) → s ≤ t → begins_by t rs ≡ false → with_stamp s rs ≡ s ∷ rs
 ahead_of t s [] low none = refl

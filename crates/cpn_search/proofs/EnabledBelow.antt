@@ -1,6 +1,6 @@
 -- What a search finds transition by transition, and that it has all enabled elements once it has been through all
 -- transitions.
-use Rattle.std.proofs.Common.{◌≡◌, ℕ, ◌+◌, ◌<◌, List, [], ◌++◌, length, sym, ap, ◌∙◌, subst, ⊎_elim, arith, Less, ltb-true}
+use Rattle.std.proofs.Common.{◌≡◌, ℕ, ◌+◌, ◌<◌, List, ◌++◌, length, sym, ap, ◌∙◌, subst, ⊎_elim, arith, Less, ltb-true}
 use Rattle.std.specs.Ordering.{ordering_then}
 use Rattle.std.specs.List.{AllByRecursion}
 use Rattle.std.proofs.lemmas.Bool.{cases_lt}
@@ -17,9 +17,6 @@ use Rattle.cpn_search.proofs.LeastTimes.{from_clock, from_start}
 -- an entry of a lower transition comes first
 lower_before : (x y : PlainEntry) → x.element.transition < y.element.transition → entry_cmp x y ≡ Less
 lower_before x y lt = ap (λ o. ordering_then o (binding_cmp x.element.binding y.element.binding)) (compared_less x.element.transition y.element.transition lt)
-
-pub none_below : (n : PlainNet) (m : Marking) (clock : ℕ) → EnabledBelow n m clock 0 []
-none_below n m clock = record { rising = tt; exact = λ x. (λ h. absurd (in_from_contains [] x h), λ h. absurd (omega (arith, h.0))) }
 
 -- ---- one transition more
 

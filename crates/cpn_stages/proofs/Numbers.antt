@@ -11,13 +11,6 @@ among_from_in xs x h = some_passes (λ y. x == y) xs x h (equals_itself x)
 pub in_from_among : (xs : List ℕ) (x : ℕ) → is_among xs x ≡ true → IsIn x xs
 in_from_among xs x h = let one = one_that_passes (λ y. x == y) xs h in subst (λ y. IsIn y xs) (sym (eqb-true x one.0 one.2)) one.1
 
-pub not_among : (xs : List ℕ) (x : ℕ) → (IsIn x xs → ⊥) → is_among xs x ≡ false
-not_among xs x not_in = split (is_among xs x) refl
-  where
-    split : (b : Bool) → is_among xs x ≡ b → b ≡ false
-    split true is = absurd (not_in (in_from_among xs x is))
-    split false is = refl
-
 pub in_without : (others xs : List ℕ) (x : ℕ) → IsIn x xs → is_among others x ≡ false → IsIn x (those_without others xs)
 in_without others xs x h not_in = in_filter (λ y. not (is_among others y)) xs x h (ap not not_in)
 

@@ -1,5 +1,5 @@
 -- The arms of a `case` that are checked already, in front of what the rules say of the rest.
-use Rattle.std.proofs.Common.{◌≡◌, ℕ, suc, ◌+◌, ◌<◌, ◌≤◌, drop_of_length-le, List, [], ◌∷◌, ◌++◌, length, get_or, drop, map, refl, sym, ap, ◌∙◌, add-one, rules, drop-cons, Option, Some, None}
+use Rattle.std.proofs.Common.{◌≡◌, ℕ, suc, ◌+◌, ◌<◌, ◌≤◌, drop_of_length-le, List, [], ◌∷◌, ◌++◌, length, get_or, drop, map, refl, sym, ap, ◌∙◌, add-one, rules, drop-cons, Option, Some}
 use Rattle.cpn_trees.specs.AstViews.{arms_from, arm_view, ast_view}
 use Rattle.cpn_trees.specs.PatViews.{pat_view}
 use Rattle.cpn_core.specs.Inscriptions as core
@@ -17,12 +17,11 @@ use Rattle.cpn_definitions.specs.Inscription.{PlainPattern, PlainExpr, PlainArms
 use Rattle.cpn_definitions.specs.Inscription as inscription
 use Rattle.cpn_definitions.proofs.ListItems.{map_more}
 use Rattle.cpn_typing.specs.Types.{PlainTy}
-use Rattle.cpn_typing.specs.Names.{Declared, Scope, Refusal, Checked, ok, refused, ◌>>=◌}
+use Rattle.cpn_typing.specs.Names.{Declared, Scope, Checked, ok, refused, ◌>>=◌}
 use Rattle.cpn_typing.specs.Places.{Place}
 use Rattle.cpn_typing.specs.PatternRules.{BoundPattern, typed_pattern}
 use Rattle.cpn_typing.specs.Rules.{Typed, Arms}
 use Rattle.cpn_typing.specs.Expressions.{typed, typed_arms}
-use Rattle.cpn_typing.specs.Answers.{Refuses}
 
 abbrev pub arms_before : List (PlainPattern × PlainExpr) → PlainArms → PlainArms
 arms_before [] arms = arms
@@ -51,26 +50,6 @@ arm_step ds place sc inner subject arms i x w xs ys b r all lt e f n g y h =
     let g2 : typed ds place (arm_view x).1 (sc ++ b.locals) w ≡ ok r = ap (λ s. typed ds place (arm_view x).1 s w) (sym n) ∙ g in
     let k = rw (d, f, g2) at h in
     rw (add-one i, y) (arms_in_front xs b.pattern r (typed_arms ds place (arms_from (map arm_view (drop (suc i) arms))) sc subject (Some r.type_of)) ∙ k)
-
--- the refusal of an arm is that of all
-pub pattern_refused : (q : Option Refusal) (ds : Declared) (place : Place) (sc : Scope) (subject : PlainTy) (arms : List Arm) (i : ℕ) (x : Arm) (w : Option PlainTy) (xs : List (PlainPattern × PlainExpr)) (all : Checked Arms)
-    → i < length arms → x ≡ get_or arms i x → Refuses q (typed_pattern ds (arm_view x).0 sc subject)
-    → before_arms xs (typed_arms ds place (arms_from (map arm_view (drop i arms))) sc subject w) ≡ all → Refuses q all
-pattern_refused None ds place sc subject arms i x w xs all lt e f h = tt
-pattern_refused (Some q) ds place sc subject arms i x w xs all lt e f h =
-    let d : drop i arms ≡ x ∷ drop (suc i) arms = drop-cons arms i x lt ∙ ap (λ z. z ∷ drop (suc i) arms) (sym e) in
-    let k = rw (d, f) at h in
-    sym k
-
-pub result_refused : (q : Option Refusal) (ds : Declared) (place : Place) (sc inner : Scope) (subject : PlainTy) (arms : List Arm) (i : ℕ) (x : Arm) (w : Option PlainTy) (xs : List (PlainPattern × PlainExpr)) (b : BoundPattern) (all : Checked Arms)
-    → i < length arms → x ≡ get_or arms i x → typed_pattern ds (arm_view x).0 sc subject ≡ ok b → inner ≡ sc ++ b.locals → Refuses q (typed ds place (arm_view x).1 inner w)
-    → before_arms xs (typed_arms ds place (arms_from (map arm_view (drop i arms))) sc subject w) ≡ all → Refuses q all
-result_refused None ds place sc inner subject arms i x w xs b all lt e f n g h = tt
-result_refused (Some q) ds place sc inner subject arms i x w xs b all lt e f n g h =
-    let d : drop i arms ≡ x ∷ drop (suc i) arms = drop-cons arms i x lt ∙ ap (λ z. z ∷ drop (suc i) arms) (sym e) in
-    let g2 : typed ds place (arm_view x).1 (sc ++ b.locals) w ≡ refused q = ap (λ s. typed ds place (arm_view x).1 s w) (sym n) ∙ g in
-    let k = rw (d, f, g2) at h in
-    sym k
 
 arms_all : (xs : List (PlainPattern × PlainExpr)) → arms_before xs no_arms ≡ inscription.arms_from xs
 arms_all [] = refl

@@ -1,5 +1,5 @@
 -- The values of a `let` that are checked already, around what the rules say of the rest.
-use Rattle.std.proofs.Common.{◌≡◌, ℕ, suc, ◌+◌, ◌<◌, ◌≤◌, drop_of_length-le, List, [], ◌∷◌, ◌++◌, length, get_or, drop, map, refl, sym, ap, ◌∙◌, add-one, length-append, arith, rules, take, Bor, string_bytes, drop-cons, Option, Some, None}
+use Rattle.std.proofs.Common.{◌≡◌, ℕ, suc, ◌+◌, ◌<◌, ◌≤◌, List, [], ◌∷◌, ◌++◌, length, get_or, drop, map, refl, sym, ap, ◌∙◌, add-one, length-append, arith, rules, take, Bor, string_bytes, drop-cons, None}
 use Rattle.std.proofs.lemmas.List.{take-append-le}
 use Rattle.cpn_trees.specs.AstViews.{locals_from, local_view, ast_view}
 use Rattle.cpn_trees.specs.declared.trees.LocalValue.{LocalValue}
@@ -14,11 +14,10 @@ use Rattle.cpn_forms.specs.declared.typed.Typed as program
 use Rattle.cpn_forms.specs.ScopeViews.{scope_view}
 use Rattle.cpn_forms.specs.TypedViews.{typed_view}
 use Rattle.cpn_declared.specs.TypeViews.{ty_view}
-use Rattle.cpn_typing.specs.Names.{Declared, Scope, local_of, Refusal, Checked, ok, refused, ◌>>=◌}
+use Rattle.cpn_typing.specs.Names.{Declared, Scope, local_of, Checked, ok, refused, ◌>>=◌}
 use Rattle.cpn_typing.specs.Places.{Place}
 use Rattle.cpn_typing.specs.Rules.{Typed}
 use Rattle.cpn_typing.specs.Expressions.{typed, typed_let}
-use Rattle.cpn_typing.specs.Answers.{Refuses}
 use Rattle.cpn_typing.specs.Bindings.{bind_all}
 use Rattle.cpn_typing.proofs.Bindings.{bind_more}
 
@@ -39,25 +38,6 @@ value_step ds place now next values i x es es2 r body all lt e f y n h =
     let d : drop i values ≡ x ∷ drop (suc i) values = drop-cons values i x lt ∙ ap (λ z. z ∷ drop (suc i) values) (sym e) in
     let k = rw (d, f) at h in
     rw (add-one i, y, n) (value_in_front es r (typed_let ds place (locals_from (map local_view (drop (suc i) values))) (now ++ local_of (local_view x).0 r.type_of ∷ []) body) ∙ k)
-
-pub value_refused : (q : Option Refusal) (ds : Declared) (place : Place) (now : Scope) (values : List LocalValue) (i : ℕ) (x : LocalValue) (es : List PlainExpr) (body : Scope → Checked Typed) (all : Checked Typed)
-    → i < length values → x ≡ get_or values i x → Refuses q (typed ds place (local_view x).1 now None)
-    → around_rest es (typed_let ds place (locals_from (map local_view (drop i values))) now body) ≡ all → Refuses q all
-value_refused None ds place now values i x es body all lt e f h = tt
-value_refused (Some q) ds place now values i x es body all lt e f h =
-    let d : drop i values ≡ x ∷ drop (suc i) values = drop-cons values i x lt ∙ ap (λ z. z ∷ drop (suc i) values) (sym e) in
-    let k = rw (d, f) at h in
-    sym k
-
--- where no value is left, the body is what is around
-pub values_done : (ds : Declared) (place : Place) (now : Scope) (values : List LocalValue) (i : ℕ) (body : Scope → Checked Typed) → length values ≤ i → typed_let ds place (locals_from (map local_view (drop i values))) now body ≡ body now
-values_done ds place now values i body le =
-    let d : drop i values ≡ [] = drop_of_length-le values le in
-    rw d refl
-
-pub body_refused : (q : Option Refusal) (es : List PlainExpr) (c : Checked Typed) → Refuses q c → Refuses q (around_rest es c)
-body_refused None es c h = tt
-body_refused (Some q) es c h = ap (around_rest es) h
 
 -- one more value, which those behind it see
 pub values_step : (ds : Declared) (place : Place) (now now2 next : List Local) (values : List LocalValue) (i : ℕ) (x : LocalValue) (es es2 : List Expr) (r : program.Typed) (name : Bor (List ℕ)) (body : Scope → Checked Typed) (all : Checked Typed)

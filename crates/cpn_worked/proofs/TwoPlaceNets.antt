@@ -189,10 +189,6 @@ module _ (timed guard : Bool) (vars : ℕ) (arcs : List (ℕ × ℕ)) (n : Plain
 
 -- ---- markings
 
--- a marking of the two places without tokens is one
-pub empty_marking : (timed : Bool) → IsMarking (two_places timed) ([] ∷ [] ∷ [])
-empty_marking timed = (tt, refl, (tt, refl, tt))
-
 -- and it stays one with a token more that the place may hold
 pub marking_with
     : (timed : Bool) (p stamp : ℕ) (v : PlainValue) (m : Marking)
