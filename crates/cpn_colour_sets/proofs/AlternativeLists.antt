@@ -84,7 +84,6 @@ names_of_constructors id k (c ∷ cs) = ap (λ rest. c.name ∷ rest) (names_of_
 
 constructors_behind : (id k : ℕ) (cs : List NamedConstructor) (c : NamedConstructor) → constructors_from id k (cs ++ c ∷ []) ≡ constructors_from id k cs ++ constructors_from id (k + length cs) (c ∷ [])
 constructors_behind id k [] c = ap (λ j. constructors_from id j (c ∷ [])) (sym (add-zero k))
-  where
 constructors_behind id k (d ∷ cs) c =
     ap (λ rest. record { name = d.name; meant = a_constructor id k d.argument } ∷ rest) (constructors_behind id (k + 1) cs c ∙ ap (λ j. constructors_from id (k + 1) cs ++ constructors_from id j (c ∷ [])) (one_more k (length cs)))
   where

@@ -62,7 +62,6 @@ all_before_more (m ∷ ns) n taken = all_before_more ns n (m ∷ taken)
 
 named_more : (kind : ℕ → Meant) (k : ℕ) (ns : List Name) (n : Name) → named_from kind k (ns ++ n ∷ []) ≡ named_from kind k ns ++ record { name = n; meant = kind (k + length ns) } ∷ []
 named_more kind k [] n = ap (λ j. record { name = n; meant = kind j } ∷ []) (sym (add-zero k))
-  where
 named_more kind k (m ∷ ns) n = ap (λ rest. record { name = m; meant = kind k } ∷ rest) (named_more kind (k + 1) ns n ∙ ap (λ j. named_from kind (k + 1) ns ++ record { name = n; meant = kind j } ∷ []) (one_more k (length ns)))
   where
     one_more : (k j : ℕ) → (k + 1) + j ≡ k + suc j

@@ -4,7 +4,6 @@ use Rattle.std.proofs.lemmas.Bool.Decides.{nat_tests}
 use Rattle.cpn_definitions.specs.Colour.{has_shape, have_shapes, constructor_at}
 use Rattle.cpn_core.specs.declared.values.Value.{Value}
 use Rattle.cpn_core.specs.declared.colours.Shape.{Shape}
-use Rattle.cpn_core.specs.declared.colours.Shape.TheViews as views
 use Rattle.cpn_core.specs.Views.{value_view, values_view}
 use Rattle.cpn_core.specs.Colours.{shape_view, shapes_view, constructors_view}
 

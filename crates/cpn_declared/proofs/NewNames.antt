@@ -10,7 +10,7 @@ use Rattle.std.proofs.lemmas.Bool.{or_parts}
 use Rattle.indexmap.specs.IndexMap.{insert_entry}
 use Rattle.cpn_core.specs.declared.colours.Colour.{Colour}
 use Rattle.cpn_typing.specs.ColourSets.{is_there, is_new}
-use Rattle.cpn_typing.specs.Names.{Name, predeclared_named, refused}
+use Rattle.cpn_typing.specs.Names.{Name, predeclared_named}
 use Rattle.cpn_declared.specs.DeclsViews.{colour_entry, meaning_entry, meaning_view}
 use Rattle.cpn_declared.specs.declared.meanings.Meaning.{Meaning}
 

@@ -1,6 +1,6 @@
 -- What is covered at a time is covered at each later time; so a marking with no enabled element is dead, and each element
 -- has a least time exactly where it is covered at some time.
-use Rattle.std.proofs.Common.{◌≡◌, ℕ, zero, suc, ◌+◌, ◌<◌, ◌≤◌, ◌-◌, ◌⊎◌, Bool, true, false, cond, nat_le, List, [], ◌∷◌, map, refl, sym, ap, ap₂, subst, ◌∙◌, arith, ⊎_elim, Contains, le-leb, leb-true, is_lt, nat_cmp}
+use Rattle.std.proofs.Common.{◌≡◌, ℕ, zero, suc, ◌+◌, ◌<◌, ◌≤◌, ◌-◌, Bool, true, false, cond, nat_le, List, [], ◌∷◌, map, refl, sym, ap, ap₂, subst, ◌∙◌, arith, ⊎_elim, Contains, le-leb, leb-true, is_lt, nat_cmp}
 use Rattle.std.specs.List.{list_all, filter}
 use Rattle.std.proofs.lemmas.Bool.{and_parts, and_from, cases_Bool}
 use Rattle.std.proofs.lemmas.Bool.Decides.{nat_tests}

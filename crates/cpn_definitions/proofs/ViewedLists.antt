@@ -3,7 +3,6 @@ use Rattle.std.proofs.Common.{◌≡◌, ℕ, zero, suc, ◌<◌, List, [], ◌�
 use Rattle.std.proofs.lemmas.List.{length-map}
 
 module _ {A X : Type 0} (view : A → X) where
-
   pub within : (xs : List A) (i : ℕ) → i < length xs → i < length (map view xs)
   within xs i lt = let same : length (map view xs) ≡ length xs = length-map xs view in omega arith
 

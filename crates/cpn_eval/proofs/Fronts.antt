@@ -6,7 +6,6 @@ use Rattle.cpn_definitions.specs.Value.{PlainValue, list}
 use Rattle.cpn_core.specs.declared.values.Value.{Value}
 use Rattle.cpn_core.specs.Views.{value_view, values_view}
 use Rattle.cpn_core.specs.declared.inscriptions.Pat.{Pat}
-use Rattle.cpn_core.specs.declared.inscriptions.Pat.TheViews as pats
 use Rattle.cpn_definitions.specs.Inscription.{PlainPattern, cons_pattern}
 use Rattle.cpn_core.specs.Inscriptions.{pattern_view, patterns_view}
 use Rattle.cpn_definitions.specs.Matching.{both_bound, matched, matched_each}

@@ -1,10 +1,10 @@
 -- Lists of values, and rows of values.
-use Rattle.std.proofs.Common.{◌≡◌, ℤ, Bool, ◌<◌, ◌⊎◌, inl, inr, zero, suc, ◌++◌, length, get_or, reverse, sym, ◌∙◌, arith, rules, ℕ, Some, Vec, Global, List, [], ◌∷◌, map, refl, ap}
+use Rattle.std.proofs.Common.{◌≡◌, Bool, ◌<◌, ◌⊎◌, inl, inr, zero, suc, ◌++◌, length, get_or, reverse, sym, ◌∙◌, arith, rules, ℕ, Some, Vec, Global, List, [], ◌∷◌, map, refl, ap}
 use Rattle.std.specs.List.{slice_get}
 use Rattle.std.proofs.lemmas.List.{map-append}
 use Rattle.std.proofs.lemmas.Grind.{reverse_onto}
 use Rattle.std.proofs.lemmas.Option.{slice_get-map, slice_get_past, slice_get-get_or}
-use Rattle.cpn_definitions.specs.Value.{PlainValue, boolean, int, tuple, list, from_list}
+use Rattle.cpn_definitions.specs.Value.{PlainValue, boolean, tuple, list, from_list}
 use Rattle.cpn_definitions.specs.Outcome.{gives, no_meaning}
 use Rattle.cpn_definitions.specs.Operations.{items_in, components_in}
 use Rattle.cpn_definitions.proofs.ValueRows.{to_list_from_list}
@@ -26,10 +26,6 @@ items_in_list vs = rw (view_list vs) (ap gives (to_list_from_list (map value_vie
 
 pub components_in_tuple : (vs : Vec Value Global) → components_in (value_view (values.Tuple vs)) ≡ gives (map value_view vs.items)
 components_in_tuple vs = rw (view_tuple vs) (ap gives (to_list_from_list (map value_view vs.items)))
-
--- an integer and a truth value
-pub view_integer : (z : ℤ) → value_view (variants.Int z) ≡ int z
-view_integer z = search (rules, the_lemmas)
 
 pub view_boolean : (b : Bool) → value_view (variants.Bool b) ≡ boolean b
 view_boolean b = search (rules, the_lemmas)

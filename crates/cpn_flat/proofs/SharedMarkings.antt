@@ -45,7 +45,6 @@ pub record AreShared (n : PlainNet) (values : List Values) (i : ℕ) (m : Markin
   pub reads : AreRead (Shares n) 0 (map seen (take i values)) (take i m)
 
 module _ (n : PlainNet) (values : List Values) where
-
   module _ (i : ℕ) (v : Values) (lt : i < length values) (at : v ≡ get_or values i v) (m : Marking) (so_far : AreShared n values i m) where
     pub shared_more : (new : Marking) (ts : Tokens) → new ≡ set m i ts → Shares n i (seen v) (read ts) → AreShared n values (i + 1) new
     shared_more new ts is h = record {

@@ -1,5 +1,5 @@
 -- The initial marking of the flat net: for each place sorted tokens that it may hold, not too many of them.
-use Rattle.std.proofs.Common.{◌≡◌, ◌||◌, ◌==◌, ℕ, zero, suc, ◌+◌, ◌<◌, ◌≤◌, Bool, true, false, nat_le, if◌then◌else◌, List, [], ◌∷◌, length, replicate, slice_index_or, refl, sym, ap, ◌∙◌, subst, arith, leb-true}
+use Rattle.std.proofs.Common.{◌≡◌, ◌||◌, ◌==◌, ℕ, zero, suc, ◌+◌, ◌<◌, ◌≤◌, Bool, true, false, nat_le, if◌then◌else◌, List, [], ◌∷◌, length, replicate, slice_index_or, refl, sym, ap, ◌∙◌, subst, arith, leb-true, add-zero}
 use Rattle.std.specs.Prelude.{Some}
 use Rattle.std.specs.List.{list_all, flat_map, AllByRecursion}
 use Rattle.std.proofs.lemmas.Bool.{and_parts, and_from}
@@ -151,12 +151,9 @@ lists_start n i [] lists have h = subst (AreStarts n i) (same_read [] lists h) t
 lists_start n i (initials ∷ written) lists have h =
     let first = steps _ (values_of n i initials) lists h in
     let rest = steps _ (each_from (values_of n) (suc i) written) lists first.2 in
-    let here = subst (λ k. AreOfColour (place_at n k).colour initials) (same i) (have 0 (omega arith)) in
+    let here = subst (λ k. AreOfColour (place_at n k).colour initials) (add-zero i) (have 0 (omega arith)) in
     subst (AreStarts n i) (same_read (first.0 ∷ rest.0) lists rest.2)
     (values_start (place_at n i) n.functions initials first.0 here first.1, lists_start n (suc i) written rest.0 (λ c lt. subst (λ k. AreOfColour (place_at n k).colour (slice_index_or written c [])) (one_later i c) (have (suc c) (omega (arith, lt)))) rest.1)
-  where
-    same : (a : ℕ) → a + 0 ≡ a
-    same a = omega arith
 
 -- a place more
 more_bounded : (tokens : Tokens) (m : Marking) → length tokens ≤ most_tokens → list_all is_stamped tokens ≡ true → IsBounded most_tokens m → IsBounded most_tokens (tokens ∷ m)
@@ -185,14 +182,11 @@ later_there n i place places there k = there (suc k) ∙ ap (place_at n) (one_la
 marking_from : (n : PlainNet) (i : ℕ) (places : List Coloured) (lists : List (List (List PlainTerm))) (m : Marking) → AreThere n i places → length lists ≡ length places → AreStarts n i lists → AreRead (Shares n) i lists m → IsStartOf places m
 marking_from n i [] [] [] there long starts are = record { marking = tt; bounded = record { few = λ p. omega arith; stamped = λ p. refl }; long = refl }
 marking_from n i (place ∷ places) (values ∷ lists) (tokens ∷ m) there long starts are =
-    let here = there 0 ∙ ap (place_at n) (same i) in
+    let here = there 0 ∙ ap (place_at n) (add-zero i) in
     let start = subst (λ (p : Coloured). IsStart p.colour tokens) (sym here) (shared_start (place_at n i) values (read tokens) are.0 starts.0 tokens refl) in
     let later = marking_from n (suc i) places lists m (later_there n i place places there) (shorter (length lists) (length places) long) starts.1 are.1 in
     record { marking = (start.sorted, start.held, later.marking); bounded = more_bounded tokens m start.few start.stamped later.bounded; long = ap suc later.long }
   where
-    same : (a : ℕ) → a + 0 ≡ a
-    same a = omega arith
-
     shorter : (a b : ℕ) → suc a ≡ suc b → a ≡ b
     shorter a b e = omega (arith, e)
 marking_from n i [] [] (tokens ∷ m) there long starts are = absurd are

@@ -11,6 +11,7 @@ use Rattle.cpn_definitions.proofs.ListItems.{map_more}
 use Rattle.cpn_core.specs.Inscriptions.{pattern_view}
 use Rattle.cpn_core.specs.declared.inscriptions.Pat as core
 use Rattle.cpn_core.specs.declared.inscriptions.Pat.TheVariants as pats
+use Rattle.cpn_core.proofs.InscriptionLevels.{view_con_pattern}
 use Rattle.cpn_typing.specs.Types.{PlainTy}
 use Rattle.cpn_typing.specs.Names.{Scope, found, Checked, ok, refused, mismatch, ◌>>=◌}
 use Rattle.cpn_typing.specs.PatternRules.{Around, BoundPattern, BoundPatterns, bound_by, bound_by_parts, bound_by_items, tuple_rule, first_at, takes, constructor_named, applied_rule}
@@ -25,9 +26,6 @@ scope_length [] = refl
 scope_length (x ∷ xs) = ap suc (scope_length xs)
 
 -- ---- the arguments of a constructor
-
-pub view_applied : (k : ℕ) (b : Box core.Pat Global) → pattern_view (pats.Con k (Some b)) ≡ applied_pattern k (pattern_view b.value)
-view_applied k b = search (rules, core.the_lemmas)
 
 at_first : (x : Pat) (xs : List Pat) (at : ℕ) → first_at at (pats_from (map pat_view (x ∷ xs))) ≡ x.at
 at_first x xs at = search (rules, trees.the_lemmas)
@@ -73,7 +71,7 @@ applied_is around p n ps name arguments t u k bound next q b e m a c d v =
     ∙ ap (λ xs. bound_by around (pat p.at (pat_call name (pats_from (map pat_view xs)))) t bound) (sym a)
     ∙ ap (λ x. applied_rule x (λ w. argument_in around (pats_from (map pat_view arguments)) p.at bound w)) c
     ∙ ap (λ r. r >>= λ y. made y.locals (applied_pattern k y.pattern)) d
-    ∙ ap (made next) (sym (view_applied k b ∙ ap (λ z. applied_pattern k (pattern_view z)) v))
+    ∙ ap (made next) (sym (view_con_pattern k b ∙ ap (λ z. applied_pattern k (pattern_view z)) v))
 
 -- ---- several
 

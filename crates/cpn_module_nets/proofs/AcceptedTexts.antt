@@ -42,7 +42,7 @@ each_from_long f i (x ∷ xs) ys h =
     let rest = steps _ (each_from f (suc i) xs) ys first.2 in
     ap length (sym (same_read (first.0 ∷ rest.0) ys rest.2)) ∙ ap suc (each_from_long f (suc i) xs rest.0 rest.1)
 
-one_more : (i k : ℕ) → suc i + k ≡ i + suc k
+pub one_more : (i k : ℕ) → suc i + k ≡ i + suc k
 one_more i k = omega arith
 
 -- what the item at a number is read as

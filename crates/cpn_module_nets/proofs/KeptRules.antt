@@ -5,9 +5,7 @@ use Rattle.std.specs.List.{AllByRecursion}
 use Rattle.std.specs.Option.{option_or}
 use Rattle.cpn_readings.specs.Rules.{Rule, first_broken, each_item}
 use Rattle.cpn_readings.proofs.BrokenRules.{broken_append}
-
-one_more : (i k : ℕ) → suc i + k ≡ i + suc k
-one_more i k = omega arith
+use Rattle.cpn_module_nets.proofs.AcceptedTexts.{one_more}
 
 module _ {R : Type 0} where
   -- no rule is broken

@@ -22,7 +22,7 @@ use Rattle.cpn_module_nets.specs.Documents.{net_so, nets_so, accepted_in}
 use Rattle.cpn_module_nets.specs.Fitting.{no_trees, trees_at}
 use Rattle.cpn_module_nets.specs.Answers.{LoadsBy}
 use Rattle.cpn_module_nets.specs.declared.refusals.NetError.{NetError}
-use Rattle.cpn_module_nets.proofs.AcceptedTexts.{declared_good}
+use Rattle.cpn_module_nets.proofs.AcceptedTexts.{declared_good, one_more}
 use Rattle.cpn_module_nets.proofs.CheckedModules.{IsKept, kept}
 use Rattle.cpn_module_nets.proofs.ClosedFunctions.{functions_closed}
 use Rattle.cpn_module_nets.proofs.JoinedColours.{agree_in_colour}
@@ -31,9 +31,6 @@ use Rattle.cpn_module_nets.proofs.ModuleParts.{raw_at, structure_is, as_many_tre
 use Rattle.cpn_module_nets.proofs.WellNets.{IsNetOf, net_is}
 
 -- ---- a list whose items are read one after another
-
-one_more : (i k : ℕ) → suc i + k ≡ i + suc k
-one_more i k = omega arith
 
 so_long : {A B : Type 0} (Reads : ℕ → A → Reading B → Type 0) (i : ℕ) (xs : List A) (ys : List B) → each_so Reads i xs (read ys) → length ys ≡ length xs
 unfolding each_so

@@ -1,10 +1,9 @@
 -- Values of a shape, their names and their texts, one level or one item at a time.
-use Rattle.std.proofs.Common.{◌≡◌, ◌∙◌, sym, ap, ap₂, subst, refl, ℕ, zero, suc, ◌+◌, ◌-◌, ◌<◌, true, ◌&&◌, if◌then◌else◌, nat_lt, List, [], ◌∷◌, ◌++◌, length, length-drop, drop, get_or, arith, nat_le, Option, Some, None, option_map, Box, Vec, Global, rules}
+use Rattle.std.proofs.Common.{◌≡◌, ◌∙◌, sym, ap, ap₂, subst, refl, ℕ, zero, suc, ◌+◌, ◌-◌, ◌<◌, true, ◌&&◌, if◌then◌else◌, nat_lt, List, [], ◌∷◌, ◌++◌, length, length-drop, drop, get_or, arith, nat_le, Option, Some, None, option_map, Box, Vec, Global}
 use Rattle.std.specs.Prelude.{codes}
 use Rattle.std.proofs.lemmas.List.{drop_all}
 use Rattle.std.proofs.lemmas.Bool.{and_parts, leb-true}
 use Rattle.std.proofs.lemmas.Bool.Decides.{nat_tests}
-use Rattle.cpn_definitions.specs.Value.{applied}
 use Rattle.cpn_definitions.specs.Net.{PlainNet}
 use Rattle.cpn_definitions.specs.Colour.{PlainShape, has_shape, have_shapes, all_have_shape, no_shapes, union_shape, takes}
 use Rattle.cpn_definitions.specs.Named.{constructors_of, count_of, has_names, have_names, arguments_have_names}
@@ -18,19 +17,11 @@ use Rattle.cpn_core.specs.Views.{value_view, values_view, constructor_view}
 use Rattle.cpn_core.specs.Colours.{shape_view, shapes_view, constructors_view}
 use Rattle.cpn_core.proofs.ShapeLevels.{shape_union}
 use Rattle.cpn_core.proofs.Shapes.{declared_at}
+use Rattle.cpn_core.proofs.ValueLevels.{view_con}
 use Rattle.cpn_report.specs.ValueText.{joined, argument_text, constructor_name, shaped_text, tuple_texts, list_texts}
 use Rattle.cpn_report.proofs.JoinedTexts.{rest_is, joined_step}
 
 -- ---- one level
-
--- a constructor with its argument is seen as that constructor, applied to what the argument is seen as
-pub view_con_some : (k : ℕ) (b : Box Value Global) → value_view (value_views.Con k (Some b)) ≡ applied k (value_view b.value)
-view_con_some k b = search (rules, values.the_lemmas)
-
--- a constructor, without or with its argument
-pub view_con : (k : ℕ) (argument : Option (Box Value Global)) → value_view (value_views.Con k argument) ≡ constructor_view k argument
-view_con k None = search (rules, values.the_lemmas)
-view_con k (Some b) = view_con_some k b
 
 -- ---- constructors
 

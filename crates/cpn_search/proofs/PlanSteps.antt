@@ -2,6 +2,7 @@
 use Rattle.std.proofs.Common.{◌≡◌, ℕ, zero, suc, ◌+◌, ◌<◌, ◌==◌, true, ◌||◌, nat_lt, List, [], ◌∷◌, ◌++◌, map, length, get_or, take, drop, Some, None, Contains, refl, sym, ap, ◌∙◌, subst, inl, arith, append_assoc, append-nil, ltb-true}
 use Rattle.std.specs.List.{flat_map, list_any, AllByRecursion}
 use Rattle.std.proofs.lemmas.List.{map-append, length-map}
+use Rattle.std.proofs.lemmas.Grind.{flat_map-append}
 use Rattle.cpn_definitions.specs.Inscription.{PlainExpr}
 use Rattle.cpn_definitions.specs.Net.{BindingTerm, PlainArc, PlainTransition, PlainNet, variable_at, transition_at}
 use Rattle.cpn_definitions.specs.Bindable.{pattern_variables, IsSmall}
@@ -16,7 +17,6 @@ use Rattle.cpn_bindable.specs.Known.{carried_variables}
 use Rattle.cpn_stages.specs.Stages.{Stage, by_term, by_equation, by_size, variables_at, variables_at_each, terms_at, term_stages, is_among, those_without, equations_in, first_solving, IsFirstSmall, Further, none_left, next_equation, next_small, AreStages}
 use Rattle.cpn_stages.proofs.Numbers.{in_from_among, from_without}
 use Rattle.cpn_stages.proofs.Guards.{found_is}
-use Rattle.cpn_stages.proofs.OrderlyStages.{flat_both}
 use Rattle.cpn_stages.proofs.LastingPlans.{never_stuck, none_in_terms, fewer_without}
 use Rattle.cpn_search.specs.declared.plan.Stage as program
 use Rattle.cpn_search.specs.declared.plan.Stage.TheVariants as stages
@@ -184,7 +184,7 @@ variables_of_terms place (term ∷ terms) = ap (λ (xs : List ℕ). pattern_vari
 
 variables_carried : (arcs : List PlainArc) → carried_variables arcs ≡ variables_at_each (flat_map carried_stages arcs)
 variables_carried [] = refl
-variables_carried (arc ∷ arcs) = rw (flat_both variables_at (carried_stages arc) (flat_map carried_stages arcs), variables_of_terms arc.place arc.terms, variables_carried arcs) refl
+variables_carried (arc ∷ arcs) = rw (flat_map-append variables_at (carried_stages arc) (flat_map carried_stages arcs), variables_of_terms arc.place arc.terms, variables_carried arcs) refl
 
 pub terms_bind : (n : PlainNet) (t : PlainTransition) → IsSoundTransition n t → carried_variables t.inputs ≡ variables_at_each (term_stages t)
 terms_bind n t sound = variables_carried t.inputs ∙ ap variables_at_each (terms_carried n t sound)

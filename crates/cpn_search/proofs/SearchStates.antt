@@ -1,7 +1,7 @@
 -- A search goes on: the last of those that are under way is an end, or its next trial makes others of it.
 use Rattle.std.proofs.Common.{◌≡◌, ℕ, zero, suc, ◌+◌, ◌<◌, List, [], ◌∷◌, ◌++◌, map, take, drop, reverse, length, refl, sym, ap, ap₂, ◌∙◌, subst, ⊎_elim, arith, append_assoc, append-nil}
 use Rattle.std.specs.List.{flat_map}
-use Rattle.std.proofs.lemmas.Grind.{reverse_onto}
+use Rattle.std.proofs.lemmas.Grind.{reverse_onto, flat_map-append}
 use Rattle.std.proofs.lemmas.List.{reverse-append, map-append}
 use Rattle.cpn_definitions.specs.Marking.{Marking}
 use Rattle.cpn_definitions.specs.Outcome.{HasMeaning}
@@ -16,7 +16,6 @@ use Rattle.cpn_definitions.proofs.ListItems.{head_of}
 use Rattle.cpn_stages.specs.Orderly.{IsTimelyStage, AreOrderly}
 use Rattle.cpn_stages.specs.Trials.{Trial, solving, next, ends, made, sum_of, IsTrialOf, AreTrialsOf}
 use Rattle.cpn_stages.proofs.Partials.{extends_variables, value_stays}
-use Rattle.cpn_stages.proofs.OrderlyStages.{flat_both}
 use Rattle.cpn_stages.proofs.Ends.{next_is}
 use Rattle.cpn_stages.proofs.TransitionEnds.{equation_means}
 use Rattle.cpn_search.specs.TrialViews.{PlainUnderWay, after}
@@ -48,7 +47,7 @@ pub pending_next : (n : PlainNet) (trials rest : List Trial) (trial : Trial) (fr
     → pending n trials (front ++ after (k + 1) (next n trial b)) ≡ pending n trials (front ++ (b, k) ∷ [])
 pending_next n trials rest trial front b k here later =
     ap (flat_map (ends_of n trials)) (reverse-append front (after (k + 1) (next n trial b)))
-    ∙ flat_both (ends_of n trials) (reverse (after (k + 1) (next n trial b))) (reverse front)
+    ∙ flat_map-append (ends_of n trials) (reverse (after (k + 1) (next n trial b))) (reverse front)
     ∙ ap (λ bs. bs ++ pending n trials front)
     (ap (flat_map (ends_of n trials)) (reverse_mapped (λ (c : PlainPartial). (c, k + 1)) (next n trial b))
     ∙ flat_mapped (ends_of n trials) (λ (c : PlainPartial). (c, k + 1)) (reverse (next n trial b))
@@ -131,7 +130,7 @@ next_under_way n m t stages trials rest trial b k of_them here is =
           of_them = extends_variables b c made.extends ∙ is.of_them;
           admitted = made.admitted;
           known = λ x g.
-              let among : IsIn x (variables_at_each (take k stages) ++ variables_at_each (at.stage ∷ [])) = subst (IsIn x) (ap variables_at_each (ap (λ (j : ℕ). take j stages) one_more ∙ at.upto) ∙ flat_both variables_at (take k stages) (at.stage ∷ [])) (in_from_contains (variables_at_each (take (k + 1) stages)) x g) in
+              let among : IsIn x (variables_at_each (take k stages) ++ variables_at_each (at.stage ∷ [])) = subst (IsIn x) (ap variables_at_each (ap (λ (j : ℕ). take j stages) one_more ∙ at.upto) ∙ flat_map-append variables_at (take k stages) (at.stage ∷ [])) (in_from_contains (variables_at_each (take (k + 1) stages)) x g) in
               ⊎_elim (λ old. let v = is.known x (contains_from_in (variables_at_each (take k stages)) x old) in (v.0, value_stays x v.0 b c made.extends v.1))
               (λ new. made.has x (⊎_elim (λ own. own) (λ none'. absurd none') (in_append_cases (variables_at at.stage) [] x new))) (in_append_cases (variables_at_each (take k stages)) (variables_at_each (at.stage ∷ [])) x among);
         }

@@ -1,7 +1,8 @@
 -- The stages of a transition give each of its variables a value, and reach each binding with which it is covered.
-use Rattle.std.proofs.Common.{◌≡◌, ◌⊎◌, ℕ, ◌==◌, Bool, true, false, cond, ◌&&◌, nat_lt, length, List, [], ◌∷◌, ◌++◌, Some, refl, sym, ap, ap₂, ◌∙◌, subst, inl, inr, ⊎_elim, eqb-true}
-use Rattle.std.specs.List.{flat_map, AllByRecursion}
+use Rattle.std.proofs.Common.{◌≡◌, ◌⊎◌, ℕ, ◌==◌, Bool, true, false, cond, ◌&&◌, nat_lt, length, List, [], ◌∷◌, Some, refl, sym, ap, ap₂, ◌∙◌, subst, inl, inr, ⊎_elim, eqb-true}
+use Rattle.std.specs.List.{AllByRecursion}
 use Rattle.std.proofs.lemmas.Bool.{and_parts}
+use Rattle.std.proofs.lemmas.Grind.{flat_map-append}
 use Rattle.cpn_definitions.specs.Value.{PlainValue}
 use Rattle.cpn_definitions.specs.Colour.{admits}
 use Rattle.cpn_definitions.specs.Marking.{Marking}
@@ -24,14 +25,6 @@ use Rattle.cpn_stages.proofs.TrueGuards.{guard_part_true, equation_gives}
 
 -- ---- each variable is given a value
 
-flat_both : {X Y : Type 0} (f : X → List Y) (xs ys : List X) → flat_map f (xs ++ ys) ≡ flat_map f xs ++ flat_map f ys
-flat_both f [] ys = refl
-flat_both f (x ∷ xs) ys = ap (λ zs. f x ++ zs) (flat_both f xs ys) ∙ sym (joined (f x) (flat_map f xs) (flat_map f ys))
-  where
-    joined : {Z : Type 0} (xs ys zs : List Z) → (xs ++ ys) ++ zs ≡ xs ++ (ys ++ zs)
-    joined [] ys zs = refl
-    joined (x ∷ xs) ys zs = ap (λ ws. x ∷ ws) (joined xs ys zs)
-
 one_left : (x y : ℕ) (left : List ℕ) → IsIn y left → IsIn y (those_without (x ∷ []) left) ⊎ (x ≡ y)
 one_left x y left h = ⊎_elim (λ there. inl there) (λ here. inr (of_one here)) (left_or_other (x ∷ []) left y h)
   where
@@ -51,7 +44,7 @@ left_given n t left (by_size x ∷ stages) (next_small left' x' stages' none sma
 -- each variable of the transition is given a value by one of the stages
 pub each_is_given : (n : PlainNet) (t : PlainTransition) (stages : List Stage) → AreStages n t stages → (x : ℕ) → IsIn x t.vars → IsIn x (variables_at_each stages)
 each_is_given n t stages are x h =
-    subst (IsIn x) (sym (ap variables_at_each are.are ∙ flat_both variables_at (term_stages t) are.further))
+    subst (IsIn x) (sym (ap variables_at_each are.are ∙ flat_map-append variables_at (term_stages t) are.further))
     (⊎_elim (λ left. in_append_right (variables_at_each (term_stages t)) (variables_at_each are.further) x (left_given n t _ are.further are.follow x left))
     (λ of_term. in_append_left (variables_at_each (term_stages t)) (variables_at_each are.further) x of_term)
     (left_or_other (variables_at_each (term_stages t)) t.vars x h))

@@ -1,5 +1,5 @@
 -- Of a covered element each binding term is a value that stands on its place.
-use Rattle.std.proofs.Common.{◌≡◌, ℕ, suc, ◌+◌, pos, Bool, true, false, cond, nat_le, List, [], ◌∷◌, ◌++◌, map, replicate, Option, Some, None, refl, sym, ap, ◌∙◌, subst, inl, inr, ⊎_elim, ◌⊎◌, Ordering, nat_cmp, is_lt}
+use Rattle.std.proofs.Common.{◌≡◌, ℕ, suc, ◌+◌, pos, Bool, true, false, cond, nat_le, List, [], ◌∷◌, ◌++◌, map, replicate, Option, Some, None, refl, sym, ap, ◌∙◌, subst, inl, inr, ⊎_elim, Ordering, nat_cmp, is_lt}
 use Rattle.std.specs.List.{filter}
 use Rattle.std.proofs.lemmas.Bool.{cond_both}
 use Rattle.cpn_definitions.specs.Value.{PlainValue, int}
@@ -8,13 +8,13 @@ use Rattle.cpn_definitions.specs.ValueOrder.{same_value_true, same_value_refl}
 use Rattle.cpn_definitions.specs.Colour.{PlainColour, admits}
 use Rattle.cpn_definitions.specs.Lists.{with_item, with_items, in_order}
 use Rattle.cpn_definitions.specs.Marking.{PlainToken, Tokens, Marking, tokens_at, stamps, covers}
-use Rattle.cpn_definitions.specs.Inscription.{PlainPattern, PlainExpr, literal, Functions, ArcInscription, one, times, sum_of, later, ArcInscriptions, no_inscriptions, more_inscriptions}
+use Rattle.cpn_definitions.specs.Inscription.{PlainPattern, PlainExpr, literal, Functions, ArcInscription, one, times, sum_of, ArcInscriptions, no_inscriptions, more_inscriptions}
 use Rattle.cpn_definitions.specs.Net.{BindingTerm, PlainArc, PlainNet, transition_at}
 use Rattle.cpn_definitions.specs.Outcome.{Outcome, gives, faults, ◌>>=◌, not_in_colour, too_large, gives_and}
 use Rattle.cpn_definitions.specs.Meaning.{PlainBinding, Setting, meant, setting_of}
 use Rattle.cpn_definitions.specs.Terms.{in_colour, most_tokens, tokens_in, counted, PlainTerm, term_of, lone_term, terms_behind, terms_of_each, terms_of}
 use Rattle.cpn_definitions.specs.Bindable.{pattern_of, term_with, binding_term, binding_terms_of_each, binding_terms}
-use Rattle.cpn_definitions.specs.Occurrence.{PlainElement, gather, Needed, needed_cmp, needed_by, needs_of, same_need, thresholds, threshold_in, are_covered, covered}
+use Rattle.cpn_definitions.specs.Occurrence.{PlainElement, gather, Needed, needed_cmp, needed_by, needs_of, same_need, thresholds, threshold_in, are_covered}
 use Rattle.cpn_definitions.proofs.Outcomes.{same_given, bound_parts, gives_and_parts}
 use Rattle.cpn_definitions.proofs.RisingLists.{IsIn, contains_from_in, in_append_left, in_append_right, in_append_cases, in_map, in_filter, passes_at, in_flat_map}
 use Rattle.cpn_definitions.proofs.NumberTests.{equals_itself}

@@ -11,7 +11,6 @@ agrees_further from [] (t ∷ to) w is agrees = rw is agrees
 agrees_further from (t ∷ used) to w is agrees = rw is (used ++ w, refl)
 
 module _ {S R : Type 0} {Read : S → Text → Type 0} {Takes : S → R → Text → Type 0} where
-
   pub leads_on : {s1 s2 s3 : S} {a b c : Text} → Leads Read Takes s1 a s2 b → Leads Read Takes s2 b s3 c → Leads Read Takes s1 a s3 c
   leads_on {s1} {s2} {s3} {a} {b} {c} x y = record {
     used = x.used ++ y.used;

@@ -1,6 +1,6 @@
 -- The thresholds of needs in order, as one need more comes after them: those for its value on its place get one more, and
 -- the needs are covered where they were, and the stamp at the rank of the new need is there and not above its threshold.
-use Rattle.std.proofs.Common.{◌≡◌, ℕ, ◌+◌, ◌≤◌, ◌⊎◌, ◌==◌, Bool, true, false, cond, ◌&&◌, nat_le, List, [], ◌∷◌, ◌++◌, length, map, Option, Some, None, refl, sym, ap, ap₂, append-nil, ◌∙◌, inl, inr, ⊎_elim, arith, Ordering, Equal, nat_cmp, is_lt, is_gt}
+use Rattle.std.proofs.Common.{◌≡◌, ℕ, ◌≤◌, ◌⊎◌, ◌==◌, Bool, true, false, cond, ◌&&◌, nat_le, List, [], ◌∷◌, ◌++◌, length, map, Option, Some, None, refl, sym, ap, ap₂, append-nil, ◌∙◌, inl, inr, ⊎_elim, arith, Ordering, Equal, nat_cmp, is_lt, is_gt}
 use Rattle.std.specs.List.{AllByRecursion, filter, list_all, slice_get}
 use Rattle.std.specs.Ordering.{ordering_then}
 use Rattle.std.proofs.Math.Bool.{and_assoc, and-true, and-false}

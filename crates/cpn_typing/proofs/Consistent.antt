@@ -80,7 +80,6 @@ colour_consistent ds n timed new good brings none = record {
 
 index_behind : {X : Type 0} (xs ys : List X) (j : ℕ) (d : X) → slice_index_or (xs ++ ys) (length xs + j) d ≡ slice_index_or ys j d
 index_behind [] ys j d = ap (λ k. slice_index_or ys k d) (zero-add j)
-  where
 index_behind (x ∷ xs) ys j d = ap (λ k. slice_index_or (x ∷ (xs ++ ys)) k d) (one_more (length xs) j) ∙ index_behind xs ys j d
   where
     one_more : (a k : ℕ) → suc a + k ≡ suc (a + k)
