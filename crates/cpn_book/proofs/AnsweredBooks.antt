@@ -1,5 +1,5 @@
 -- What the calls on a book answer of the state that its journal leads to.
-use Rattle.std.proofs.Common.{◌≡◌, ◌≢◌, ℕ, zero, suc, ◌%◌, ◌<◌, true, false, List, [], ◌∷◌, ◌++◌, length, map, take, Option, Some, None, refl, sym, ap, ◌∙◌, subst, arith, slice_get}
+use Rattle.std.proofs.Common.{◌≡◌, ◌≢◌, ℕ, ◌%◌, ◌<◌, true, false, List, [], ◌∷◌, ◌++◌, length, map, take, Option, Some, None, refl, sym, ap, ◌∙◌, subst, arith, slice_get}
 use Rattle.std.specs.Option.{option_map, is_some}
 use Rattle.std.specs.List.{count_by, list_any}
 use Rattle.std.proofs.lemmas.List.{take-map, length-map}
@@ -7,6 +7,7 @@ use Rattle.std.proofs.lemmas.Option.{same_Some, slice_get-map}
 use Rattle.std.proofs.Math.Seq.{take-append_seam}
 use Rattle.cpn_core.specs.Elements.{entry_view}
 use Rattle.cpn_definitions.specs.Enabled.{PlainEntry, ready}
+use Rattle.cpn_definitions.proofs.ListItems.{last_is_at}
 use Rattle.cpn_draw.specs.Draw.{word}
 use Rattle.cpn_jobs.specs.Views.{job_view}
 use Rattle.cpn_log.specs.Logs.{head_of, claims_made}
@@ -15,7 +16,6 @@ use Rattle.cpn_runs.specs.FinishedViews.{setup_view}
 use Rattle.cpn_runs.specs.HoleRun.{PlainClaim, is_open}
 use Rattle.cpn_runs.specs.State.{PlainSetup, PlainState, PlainEvent, PlainEnd, EndsBy, claim_made, clock_moved, first_state, IsState, Happens, Leads, MayClaim, IsDrawn, new_claim}
 use Rattle.cpn_runs.specs.Views.{event_view}
-use Rattle.cpn_runs.proofs.Items.{last_is_at}
 use Rattle.cpn_runs.proofs.States.{event_is_unique, no_end_with_an_open_claim}
 use Rattle.cpn_book.specs.Held.{held_from}
 use Rattle.cpn_book.proofs.MadeClaims.{IsNextClaim, may_claim}
@@ -36,6 +36,7 @@ use Rattle.cpn_book.proofs.ClaimedStandings.{stands_at, uncut_in, counted}
 use Rattle.cpn_book.proofs.CountedClaims.{heads_are}
 use Rattle.cpn_book.proofs.NextTimes.{next_is_least, no_next_is_dead}
 use Rattle.cpn_book.proofs.RunningBooks.{in_state, unclaimed_is, enabled_in, are_ready, spent_is_book}
+use Rattle.cpn_book.proofs.ReadyEntries.{item_at}
 
 -- ---- the events of a call
 
@@ -58,11 +59,6 @@ reached_in old new setup running events is =
     (subst (λ s. IsState (setup_view s) (journal_in new) running.at.at.state) setup running.at.at.told.reached)
 
 -- ---- items
-
-item_there : {A : Type 0} (xs : List A) (i : ℕ) → i < length xs → (x : A) × (slice_get xs i ≡ Some x)
-item_there [] i lt = absurd (omega arith)
-item_there (x ∷ xs) zero lt = (x, refl)
-item_there (x ∷ xs) (suc i) lt = item_there xs i (omega arith)
 
 some_cut : (o : Option Cut) → is_some o ≡ true → option_map cut_view o ≡ None → ⊥
 some_cut None is none = cc
@@ -137,7 +133,7 @@ module _ (book : Book) (running : IsRunning book) where
           some_then = subst (λ (t : ℕ). 0 < length (ready t (map entry_view book.listed.entries.items))) running.at.at.clock some
 
           drawn : (x : PlainEntry) × IsDrawn (setup_in book).seed (length running.at.at.state.claims) (ready running.at.at.state.clock (map entry_view book.listed.entries.items)) x
-          drawn = item_there (ready running.at.at.state.clock (map entry_view book.listed.entries.items)) (word (setup_in book).seed (length running.at.at.state.claims) % length (ready running.at.at.state.clock (map entry_view book.listed.entries.items))) (omega (arith, some_then))
+          drawn = item_at (ready running.at.at.state.clock (map entry_view book.listed.entries.items)) (word (setup_in book).seed (length running.at.at.state.claims) % length (ready running.at.at.state.clock (map entry_view book.listed.entries.items))) (omega (arith, some_then))
 
           next : IsNextClaim (setup_in book) running.at.at.state (log_view book.standing.log) seat drawn.0
           next = record {

@@ -4,6 +4,7 @@ use Rattle.std.proofs.lemmas.List.{length-map, append-nil}
 use Rattle.std.proofs.lemmas.Bool.{eqb-false, and_parts}
 use Rattle.cpn_definitions.specs.Outcome.{Fault}
 use Rattle.cpn_definitions.specs.Occurrence.{outputs_of}
+use Rattle.cpn_definitions.proofs.ListItems.{set_there, set_elsewhere, set_long}
 use Rattle.cpn_runs.specs.HoleRun.{PlainClaim, Status, faulted_with, is_open, is_done, marking_left}
 use Rattle.cpn_runs.specs.State.{PlainSetup, PlainState, PlainEvent, claim_completed, cut_made, fault_end, PlainCut, is_held_by, status_after, MayComplete, MayCut, first_state, cut_at, cut_by}
 use Rattle.cpn_runs.proofs.Cuts.{AreDone, done_owe_none, open_is_not_done}
@@ -14,7 +15,6 @@ use Rattle.cpn_log.specs.Kept.{IsKept}
 use Rattle.cpn_log.specs.Logs.{PlainLog, head_of, begin_done, with_status, with_committed}
 use Rattle.cpn_book.specs.StandingRuns.{IsTold, StandsAt}
 use Rattle.cpn_book.proofs.HeldClaims.{held_changed, held_closed, done_hold_none}
-use Rattle.cpn_book.proofs.SetItems.{set_there, set_elsewhere, set_long}
 use Rattle.cpn_book.proofs.LoggedClaims.{has_changed, has_committed, has_first, owed_is}
 
 -- an open claim stands behind those that are done

@@ -1,7 +1,7 @@
 -- The open claim of a seat: whether it has one, and what becomes of it when claims are made, completed or cut.
 use Rattle.std.proofs.Common.{◌≡◌, ℕ, zero, suc, ◌+◌, ◌≤◌, ◌||◌, Bool, true, false, cond, List, [], ◌∷◌, ◌++◌, length, Option, Some, None, refl, sym, ap, ◌∙◌, subst, arith, slice_get, slice_set, count_by}
 use Rattle.std.specs.List.{list_any}
-use Rattle.std.proofs.lemmas.Bool.{cond-false}
+use Rattle.std.proofs.lemmas.Bool.{cond-false, or_parts}
 use Rattle.std.proofs.lemmas.List.Sums.{sum_by-cons}
 use Rattle.cpn_runs.specs.HoleRun.{PlainClaim}
 use Rattle.cpn_runs.specs.State.{is_held_by}
@@ -18,14 +18,10 @@ pub none_held : (k seat : ℕ) (claims : List PlainClaim) → held_from k seat c
 none_held k seat [] none = refl
 none_held k seat (claim ∷ claims) none = none_in (is_held_by seat claim) (held_from (suc k) seat claims) (list_any (is_held_by seat) claims) k none (λ h. none_held (suc k) seat claims h)
 
-not_in : (b c : Bool) → (b || c) ≡ false → (b ≡ false) × (c ≡ false)
-not_in true c h = cc
-not_in false c h = (refl, h)
-
 pub held_none : (k seat : ℕ) (claims : List PlainClaim) → list_any (is_held_by seat) claims ≡ false → held_from k seat claims ≡ None
 held_none k seat [] none = refl
 held_none k seat (claim ∷ claims) none =
-    let parts = not_in (is_held_by seat claim) (list_any (is_held_by seat) claims) none in
+    let parts = or_parts (is_held_by seat claim) (list_any (is_held_by seat) claims) none in
     cond-false (is_held_by seat claim) (Some k) (held_from (suc k) seat claims) parts.0 ∙ held_none (suc k) seat claims parts.1
 
 -- what a seat holds: an open claim of its own, at that number
@@ -62,7 +58,7 @@ done_hold_none k seat (claim ∷ claims) done =
 pub held_more : (k seat : ℕ) (claims : List PlainClaim) (claim : PlainClaim) → list_any (is_held_by seat) claims ≡ false → held_from k seat (claims ++ claim ∷ []) ≡ cond (is_held_by seat claim) (Some (k + length claims)) None
 held_more k seat [] claim none = let e : k + 0 ≡ k = omega arith in ap (λ n. cond (is_held_by seat claim) (Some n) None) (sym e)
 held_more k seat (c ∷ claims) claim none =
-    let parts = not_in (is_held_by seat c) (list_any (is_held_by seat) claims) none in
+    let parts = or_parts (is_held_by seat c) (list_any (is_held_by seat) claims) none in
     let later : suc k + length claims ≡ k + suc (length claims) = omega arith in
     cond-false (is_held_by seat c) (Some k) (held_from (suc k) seat (claims ++ claim ∷ [])) parts.0
     ∙ held_more (suc k) seat claims claim parts.1

@@ -24,7 +24,6 @@ mod StartedBooks
 mod OneAnswers
 mod HeldClaims
 mod LoggedClaims
-mod SetItems
 mod StartedRuns
 mod MadeClaims
 mod CompletedClaims

@@ -3,10 +3,10 @@ use Rattle.std.proofs.Common.{◌≡◌, ℕ, suc, ◌+◌, true, false, List, [
 use Rattle.std.proofs.lemmas.List.{map-append, length-map}
 use Rattle.cpn_definitions.specs.Marking.{Marking}
 use Rattle.cpn_definitions.specs.Occurrence.{are_covered, threshold}
+use Rattle.cpn_definitions.proofs.RisingLists.{each_appended}
 use Rattle.cpn_runs.specs.HoleRun.{PlainClaim, Status, is_done, done_prefix, marking_left}
 use Rattle.cpn_runs.specs.State.{cut_at}
 use Rattle.cpn_runs.proofs.Cuts.{AreDone, cut_of}
-use Rattle.cpn_runs.proofs.Items.{all_joined}
 use Rattle.cpn_runs.proofs.Sequences.{left_joined, marking_left_more}
 use Rattle.cpn_log.specs.Logs.{PlainLog, head_of, started, begin_done, with_status, changed_to, with_committed}
 use Rattle.cpn_log.specs.Kept.{IsKept}
@@ -104,7 +104,7 @@ pub has_committed : (start : Marking) (claims : List PlainClaim) (log : PlainLog
 has_committed start claims log claim rest has is done covers = record {
   committed = has.committed ++ claim ∷ [];
   claims_are = has.claims_are ∙ ap (λ cs. has.committed ++ cs) is ∙ sym (append_assoc has.committed (claim ∷ []) rest);
-  done = all_joined (λ (c : PlainClaim). is_done c.status ≡ true) has.committed (claim ∷ []) has.done (done, tt);
+  done = each_appended (λ (c : PlainClaim). is_done c.status ≡ true) has.committed (claim ∷ []) has.done (done, tt);
   heads = map-append head_of has.committed (claim ∷ []) ∙ ap (λ hs. hs ++ head_of claim ∷ []) has.heads;
   left = marking_left_more start has.committed claim log.settled has.left covers;
 }

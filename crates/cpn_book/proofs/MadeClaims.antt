@@ -1,9 +1,10 @@
 -- A claim is made: where the run stands then.
-use Rattle.std.proofs.Common.{◌≡◌, ℕ, ◌+◌, ◌<◌, ◌==◌, ◌&&◌, ◌⊎◌, inl, inr, Bool, true, false, List, [], ◌∷◌, ◌++◌, length, Option, Some, None, refl, sym, ap, ◌∙◌, subst, arith, slice_get, slice_set, eqb-true}
+use Rattle.std.proofs.Common.{◌≡◌, ℕ, ◌+◌, ◌<◌, ◌==◌, ◌&&◌, Bool, true, false, List, [], ◌∷◌, ◌++◌, length, Option, Some, None, refl, sym, ap, ◌∙◌, subst, arith, slice_get, slice_set, eqb-true}
 use Rattle.std.proofs.lemmas.Bool.{cond-true, eqb-false}
-use Rattle.std.proofs.lemmas.Bool.Decides.{eqb_tells}
 use Rattle.cpn_definitions.specs.Enabled.{PlainEntry, Enabled, ready}
 use Rattle.cpn_definitions.specs.Occurrence.{PlainElement}
+use Rattle.cpn_definitions.proofs.NumberTests.{equals_itself}
+use Rattle.cpn_definitions.proofs.ListItems.{set_there, set_elsewhere, set_long}
 use Rattle.cpn_runs.specs.HoleRun.{PlainClaim, is_done}
 use Rattle.cpn_runs.specs.State.{PlainSetup, PlainState, PlainEvent, claim_made, new_claim, is_held_by, IsDrawn, MayClaim, first_state, owed_cut, cut_at}
 use Rattle.cpn_runs.proofs.States.{leads_more}
@@ -13,7 +14,6 @@ use Rattle.cpn_book.specs.Logged.{HasClaims}
 use Rattle.cpn_log.specs.Logs.{PlainLog, begin_done}
 use Rattle.cpn_book.specs.StandingRuns.{StandsAt}
 use Rattle.cpn_book.proofs.HeldClaims.{none_held, held_more, held_by_another}
-use Rattle.cpn_book.proofs.SetItems.{set_there, set_elsewhere, set_long}
 use Rattle.cpn_book.proofs.LoggedClaims.{unclaimed_left, has_one_more, owed_is}
 
 still_stops : (claims : List PlainClaim) (claim : PlainClaim) → begin_done claims ≡ false → is_done claim.status ≡ false → begin_done (claims ++ claim ∷ []) ≡ false
@@ -43,13 +43,6 @@ module _ (seats : ℕ) (claims : List PlainClaim) (held : List (Option ℕ)) (ar
   held_one_more = record { each = set_long held seat (Some (length claims)) ∙ are.each; numbers = λ s lt. at s lt (seat == s) refl }
 
 -- ---- the event
-
-equals_itself : (n : ℕ) → (n == n) ≡ true
-equals_itself n = split (eqb_tells n n)
-  where
-    split : (((n == n) ≡ true) × (n ≡ n)) ⊎ (((n == n) ≡ false) × (n ≡ n → ⊥)) → (n == n) ≡ true
-    split (inl h) = h.0
-    split (inr h) = absurd (h.1 refl)
 
 pub own_claim : (setup : PlainSetup) (seat time : ℕ) (e : PlainElement) → is_held_by seat (new_claim setup.net seat time e) ≡ true
 own_claim setup seat time e = rw (equals_itself seat) refl

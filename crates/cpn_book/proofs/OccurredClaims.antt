@@ -3,10 +3,11 @@ use Rattle.std.proofs.Common.{◌≡◌, ℕ, ◌+◌, ◌<◌, ◌||◌, Bool, 
 use Rattle.std.specs.List.{list_any}
 use Rattle.cpn_definitions.specs.Enabled.{PlainEntry}
 use Rattle.cpn_definitions.specs.Occurrence.{Made, are_covered, threshold, outputs_of}
+use Rattle.cpn_definitions.proofs.ListItems.{last_is_at}
+use Rattle.cpn_definitions.proofs.RisingLists.{each_appended}
 use Rattle.cpn_runs.specs.HoleRun.{PlainClaim, Status, open_claim, done_with, faulted_with, is_open, is_done}
 use Rattle.cpn_runs.specs.State.{PlainSetup, PlainState, PlainEvent, claim_made, claim_completed, new_claim, status_after, MayComplete, first_state, cut_at, cut_by}
 use Rattle.cpn_runs.proofs.Cuts.{AreDone, done_owe_none}
-use Rattle.cpn_runs.proofs.Items.{all_joined, last_is_at}
 use Rattle.cpn_runs.proofs.States.{leads_more}
 use Rattle.cpn_log.specs.Kept.{IsKept}
 use Rattle.cpn_log.specs.Logs.{PlainLog, begin_done, with_occurred}
@@ -91,7 +92,7 @@ module _ (setup : PlainSetup) (journal : List PlainEvent) (state : PlainState) (
       subst AreDone (sym (has.claims_are ∙ ap (λ cs. has.committed ++ cs) all ∙ append-nil has.committed)) has.done
 
   are_done : AreDone occurred_state.claims
-  are_done = all_joined (λ claim. is_done claim.status ≡ true) state.claims (done ∷ []) were_done (refl, tt)
+  are_done = each_appended (λ claim. is_done claim.status ≡ true) state.claims (done ∷ []) were_done (refl, tt)
 
   -- no seat holds a claim before it, and none after it
   holds : AreHeld setup.limits.seats occurred_state.claims held

@@ -1,8 +1,8 @@
-mod ValueLevels
+pub mod ValueLevels
 pub mod InscriptionLevels
 pub mod ShapeLevels
 mod Items
-mod Shapes
+pub mod Shapes
 mod NumberedItems
 mod ShapeCounts
 mod CappedCounts

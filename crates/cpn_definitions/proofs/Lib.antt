@@ -28,8 +28,8 @@ mod PatternRows
 mod MeaningRows
 mod TermRows
 mod FaultRows
-mod Division
-mod EarlierCalls
+pub mod Division
+pub mod EarlierCalls
 mod FirstFault
 pub mod SmallColours
 mod BindableRows
@@ -43,3 +43,8 @@ pub mod DelayBounds
 pub mod PlaceCounts
 pub mod PlaceStamps
 pub mod BoundedMarkings
+pub mod SameTokens
+pub mod NumberTests
+pub mod TruthValues
+pub mod ListItems
+pub mod ValueRows

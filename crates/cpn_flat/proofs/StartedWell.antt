@@ -1,14 +1,13 @@
 -- The initial marking of the flat net: for each place sorted tokens that it may hold, not too many of them.
-use Rattle.std.proofs.Common.{◌≡◌, ◌||◌, ◌==◌, ℕ, zero, suc, ◌+◌, ◌<◌, ◌≤◌, Bool, true, false, nat_le, if◌then◌else◌, List, [], ◌∷◌, length, replicate, slice_index_or, refl, sym, ap, ◌∙◌, subst, arith, leb-true}
+use Rattle.std.proofs.Common.{◌≡◌, ◌||◌, ◌==◌, ℕ, zero, suc, ◌+◌, ◌<◌, ◌≤◌, Bool, true, false, nat_le, if◌then◌else◌, List, [], ◌∷◌, length, replicate, slice_index_or, refl, sym, ap, ◌∙◌, subst, arith, leb-true, add-zero}
 use Rattle.std.specs.Prelude.{Some}
 use Rattle.std.specs.List.{list_all, flat_map, AllByRecursion}
-use Rattle.std.specs.declared.cmp.Ordering.{Ordering}
 use Rattle.std.proofs.lemmas.Bool.{and_parts, and_from}
 use Rattle.std.proofs.lemmas.Bool.Decides.{nat_tests}
 use Rattle.cpn_definitions.specs.Bounds.{last_stamp, IsBounded}
 use Rattle.cpn_definitions.specs.Colour.{PlainColour, admits}
 use Rattle.cpn_definitions.specs.Inscription.{Functions}
-use Rattle.cpn_definitions.specs.Lists.{IsInOrder, with_item, with_items}
+use Rattle.cpn_definitions.specs.Lists.{IsInOrder}
 use Rattle.cpn_definitions.specs.Marking.{PlainToken, Tokens, Marking, tokens_at, AreSorted, token_cmp}
 use Rattle.cpn_definitions.specs.Meaning.{setting_of}
 use Rattle.cpn_definitions.specs.Net.{Coloured, PlainNet, nothing, place_at}
@@ -19,7 +18,7 @@ use Rattle.cpn_definitions.specs.Terms as counts
 use Rattle.cpn_definitions.specs.Times.{last_time}
 use Rattle.cpn_definitions.specs.ValueOrder.{token_cmp_total}
 use Rattle.cpn_definitions.proofs.DelayBounds.{AreInRange, delays_in_range}
-use Rattle.cpn_definitions.proofs.OrderedLists.{all_with_item, in_order_is}
+use Rattle.cpn_definitions.proofs.OrderedLists.{in_order_is, each_with_items}
 use Rattle.cpn_definitions.proofs.PlaceCounts.{length-in_order, length-of_terms}
 use Rattle.cpn_definitions.proofs.PlaceStamps.{all_append, all_replicate, all_with_items}
 use Rattle.cpn_definitions.proofs.RisingLists.{each_flat}
@@ -43,10 +42,6 @@ order_sorted : (ks : Tokens) → IsInOrder token_cmp ks → AreSorted ks
 order_sorted [] h = tt
 order_sorted (k ∷ []) h = (tt, tt)
 order_sorted (k ∷ l ∷ ls) h = (h.0.0, order_sorted (l ∷ ls) h.1)
-
-items_all : {X : Type 0} (c : X → X → Ordering) (P : X → Type 0) (xs ys : List X) → AllByRecursion P xs → AllByRecursion P ys → AllByRecursion P (with_items c xs ys)
-items_all c P [] ys h all = all
-items_all c P (x ∷ xs) ys h all = items_all c P xs (with_item c x ys) h.1 (all_with_item c P x ys h.0 all)
 
 all_equal : {X : Type 0} (P : X → Type 0) (k : ℕ) (x : X) → P x → AllByRecursion P (replicate k x)
 all_equal P zero x h = tt
@@ -104,7 +99,7 @@ module _ (colour : PlainColour) where
       let flat = length-of_terms (λ (term : PlainTerm). token_of colour.timed term) terms in
       record {
         sorted = order_sorted (tokens_of colour.timed terms) (in_order_is token_cmp token_cmp_total tokens);
-        held = passes_all (may_hold colour) (tokens_of colour.timed terms) (items_all token_cmp IsHeld tokens [] (each_flat IsHeld (λ (term : PlainTerm). replicate term.count (token_of colour.timed term)) terms (terms_held terms are)) tt);
+        held = passes_all (may_hold colour) (tokens_of colour.timed terms) (each_with_items token_cmp IsHeld tokens [] (each_flat IsHeld (λ (term : PlainTerm). replicate term.count (token_of colour.timed term)) terms (terms_held terms are)) tt);
         few = omega (arith, many, flat, few);
         stamped = all_with_items token_cmp is_stamped tokens [] (terms_stamped terms in_range) refl;
       }
@@ -156,12 +151,9 @@ lists_start n i [] lists have h = subst (AreStarts n i) (same_read [] lists h) t
 lists_start n i (initials ∷ written) lists have h =
     let first = steps _ (values_of n i initials) lists h in
     let rest = steps _ (each_from (values_of n) (suc i) written) lists first.2 in
-    let here = subst (λ k. AreOfColour (place_at n k).colour initials) (same i) (have 0 (omega arith)) in
+    let here = subst (λ k. AreOfColour (place_at n k).colour initials) (add-zero i) (have 0 (omega arith)) in
     subst (AreStarts n i) (same_read (first.0 ∷ rest.0) lists rest.2)
     (values_start (place_at n i) n.functions initials first.0 here first.1, lists_start n (suc i) written rest.0 (λ c lt. subst (λ k. AreOfColour (place_at n k).colour (slice_index_or written c [])) (one_later i c) (have (suc c) (omega (arith, lt)))) rest.1)
-  where
-    same : (a : ℕ) → a + 0 ≡ a
-    same a = omega arith
 
 -- a place more
 more_bounded : (tokens : Tokens) (m : Marking) → length tokens ≤ most_tokens → list_all is_stamped tokens ≡ true → IsBounded most_tokens m → IsBounded most_tokens (tokens ∷ m)
@@ -190,14 +182,11 @@ later_there n i place places there k = there (suc k) ∙ ap (place_at n) (one_la
 marking_from : (n : PlainNet) (i : ℕ) (places : List Coloured) (lists : List (List (List PlainTerm))) (m : Marking) → AreThere n i places → length lists ≡ length places → AreStarts n i lists → AreRead (Shares n) i lists m → IsStartOf places m
 marking_from n i [] [] [] there long starts are = record { marking = tt; bounded = record { few = λ p. omega arith; stamped = λ p. refl }; long = refl }
 marking_from n i (place ∷ places) (values ∷ lists) (tokens ∷ m) there long starts are =
-    let here = there 0 ∙ ap (place_at n) (same i) in
+    let here = there 0 ∙ ap (place_at n) (add-zero i) in
     let start = subst (λ (p : Coloured). IsStart p.colour tokens) (sym here) (shared_start (place_at n i) values (read tokens) are.0 starts.0 tokens refl) in
     let later = marking_from n (suc i) places lists m (later_there n i place places there) (shorter (length lists) (length places) long) starts.1 are.1 in
     record { marking = (start.sorted, start.held, later.marking); bounded = more_bounded tokens m start.few start.stamped later.bounded; long = ap suc later.long }
   where
-    same : (a : ℕ) → a + 0 ≡ a
-    same a = omega arith
-
     shorter : (a b : ℕ) → suc a ≡ suc b → a ≡ b
     shorter a b e = omega (arith, e)
 marking_from n i [] [] (tokens ∷ m) there long starts are = absurd are

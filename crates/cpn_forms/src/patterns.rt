@@ -235,7 +235,7 @@ fn in_front(alloc: Global, head: Pat, tail: Pat) -> Result<Pat, Memory>
 
 /// A pattern, behind the locals that were bound before it.
 #[cycle(bind)]
-#[tactic(auto, using(crate::proofs::PatternFronts::view_applied))]
+#[tactic(auto, using(cpn_core::proofs::InscriptionLevels::view_con_pattern))]
 fn bind<'t>(
     alloc: Global,
     decls: &Decls,

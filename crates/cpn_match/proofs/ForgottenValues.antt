@@ -1,5 +1,5 @@
 -- Values are forgotten pair by pair; and what an extension added is forgotten.
-use Rattle.std.proofs.Common.{◌≡◌, ℕ, zero, suc, ◌+◌, ◌<◌, min, Bool, true, false, cond, if◌then◌else◌, List, [], ◌∷◌, ◌++◌, length, take, drop, get_or, slice_set, Option, Some, None, refl, sym, ap, ap₂, ◌∙◌, subst, arith, add-one}
+use Rattle.std.proofs.Common.{◌≡◌, ℕ, zero, suc, ◌+◌, ◌<◌, min, Bool, if◌then◌else◌, List, [], ◌∷◌, ◌++◌, length, take, drop, get_or, slice_set, Option, Some, None, refl, sym, ap, ap₂, ◌∙◌, arith, add-one}
 use Rattle.std.specs.Option.{is_some}
 use Rattle.cpn_definitions.specs.Value.{PlainValue}
 use Rattle.cpn_core.specs.declared.values.Value.{Value}

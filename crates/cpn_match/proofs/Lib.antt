@@ -1,5 +1,4 @@
 mod PairPlaces
-mod Levels
 mod Rows
 mod ForgottenValues
 mod Matched

@@ -1,5 +1,5 @@
 -- Where a variable stands among the pairs of a partial binding, and which of the values are known.
-use Rattle.std.specs.Prelude.{ℕ, suc, ◌==◌, Bool, true, false, if◌then◌else◌, List, [], ◌∷◌, map, Option, Some, None}
+use Rattle.std.specs.Prelude.{ℕ, suc, ◌==◌, Bool, if◌then◌else◌, List, [], ◌∷◌, map, Option, Some, None}
 use Rattle.std.specs.Option.{option_map, is_some}
 use Rattle.cpn_stages.specs.Partial.{PlainPartial}
 

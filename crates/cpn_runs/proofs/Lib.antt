@@ -1,4 +1,4 @@
-pub mod Items
+mod EachTwoItems
 pub mod Sequences
 mod CoveredElements
 pub mod Cuts
@@ -9,7 +9,6 @@ pub mod Journals
 pub mod BoundedStates
 mod Picks
 mod CarriedStamps
-mod KnownTokens
 mod TwoPlaces
 mod CarriedTokens
 pub mod FilledRuns

@@ -1,14 +1,15 @@
 -- How the stages of a transition are planned.
-use Rattle.std.proofs.Common.{◌≡◌, ℕ, zero, suc, ◌+◌, ◌<◌, ◌==◌, true, ◌||◌, nat_lt, List, [], ◌∷◌, ◌++◌, map, length, get_or, take, drop, Some, None, Contains, refl, sym, ap, ◌∙◌, subst, inl, arith, append_assoc, append-nil}
+use Rattle.std.proofs.Common.{◌≡◌, ℕ, zero, suc, ◌+◌, ◌<◌, ◌==◌, true, ◌||◌, nat_lt, List, [], ◌∷◌, ◌++◌, map, length, get_or, take, drop, Some, None, Contains, refl, sym, ap, ◌∙◌, subst, inl, arith, append_assoc, append-nil, ltb-true}
 use Rattle.std.specs.List.{flat_map, list_any, AllByRecursion}
-use Rattle.std.proofs.lemmas.Bool.Decides.{nat_tests}
-use Rattle.std.proofs.lemmas.List.{map-append}
+use Rattle.std.proofs.lemmas.List.{map-append, length-map}
+use Rattle.std.proofs.lemmas.Grind.{flat_map-append}
 use Rattle.cpn_definitions.specs.Inscription.{PlainExpr}
 use Rattle.cpn_definitions.specs.Net.{BindingTerm, PlainArc, PlainTransition, PlainNet, variable_at, transition_at}
 use Rattle.cpn_definitions.specs.Bindable.{pattern_variables, IsSmall}
 use Rattle.cpn_definitions.specs.Sound.{IsSound, IsSoundTransition, IsSoundInput}
 use Rattle.cpn_definitions.proofs.RisingLists.{IsIn, in_from_contains, contains_from_in, in_append_right, passes_at, each_appended}
 use Rattle.cpn_definitions.proofs.SoundElements.{sound_transition}
+use Rattle.cpn_definitions.proofs.NumberTests.{equals_either_way}
 use Rattle.cpn_core.specs.declared.nets.Net.{Net}
 use Rattle.cpn_core.specs.declared.nets.Transition.{Transition}
 use Rattle.cpn_core.specs.Nets.{transition_view, net_view}
@@ -16,20 +17,16 @@ use Rattle.cpn_bindable.specs.Known.{carried_variables}
 use Rattle.cpn_stages.specs.Stages.{Stage, by_term, by_equation, by_size, variables_at, variables_at_each, terms_at, term_stages, is_among, those_without, equations_in, first_solving, IsFirstSmall, Further, none_left, next_equation, next_small, AreStages}
 use Rattle.cpn_stages.proofs.Numbers.{in_from_among, from_without}
 use Rattle.cpn_stages.proofs.Guards.{found_is}
-use Rattle.cpn_stages.proofs.OrderlyStages.{flat_both}
 use Rattle.cpn_stages.proofs.LastingPlans.{never_stuck, none_in_terms, fewer_without}
 use Rattle.cpn_search.specs.declared.plan.Stage as program
 use Rattle.cpn_search.specs.declared.plan.Stage.TheVariants as stages
 use Rattle.cpn_search.specs.StageViews.{stage_view, stages_view, carried_stages, HasAllValues}
 use Rattle.cpn_search.specs.Plans.{AreLeft, HaveColours, IsNext, ArePlanned, AreFurther}
-use Rattle.cpn_search.proofs.KnownTransitions.{length_map, transition_is, in_range}
-
-either_way : (x y : ℕ) → (y == x) ≡ (x == y)
-either_way x y = grind (arith, nat_tests)
+use Rattle.cpn_search.proofs.KnownTransitions.{transition_is, in_range}
 
 pub flipped : (xs : List ℕ) (x : ℕ) → list_any (λ y. y == x) xs ≡ is_among xs x
 flipped [] x = refl
-flipped (y ∷ ys) x = rw (either_way x y) (ap (λ b. (x == y) || b) (flipped ys x))
+flipped (y ∷ ys) x = rw (equals_either_way x y) (ap (λ b. (x == y) || b) (flipped ys x))
 
 -- ---- the first variable of a small colour set
 
@@ -65,14 +62,11 @@ first_is n left i lt large small = record {
 
 -- ---- the next stage
 
-below : (x k : ℕ) → nat_lt x k ≡ true → x < k
-below x k h = grind (arith, nat_tests)
-
 pub colours_of_left : (n : Net) (t : PlainTransition) (left : List ℕ) → IsSoundTransition (net_view n) t → AreLeft t left → HaveColours (length n.variables.items) left
 colours_of_left n t left sound are = record {
   below = λ x h.
       let here : nat_lt x (length (net_view n).variables) ≡ true = passes_at (λ y. nat_lt y (length (net_view n).variables)) t.vars x sound.declared (in_from_contains t.vars x (are.listed x h)) in
-      below x (length n.variables.items) (subst (λ (k : ℕ). nat_lt x k ≡ true) (length_map _ n.variables.items) here);
+      ltb-true x (length n.variables.items) (subst (λ (k : ℕ). nat_lt x k ≡ true) (length-map n.variables.items _) here);
 }
 
 pub not_stuck
@@ -190,7 +184,7 @@ variables_of_terms place (term ∷ terms) = ap (λ (xs : List ℕ). pattern_vari
 
 variables_carried : (arcs : List PlainArc) → carried_variables arcs ≡ variables_at_each (flat_map carried_stages arcs)
 variables_carried [] = refl
-variables_carried (arc ∷ arcs) = rw (flat_both variables_at (carried_stages arc) (flat_map carried_stages arcs), variables_of_terms arc.place arc.terms, variables_carried arcs) refl
+variables_carried (arc ∷ arcs) = rw (flat_map-append variables_at (carried_stages arc) (flat_map carried_stages arcs), variables_of_terms arc.place arc.terms, variables_carried arcs) refl
 
 pub terms_bind : (n : PlainNet) (t : PlainTransition) → IsSoundTransition n t → carried_variables t.inputs ≡ variables_at_each (term_stages t)
 terms_bind n t sound = variables_carried t.inputs ∙ ap variables_at_each (terms_carried n t sound)

@@ -1,7 +1,7 @@
 -- A search goes on: the last of those that are under way is an end, or its next trial makes others of it.
 use Rattle.std.proofs.Common.{◌≡◌, ℕ, zero, suc, ◌+◌, ◌<◌, List, [], ◌∷◌, ◌++◌, map, take, drop, reverse, length, refl, sym, ap, ap₂, ◌∙◌, subst, ⊎_elim, arith, append_assoc, append-nil}
 use Rattle.std.specs.List.{flat_map}
-use Rattle.std.proofs.lemmas.Grind.{reverse_onto}
+use Rattle.std.proofs.lemmas.Grind.{reverse_onto, flat_map-append}
 use Rattle.std.proofs.lemmas.List.{reverse-append, map-append}
 use Rattle.cpn_definitions.specs.Marking.{Marking}
 use Rattle.cpn_definitions.specs.Outcome.{HasMeaning}
@@ -12,10 +12,10 @@ use Rattle.cpn_definitions.proofs.RisingLists.{IsIn, in_from_contains, contains_
 use Rattle.cpn_stages.specs.Partial.{PlainPartial, bound_in}
 use Rattle.cpn_stages.specs.Stages.{Stage, by_term, by_equation, by_size, variables_at, variables_at_each}
 use Rattle.cpn_definitions.specs.Sound.{IsSolvable}
+use Rattle.cpn_definitions.proofs.ListItems.{head_of}
 use Rattle.cpn_stages.specs.Orderly.{IsTimelyStage, AreOrderly}
 use Rattle.cpn_stages.specs.Trials.{Trial, solving, next, ends, made, sum_of, IsTrialOf, AreTrialsOf}
 use Rattle.cpn_stages.proofs.Partials.{extends_variables, value_stays}
-use Rattle.cpn_stages.proofs.OrderlyStages.{flat_both}
 use Rattle.cpn_stages.proofs.Ends.{next_is}
 use Rattle.cpn_stages.proofs.TransitionEnds.{equation_means}
 use Rattle.cpn_search.specs.TrialViews.{PlainUnderWay, after}
@@ -47,7 +47,7 @@ pub pending_next : (n : PlainNet) (trials rest : List Trial) (trial : Trial) (fr
     → pending n trials (front ++ after (k + 1) (next n trial b)) ≡ pending n trials (front ++ (b, k) ∷ [])
 pending_next n trials rest trial front b k here later =
     ap (flat_map (ends_of n trials)) (reverse-append front (after (k + 1) (next n trial b)))
-    ∙ flat_both (ends_of n trials) (reverse (after (k + 1) (next n trial b))) (reverse front)
+    ∙ flat_map-append (ends_of n trials) (reverse (after (k + 1) (next n trial b))) (reverse front)
     ∙ ap (λ bs. bs ++ pending n trials front)
     (ap (flat_map (ends_of n trials)) (reverse_mapped (λ (c : PlainPartial). (c, k + 1)) (next n trial b))
     ∙ flat_mapped (ends_of n trials) (λ (c : PlainPartial). (c, k + 1)) (reverse (next n trial b))
@@ -97,16 +97,13 @@ record HasStage (n : PlainNet) (m : Marking) (stages : List Stage) (k : ℕ) (tr
   short : k < length stages
   of_it : IsTrialOf n m stage trial
 
-same_front : {A : Type 0} (x y : A) (xs ys : List A) → x ∷ xs ≡ y ∷ ys → x ≡ y
-same_front x y xs ys h = cc
-
 stage_at : (n : PlainNet) (m : Marking) (stages : List Stage) (trials rest : List Trial) (trial : Trial) (k : ℕ) → AreTrialsOf n m stages trials → drop k trials ≡ trial ∷ rest → HasStage n m stages k trial
 stage_at n m [] [] rest trial zero of_them is = cc
 stage_at n m [] [] rest trial (suc k) of_them is = cc
 stage_at n m [] (t ∷ trials) rest trial k of_them is = absurd of_them
 stage_at n m (stage ∷ stages) [] rest trial k of_them is = absurd of_them
 stage_at n m (stage ∷ stages) (t ∷ trials) rest trial zero of_them is =
-    record { stage = stage; rest = stages; there = refl; upto = refl; short = omega arith; of_it = subst (IsTrialOf n m stage) (same_front t trial trials rest is) of_them.0 }
+    record { stage = stage; rest = stages; there = refl; upto = refl; short = omega arith; of_it = subst (IsTrialOf n m stage) (head_of t trial trials rest is) of_them.0 }
 stage_at n m (stage ∷ stages) (t ∷ trials) rest trial (suc k) of_them is =
     let later = stage_at n m stages trials rest trial k of_them.1 is in
     record { stage = later.stage; rest = later.rest; there = later.there; upto = ap (λ (ss : List Stage). stage ∷ ss) later.upto; short = let s = later.short in omega (arith, s); of_it = later.of_it }
@@ -133,7 +130,7 @@ next_under_way n m t stages trials rest trial b k of_them here is =
           of_them = extends_variables b c made.extends ∙ is.of_them;
           admitted = made.admitted;
           known = λ x g.
-              let among : IsIn x (variables_at_each (take k stages) ++ variables_at_each (at.stage ∷ [])) = subst (IsIn x) (ap variables_at_each (ap (λ (j : ℕ). take j stages) one_more ∙ at.upto) ∙ flat_both variables_at (take k stages) (at.stage ∷ [])) (in_from_contains (variables_at_each (take (k + 1) stages)) x g) in
+              let among : IsIn x (variables_at_each (take k stages) ++ variables_at_each (at.stage ∷ [])) = subst (IsIn x) (ap variables_at_each (ap (λ (j : ℕ). take j stages) one_more ∙ at.upto) ∙ flat_map-append variables_at (take k stages) (at.stage ∷ [])) (in_from_contains (variables_at_each (take (k + 1) stages)) x g) in
               ⊎_elim (λ old. let v = is.known x (contains_from_in (variables_at_each (take k stages)) x old) in (v.0, value_stays x v.0 b c made.extends v.1))
               (λ new. made.has x (⊎_elim (λ own. own) (λ none'. absurd none') (in_append_cases (variables_at at.stage) [] x new))) (in_append_cases (variables_at_each (take k stages)) (variables_at_each (at.stage ∷ [])) x among);
         }
@@ -142,7 +139,7 @@ next_under_way n m t stages trials rest trial b k of_them here is =
 orderly_at : (t : PlainTransition) (before stages rest : List Stage) (stage : Stage) (k : ℕ) → AreOrderly t before stages → drop k stages ≡ stage ∷ rest → IsTimelyStage t (before ++ take k stages) stage
 orderly_at t before [] rest stage zero orderly is = cc
 orderly_at t before [] rest stage (suc k) orderly is = cc
-orderly_at t before (s ∷ stages) rest stage zero orderly is = subst (λ (bs : List Stage). IsTimelyStage t bs stage) (sym (append-nil before)) (subst (IsTimelyStage t before) (same_front s stage stages rest is) orderly.0)
+orderly_at t before (s ∷ stages) rest stage zero orderly is = subst (λ (bs : List Stage). IsTimelyStage t bs stage) (sym (append-nil before)) (subst (IsTimelyStage t before) (head_of s stage stages rest is) orderly.0)
 orderly_at t before (s ∷ stages) rest stage (suc k) orderly is = subst (λ (bs : List Stage). IsTimelyStage t bs stage) (append_assoc before (s ∷ []) (take k stages)) (orderly_at t (before ++ s ∷ []) stages rest stage k orderly.1 is)
 
 pub solving_means

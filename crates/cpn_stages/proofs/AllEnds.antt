@@ -1,27 +1,27 @@
 -- Each binding of which all the stages hold is an end of their trials.
-use Rattle.std.proofs.Common.{◌≡◌, ◌⊎◌, ℕ, Bool, true, false, List, [], ◌∷◌, ◌++◌, reverse, Option, Some, None, refl, sym, ap, ◌∙◌, subst, inl, inr, ⊎_elim, append_assoc, append-nil, Contains, nat_cmp}
-use Rattle.std.specs.List.{flat_map, AllByRecursion}
+use Rattle.std.proofs.Common.{◌≡◌, ℕ, true, List, [], ◌∷◌, ◌++◌, reverse, Option, Some, None, refl, sym, ◌∙◌, subst, inl, ⊎_elim, append_assoc, append-nil, nat_cmp}
+use Rattle.std.specs.List.{AllByRecursion}
+use Rattle.std.proofs.lemmas.Grind.{flat_map-append}
 use Rattle.cpn_definitions.specs.Value.{PlainValue}
 use Rattle.cpn_definitions.specs.Lists.{Rises}
 use Rattle.cpn_definitions.specs.Marking.{Marking}
-use Rattle.cpn_definitions.specs.Outcome.{Outcome, gives}
+use Rattle.cpn_definitions.specs.Outcome.{gives}
 use Rattle.cpn_definitions.specs.Inscription.{PlainPattern, variable_pattern, PlainExpr}
 use Rattle.cpn_definitions.specs.Net.{PlainTransition, PlainNet}
-use Rattle.cpn_definitions.specs.Meaning.{bound_value, meaning}
+use Rattle.cpn_definitions.specs.Meaning.{meaning}
 use Rattle.cpn_definitions.specs.Bindable.{variables_of, AreClosed}
-use Rattle.cpn_definitions.proofs.OwnVariables.{Agree, own_variables}
+use Rattle.cpn_definitions.proofs.OwnVariables.{own_variables}
 use Rattle.cpn_definitions.proofs.RisingLists.{IsIn, in_from_contains, contains_from_in, in_append_cases, in_flat_map}
 use Rattle.cpn_stages.specs.Partial.{PlainPartial, variables_in, value_in, Extends, bound_in}
-use Rattle.cpn_stages.specs.Instances.{IsInstance, Makes, Matches}
+use Rattle.cpn_stages.specs.Instances.{IsInstance, Makes}
 use Rattle.cpn_stages.specs.Stages.{Stage, by_term, by_equation, by_size, variables_at, variables_at_each}
-use Rattle.cpn_stages.specs.Reached.{StandsOn, HasValue, IsAdmitted, Holds}
-use Rattle.cpn_stages.specs.Orderly.{IsTimely, AreOrderly}
+use Rattle.cpn_stages.specs.Reached.{HasValue, Holds}
+use Rattle.cpn_stages.specs.Orderly.{AreOrderly}
 use Rattle.cpn_stages.specs.Fitting.{fitted}
 use Rattle.cpn_stages.specs.Trials.{Trial, matching, solving, are_admitted, kept, with_outcome, next, ends, IsTrialOf, AreTrialsOf}
 use Rattle.cpn_stages.proofs.Partials.{extends_variables, value_stays}
 use Rattle.cpn_stages.proofs.FittedMatches.{fitted_matches, not_fitted}
-use Rattle.cpn_stages.proofs.OrderlyStages.{flat_both}
-use Rattle.cpn_stages.proofs.Ends.{in_reverse, admitted_below, admitted_value, is_kept, IsNext, next_is}
+use Rattle.cpn_stages.proofs.Ends.{in_reverse, admitted_below, admitted_value, is_kept, next_is}
 use Rattle.cpn_stages.proofs.WholeBindings.{bound_has, whole_from, whole_extended}
 
 -- ---- one trial
@@ -86,7 +86,7 @@ step n m t before stages (by_size x) (solving y f) b c closed admitted ext known
 known_next : (n : PlainNet) (m : Marking) (before : List Stage) (stage : Stage) (trial : Trial) (b d : PlainPartial) → AreKnown before b → IsTrialOf n m stage trial → IsIn d (next n trial b) → AreKnown (before ++ stage ∷ []) d
 known_next n m before stage trial b d known of_it h x g =
     let is = next_is n m stage trial b d of_it h in
-    ⊎_elim (λ old. let v = known x old in (v.0, value_stays x v.0 b d is.extends v.1)) (λ new. is.has x (own new)) (in_append_cases (variables_at_each before) (variables_at_each (stage ∷ [])) x (subst (IsIn x) (flat_both variables_at before (stage ∷ [])) g))
+    ⊎_elim (λ old. let v = known x old in (v.0, value_stays x v.0 b d is.extends v.1)) (λ new. is.has x (own new)) (in_append_cases (variables_at_each before) (variables_at_each (stage ∷ [])) x (subst (IsIn x) (flat_map-append variables_at before (stage ∷ [])) g))
   where
     own : IsIn x (variables_at_each (stage ∷ [])) → IsIn x (variables_at stage)
     own new = ⊎_elim (λ k. k) (λ k. absurd k) (in_append_cases (variables_at stage) [] x new)

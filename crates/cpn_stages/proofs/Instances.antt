@@ -1,6 +1,6 @@
 -- What a pattern is under a partial binding it is under each extension; and there is at most one match.
-use Rattle.std.proofs.Common.{◌≡◌, ℕ, refl, sym, ◌∙◌}
-use Rattle.cpn_definitions.specs.Value.{PlainValue, PlainValues, unit, boolean, int, constant, text, tuple, bare, applied, list, none, more}
+use Rattle.std.proofs.Common.{◌≡◌}
+use Rattle.cpn_definitions.specs.Value.{PlainValue, PlainValues, tuple, bare, applied, list, none, more}
 use Rattle.cpn_definitions.specs.Inscription.{PlainPattern, any_pattern, variable_pattern, literal_pattern, tuple_pattern, list_pattern, cons_pattern, bare_pattern, applied_pattern, PlainPatterns, no_patterns, more_patterns}
 use Rattle.cpn_stages.specs.Partial.{PlainPartial, Extends}
 use Rattle.cpn_stages.specs.Instances.{IsInstance, AreInstances, Matches}

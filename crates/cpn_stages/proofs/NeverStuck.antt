@@ -1,14 +1,12 @@
 -- The stages of a sound transition never end before each of its variables has a value: where one is left, the guard gives one of
 -- those that are left a value, or one of them has a small colour set.
-use Rattle.std.proofs.Common.{◌≡◌, ℕ, Bool, true, false, not, cond, ◌&&◌, List, [], ◌∷◌, ◌++◌, None, refl, sym, ap, ◌∙◌, subst, inl, inr, Contains}
-use Rattle.std.specs.List.{flat_map, list_all}
+use Rattle.std.proofs.Common.{◌≡◌, ℕ, Bool, true, false, not, ◌&&◌, List, [], ◌∷◌, None, refl, inl, inr}
+use Rattle.std.specs.List.{list_all}
 use Rattle.cpn_definitions.specs.Inscription.{PlainExpr}
 use Rattle.cpn_definitions.specs.Net.{PlainTransition, PlainNet, variable_at}
 use Rattle.cpn_definitions.specs.Bindable.{variables_of, IsInTerm, IsEquated, IsSmall, IsBindable, by_term, by_size, by_guard, AreBindable, no_more, and_more}
-use Rattle.cpn_definitions.proofs.RisingLists.{IsIn, in_from_contains, contains_from_in, in_flat_map}
-use Rattle.cpn_stages.specs.Stages.{is_among, is_bound, equations_in, first_solving}
-use Rattle.cpn_stages.specs.Stages as stages
-use Rattle.cpn_definitions.specs.Sound.{IsSolvable}
+use Rattle.cpn_definitions.proofs.RisingLists.{IsIn}
+use Rattle.cpn_stages.specs.Stages.{is_among, equations_in, first_solving}
 use Rattle.cpn_stages.proofs.Numbers.{among_from_in, in_from_among}
 use Rattle.cpn_stages.proofs.Guards.{not_bound}
 

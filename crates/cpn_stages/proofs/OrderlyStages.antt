@@ -1,19 +1,17 @@
 -- The stages of a transition are orderly.
-use Rattle.std.proofs.Common.{◌≡◌, ◌⊎◌, ℕ, Bool, true, false, not, ◌&&◌, List, [], ◌∷◌, ◌++◌, map, Some, refl, sym, ap, ◌∙◌, subst, inl, inr, ⊎_elim, append_assoc, append-nil, Contains}
-use Rattle.std.specs.List.{flat_map, list_all, AllByRecursion}
-use Rattle.std.proofs.lemmas.Bool.{and_parts}
+use Rattle.std.proofs.Common.{◌≡◌, ℕ, Bool, true, false, not, ◌&&◌, List, [], ◌∷◌, ◌++◌, map, Some, refl, sym, subst, inl, inr, ⊎_elim, append_assoc, append-nil}
+use Rattle.std.specs.List.{flat_map}
+use Rattle.std.proofs.lemmas.Bool.{and_parts, not-true}
+use Rattle.std.proofs.lemmas.Grind.{flat_map-append}
 use Rattle.cpn_definitions.specs.Inscription.{PlainExpr}
 use Rattle.cpn_definitions.specs.Net.{BindingTerm, PlainArc, PlainTransition, PlainNet}
 use Rattle.cpn_definitions.specs.Bindable.{binding_terms, variables_of}
 use Rattle.cpn_definitions.proofs.RisingLists.{IsIn, in_from_contains, contains_from_in, in_append_left, in_append_right, passes_at}
-use Rattle.cpn_stages.specs.Stages.{Stage, by_term, by_equation, by_size, variables_at, variables_at_each, terms_at, term_stages, is_among, those_without, is_bound, equations_in, first_solving, Further, none_left, next_equation, next_small, AreStages}
-use Rattle.cpn_stages.specs.Orderly.{IsTimely, IsTimelyStage, AreOrderly}
-use Rattle.cpn_stages.proofs.Numbers.{not_both, in_from_among, among_from_in, not_true, left_or_other}
+use Rattle.cpn_definitions.proofs.TruthValues.{not_both}
+use Rattle.cpn_stages.specs.Stages.{Stage, by_term, by_equation, by_size, variables_at, variables_at_each, terms_at, term_stages, is_among, those_without, equations_in, first_solving, Further, none_left, next_equation, next_small, AreStages}
+use Rattle.cpn_stages.specs.Orderly.{IsTimely, AreOrderly}
+use Rattle.cpn_stages.proofs.Numbers.{in_from_among, among_from_in, left_or_other}
 use Rattle.cpn_stages.proofs.Guards.{found_is}
-
-pub flat_both : {X Y : Type 0} (f : X → List Y) (xs ys : List X) → flat_map f (xs ++ ys) ≡ flat_map f xs ++ flat_map f ys
-flat_both f [] ys = refl
-flat_both f (x ∷ xs) ys = ap (λ zs. f x ++ zs) (flat_both f xs ys) ∙ sym (append_assoc (f x) (flat_map f xs) (flat_map f ys))
 
 -- which stages are terms
 abbrev AreTerms : List Stage → Type 0
@@ -49,10 +47,10 @@ abbrev AreKnown : PlainTransition → List Stage → List ℕ → Type 0
 AreKnown t before left = (y : ℕ) → IsIn y t.vars → is_among left y ≡ false → IsIn y (variables_at_each before)
 
 variable_last : (before : List Stage) (stage : Stage) (y : ℕ) → IsIn y (variables_at_each before) → IsIn y (variables_at_each (before ++ stage ∷ []))
-variable_last before stage y h = subst (IsIn y) (sym (flat_both variables_at before (stage ∷ []))) (in_append_left (variables_at_each before) (variables_at_each (stage ∷ [])) y h)
+variable_last before stage y h = subst (IsIn y) (sym (flat_map-append variables_at before (stage ∷ []))) (in_append_left (variables_at_each before) (variables_at_each (stage ∷ [])) y h)
 
 own_variable : (before : List Stage) (stage : Stage) (x : ℕ) → IsIn x (variables_at stage) → IsIn x (variables_at_each (before ++ stage ∷ []))
-own_variable before stage x h = subst (IsIn x) (sym (flat_both variables_at before (stage ∷ []))) (in_append_right (variables_at_each before) (variables_at_each (stage ∷ [])) x (in_append_left (variables_at stage) [] x h))
+own_variable before stage x h = subst (IsIn x) (sym (flat_map-append variables_at before (stage ∷ []))) (in_append_right (variables_at_each before) (variables_at_each (stage ∷ [])) x (in_append_left (variables_at stage) [] x h))
 
 known_next : (t : PlainTransition) (before : List Stage) (left : List ℕ) (stage : Stage) (x : ℕ) → IsIn x (variables_at stage) → AreKnown t before left → AreKnown t (before ++ stage ∷ []) (those_without (x ∷ []) left)
 known_next t before left stage x own known y listed out = split (is_among left y) refl
@@ -75,7 +73,7 @@ timely t before left x e known found =
       equated = one.equated;
       known = λ y h.
           let both = and_parts (is_among t.vars y) (not (is_among left y)) (passes_at (λ z. is_among t.vars z && not (is_among left z)) (variables_of e) y one.bound (in_from_contains (variables_of e) y h)) in
-          contains_from_in (variables_at_each before) y (known y (in_from_among t.vars y both.0) (not_true (is_among left y) both.1));
+          contains_from_in (variables_at_each before) y (known y (in_from_among t.vars y both.0) (not-true (is_among left y) both.1));
     }
 
 further_orderly : (n : PlainNet) (t : PlainTransition) (before : List Stage) (left : List ℕ) (stages : List Stage) → AreKnown t before left → Further n t left stages → AreOrderly t before stages

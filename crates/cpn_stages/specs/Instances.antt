@@ -1,6 +1,6 @@
 -- Which value a pattern of a binding term is under a partial binding, and the extension that makes a pattern a value.
 -- Source: the binding of variables to token colours, Jensen and Kristensen, chapter 4; the patterns are our own profile's.
-use Rattle.std.specs.Prelude.{◌≡◌, Option, Some}
+use Rattle.std.specs.Prelude.{◌≡◌, Some}
 use Rattle.cpn_definitions.specs.Value.{PlainValue, PlainValues, tuple, bare, applied, list, none, more}
 use Rattle.cpn_definitions.specs.Inscription.{PlainPattern, any_pattern, variable_pattern, literal_pattern, tuple_pattern, list_pattern, cons_pattern, bare_pattern, applied_pattern, PlainPatterns, no_patterns, more_patterns}
 use Rattle.cpn_stages.specs.Partial.{PlainPartial, value_in, Extends}

@@ -1,5 +1,5 @@
 -- Which partial bindings the stages of a transition reach. Source: own choice.
-use Rattle.std.specs.Prelude.{◌≡◌, ℕ, true, ◌↔◌, List, Option, Some, None, Contains}
+use Rattle.std.specs.Prelude.{◌≡◌, ℕ, true, ◌↔◌, List, Some, Contains}
 use Rattle.std.specs.List.{AllByRecursion}
 use Rattle.cpn_definitions.specs.Value.{PlainValue}
 use Rattle.cpn_definitions.specs.Colour.{admits}

@@ -1,6 +1,6 @@
 -- The stages in which the values of a transition's variables are found, one after another: its binding terms, equations of its
 -- guard, variables of small colour sets. Source: own choice.
-use Rattle.std.specs.Prelude.{◌≡◌, ℕ, ◌==◌, Bool, true, false, not, ◌&&◌, if◌then◌else◌, List, [], ◌∷◌, ◌++◌, map, Option, Some, None, Contains}
+use Rattle.std.specs.Prelude.{◌≡◌, ℕ, ◌==◌, Bool, not, ◌&&◌, if◌then◌else◌, List, [], ◌∷◌, ◌++◌, map, Option, Some, None}
 use Rattle.std.specs.List.{filter, flat_map, list_all, list_any, AllByRecursion}
 use Rattle.cpn_definitions.specs.Inscription.{operation, equality, PlainPattern, PlainExpr, variable, apply, no_exprs, more_exprs}
 use Rattle.cpn_definitions.specs.Net.{PlainArc, PlainTransition, PlainNet, variable_at}

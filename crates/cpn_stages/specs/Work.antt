@@ -1,6 +1,5 @@
 -- How many tries a search of a transition makes, stage by stage. Source: own choice.
 use Rattle.std.specs.Prelude.{◌≡◌, ℕ, ◌+◌, ◌*◌, ◌↔◌, List, [], ◌∷◌, ◌++◌, length, Contains}
-use Rattle.cpn_definitions.specs.Value.{PlainValue}
 use Rattle.cpn_definitions.specs.Marking.{Marking}
 use Rattle.cpn_definitions.specs.Net.{PlainTransition, PlainNet, transition_at}
 use Rattle.cpn_stages.specs.Stages.{Stage, by_term, by_equation, by_size, AreStages}

@@ -7,7 +7,6 @@ mod Repetitions
 mod ReadForms
 mod ViableTexts
 mod FirstSteps
-mod FormViews
 mod Joints
 mod PartSteps
 mod LastParts

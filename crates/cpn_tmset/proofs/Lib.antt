@@ -1,13 +1,12 @@
 mod RepeatedStamps
 mod LatestStamps
-mod SameTokens
 mod KeptTokens
 mod EntryStamps
 mod TokenCounts
 mod Errors
 mod ChangedTokens
 mod CoveredNeeds
-mod CountedTokens
+pub mod CountedTokens
 mod CopiedEntries
 mod TakenNeeds
 mod Thresholds

@@ -25,7 +25,7 @@ pub first_is : (ds : Declared) (place : Place) (xs : List Ast) (x : Ast) (at : �
 first_is ds place [] x at sc w lt e = absurd (omega arith)
 first_is ds place (y ∷ ys) x at sc w lt e = ap (λ z. typed ds place (ast_view z) sc w) (sym e)
 
-place_there : (x : Ast) → place_of (ast_view x) ≡ x.at
+pub place_there : (x : Ast) → place_of (ast_view x) ≡ x.at
 place_there x = search (rules, the_lemmas)
 
 pub place_is : (xs : List Ast) (x : Ast) (at : ℕ) → 0 < length xs → x ≡ get_or xs 0 x → first_place at (asts_from (map ast_view xs)) ≡ x.at

@@ -1,20 +1,17 @@
 -- The rule of `foldl`, once its list and its start are typed.
-use Rattle.std.proofs.Common.{◌≡◌, List, [], ◌∷◌, ◌++◌, refl, sym, subst, rules, Option, Some, None}
+use Rattle.std.proofs.Common.{◌≡◌, List, [], ◌∷◌, ◌++◌, refl, sym, subst, Option, Some, None}
 use Rattle.cpn_definitions.specs.Inscription.{accumulate}
 use Rattle.cpn_trees.specs.AstViews.{ast_view}
-use Rattle.cpn_trees.specs.declared.trees.Ast.{Ast, the_lemmas}
+use Rattle.cpn_trees.specs.declared.trees.Ast.{Ast}
 use Rattle.cpn_typing.specs.Types.{PlainTy}
 use Rattle.cpn_typing.specs.Names.{Name, Scope, local_of, Refusal, ok, ◌>>=◌}
-use Rattle.cpn_typing.specs.Rules.{Typed, part, fold_rule, item_of, place_of}
+use Rattle.cpn_typing.specs.Rules.{Typed, part, fold_rule, item_of}
 use Rattle.cpn_typing.specs.Answers.{Refuses}
 use Rattle.cpn_types.specs.Around.{typed_in, typed_then, body_in}
 use Rattle.cpn_forms.specs.ScopeViews.{scope_view}
 use Rattle.cpn_forms.specs.declared.scopes.Local.{Local}
 use Rattle.cpn_types.specs.declared.surroundings.Surroundings.{Surroundings}
-use Rattle.cpn_types.proofs.CallFronts.{refused_behind}
-
-place_there : (x : Ast) → place_of (ast_view x) ≡ x.at
-place_there x = search (rules, the_lemmas)
+use Rattle.cpn_types.proofs.CallFronts.{refused_behind, place_there}
 
 pub fold_apart : (around : Surroundings) (item total : Name) (list start body : Ast) (scope : List Local) (w : Option PlainTy) (xs s : Typed) (t : PlainTy) (inner : Scope)
     → typed_in around list scope None ≡ ok xs → item_of xs.type_of list.at ≡ ok t → typed_in around start scope w ≡ ok s → inner ≡ scope_view scope ++ local_of item t ∷ local_of total s.type_of ∷ []

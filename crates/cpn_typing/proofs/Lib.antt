@@ -28,8 +28,6 @@ mod NameRows
 mod PlaceRows
 mod BindableRows
 pub mod MeaningfulTransitions
-mod LimitedColours
-mod FirstKnown
 pub mod Answered
 pub mod Bindings
 pub mod Grown

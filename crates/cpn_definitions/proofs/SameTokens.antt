@@ -12,10 +12,10 @@ use Rattle.cpn_definitions.proofs.Stamps.{stamps_without, stamps_without_other}
 -- ---- the stamps of a value among sorted tokens
 
 -- the first token's stamp is the first of its value
-stamps_here : (k : PlainToken) (ks : Tokens) → stamps k.value (k ∷ ks) ≡ k.stamp ∷ stamps k.value ks
+pub stamps_here : (k : PlainToken) (ks : Tokens) → stamps k.value (k ∷ ks) ≡ k.stamp ∷ stamps k.value ks
 stamps_here k ks = cond-true (same_value k.value k.value) (k.stamp ∷ stamps k.value ks) (stamps k.value ks) (same_value_refl k.value)
 
-less_upto : (u v w : PlainValue) → value_cmp u v ≡ Less → is_gt (value_cmp v w) ≡ false → value_cmp u w ≡ Less
+pub less_upto : (u v w : PlainValue) → value_cmp u v ≡ Less → is_gt (value_cmp v w) ≡ false → value_cmp u w ≡ Less
 less_upto u v w h g = split (value_cmp v w) refl g
   where
     split : (o : Ordering) → value_cmp v w ≡ o → is_gt o ≡ false → value_cmp u w ≡ Less
@@ -24,7 +24,7 @@ less_upto u v w h g = split (value_cmp v w) refl g
     split Greater e f = cc
 
 -- a value that is below that of the first token has no stamps
-below_none : (u : PlainValue) (k : PlainToken) (ks : Tokens) → AreSorted (k ∷ ks) → value_cmp u k.value ≡ Less → stamps u (k ∷ ks) ≡ []
+pub below_none : (u : PlainValue) (k : PlainToken) (ks : Tokens) → AreSorted (k ∷ ks) → value_cmp u k.value ≡ Less → stamps u (k ∷ ks) ≡ []
 below_none u k [] sorted h = rw h refl
 below_none u k (l ∷ ls) sorted h = rw h (below_none u l ls sorted.1 (less_upto u k.value l.value h (value_not_above k l sorted.0)))
 

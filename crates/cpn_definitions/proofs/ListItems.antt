@@ -1,8 +1,8 @@
--- The items of a list: the last one, and one of them with what stands before and behind it.
-use Rattle.std.proofs.Common.{◌≡◌, ℕ, zero, suc, ◌<◌, List, [], ◌∷◌, ◌++◌, length, map, Some, refl, ap, arith, inl, inr, slice_get, slice_set}
+-- The items of a list: the last one, one that is set, and one of them with what stands before and behind it.
+use Rattle.std.proofs.Common.{◌≡◌, ℕ, zero, suc, ◌+◌, ◌<◌, List, [], ◌∷◌, ◌++◌, length, map, get_or, drop, Option, Some, None, refl, sym, ap, ◌∙◌, arith, inl, inr, slice_get, slice_set, option_map}
 use Rattle.std.specs.List.{AllByRecursion}
+use Rattle.std.proofs.lemmas.List.{drop_more}
 use Rattle.cpn_definitions.proofs.RisingLists.{IsIn}
-use Rattle.cpn_runs.specs.Filling.{EachTwo}
 
 -- ---- the last of a list
 
@@ -52,33 +52,42 @@ place_known [] (suc i) x is = absurd cc
 place_known (y ∷ ys) zero x is = omega arith
 place_known (y ∷ ys) (suc i) x is = let rest = place_known ys i x is in omega arith
 
--- ---- what holds of each
+-- the next item of those that are left, as it is seen, and the others
+pub next_left : {A B : Type 0} (view : A → B) (xs : List A) (i : ℕ) (x : A) → i < length xs → x ≡ get_or xs i x → map view (drop i xs) ≡ view x ∷ map view (drop (i + 1) xs)
+next_left view xs i x lt is = ap (map view) (drop_more xs i x lt ∙ ap (λ y. y ∷ drop (i + 1) xs) (sym is))
 
-pub all_joined : {A : Type 0} (P : A → Type 0) (xs ys : List A) → AllByRecursion P xs → AllByRecursion P ys → AllByRecursion P (xs ++ ys)
-all_joined P [] ys all more = more
-all_joined P (x ∷ xs) ys all more = (all.0, all_joined P xs ys all.1 more)
+-- lists that are one have one head
+pub head_of : {A : Type 0} (x y : A) (xs ys : List A) → x ∷ xs ≡ y ∷ ys → x ≡ y
+head_of x y xs ys e = cc
+
+-- ---- an item that is set, and the others
+
+pub set_there : {A : Type 0} (xs : List A) (i : ℕ) (x : A) → i < length xs → slice_get (slice_set xs i x) i ≡ Some x
+set_there [] i x lt = absurd (omega arith)
+set_there (y ∷ xs) zero x lt = refl
+set_there (y ∷ xs) (suc i) x lt = set_there xs i x (omega arith)
+
+pub set_elsewhere : {A : Type 0} (xs : List A) (i j : ℕ) (x : A) → (i ≡ j → ⊥) → slice_get (slice_set xs i x) j ≡ slice_get xs j
+set_elsewhere [] i j x other = refl
+set_elsewhere (y ∷ xs) zero zero x other = absurd (other refl)
+set_elsewhere (y ∷ xs) zero (suc j) x other = refl
+set_elsewhere (y ∷ xs) (suc i) zero x other = refl
+set_elsewhere (y ∷ xs) (suc i) (suc j) x other = set_elsewhere xs i j x (λ e. other (ap (λ (k : ℕ). suc k) e))
+
+pub set_long : {A : Type 0} (xs : List A) (i : ℕ) (x : A) → length (slice_set xs i x) ≡ length xs
+set_long [] i x = refl
+set_long (y ∷ xs) zero x = refl
+set_long (y ∷ xs) (suc i) x = ap (λ (k : ℕ). suc k) (set_long xs i x)
+
+-- ---- what holds of each
 
 pub all_parts : {A : Type 0} (P : A → Type 0) (xs ys : List A) → AllByRecursion P (xs ++ ys) → AllByRecursion P xs × AllByRecursion P ys
 all_parts P [] ys all = (tt, all)
 all_parts P (x ∷ xs) ys all = let rest = all_parts P xs ys all.1 in ((all.0, rest.0), rest.1)
 
--- ---- what holds of each two
+-- ---- what may be there
 
-module _ {A : Type 0} (R : A → A → Type 0) where
-  pub each_itself : ((x : A) → R x x) → (xs : List A) → EachTwo R xs xs
-  each_itself itself [] = tt
-  each_itself itself (x ∷ xs) = (itself x, each_itself itself xs)
-
-  pub each_through : ((x y z : A) → R x y → R y z → R x z) → (xs ys zs : List A) → EachTwo R xs ys → EachTwo R ys zs → EachTwo R xs zs
-  each_through through [] [] [] first second = tt
-  each_through through [] [] (z ∷ zs) first second = absurd second
-  each_through through [] (y ∷ ys) zs first second = absurd first
-  each_through through (x ∷ xs) [] zs first second = absurd first
-  each_through through (x ∷ xs) (y ∷ ys) [] first second = absurd second
-  each_through through (x ∷ xs) (y ∷ ys) (z ∷ zs) first second = (through x y z first.0 second.0, each_through through xs ys zs first.1 second.1)
-
-  pub each_joined : (xs ys more others : List A) → EachTwo R xs ys → EachTwo R more others → EachTwo R (xs ++ more) (ys ++ others)
-  each_joined [] [] more others each rest = rest
-  each_joined [] (y ∷ ys) more others each rest = absurd each
-  each_joined (x ∷ xs) [] more others each rest = absurd each
-  each_joined (x ∷ xs) (y ∷ ys) more others each rest = (each.0, each_joined xs ys more others each.1 rest)
+-- a value that is made of another comes from one
+pub made_of : {A B : Type 0} (f : A → B) (o : Option A) (y : B) → option_map f o ≡ Some y → (x : A) × (o ≡ Some x) × (f x ≡ y)
+made_of f None y is = cc
+made_of f (Some x) y is = (x, refl, (let same : f x ≡ y = cc in same))
