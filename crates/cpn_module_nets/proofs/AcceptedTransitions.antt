@@ -84,8 +84,8 @@ joined_good ds places t (x ∷ xs) arcs good all = (
   record {
     guard = good.0.guard;
     delay = good.0.delay;
-    inputs = each_appended (IsGoodInput ds places) x.inputs (inputs_of t arcs) good.0.inputs (inputs_all (IsGoodInput ds places) t arcs (all_weaker (AreGoodSides ds places) (λ (sides : Sides). IfThere (IsGoodInput ds places) sides.input) (λ sides are. are.into) arcs all));
-    outputs = each_appended (IsGoodArc ds places output) x.outputs (outputs_of t arcs) good.0.outputs (outputs_all (IsGoodArc ds places output) t arcs (all_weaker (AreGoodSides ds places) (λ (sides : Sides). IfThere (IsGoodArc ds places output) sides.output) (λ sides are. are.out) arcs all));
+    inputs = each_appended (IsGoodInput ds places) x.inputs (inputs_of t arcs) good.0.inputs (inputs_all (IsGoodInput ds places) t arcs (each_implied (AreGoodSides ds places) (λ (sides : Sides). IfThere (IsGoodInput ds places) sides.input) arcs (λ sides are. are.into) all));
+    outputs = each_appended (IsGoodArc ds places output) x.outputs (outputs_of t arcs) good.0.outputs (outputs_all (IsGoodArc ds places output) t arcs (each_implied (AreGoodSides ds places) (λ (sides : Sides). IfThere (IsGoodArc ds places output) sides.output) arcs (λ sides are. are.out) all));
   },
   joined_good ds places (suc t) xs arcs good.1 all,
 )
