@@ -2,7 +2,7 @@
 use Rattle.std.proofs.Common.{◌≡◌, ℕ, suc, ◌+◌, ◌-◌, ◌<◌, ◌≤◌, max, List, ◌∷◌, ◌++◌, replicate, refl, sym, ap, ◌∙◌, arith, Ordering}
 use Rattle.cpn_definitions.specs.Lists.{with_item, with_items}
 use Rattle.cpn_definitions.specs.Net.{PlainArc}
-use Rattle.cpn_definitions.specs.Outcome.{Outcome, gives, faults, no_meaning, Fault}
+use Rattle.cpn_definitions.specs.Outcome.{Outcome, gives, faults, no_meaning, Fault, ◌>>=◌}
 use Rattle.cpn_definitions.specs.Terms.{PlainTerm}
 use Rattle.cpn_definitions.specs.Occurrence.{gather}
 use Rattle.cpn_definitions.proofs.OrderedLists.{with_items_append}

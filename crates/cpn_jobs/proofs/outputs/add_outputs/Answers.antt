@@ -31,4 +31,4 @@ loop-term-preserved c =
 pub returns-in_err-terms : goal.returns-in_err-terms
 returns-in_err-terms c =
     let p = err_from_is_err_and c.from_residual.result c.from_residual.ensures.1 in
-    record { added = rw (p.1, p.2) (refused_then c.in_err-terms.field-0.0 (made_by_arc (funs_view c.args.funs.now) c.args.binding.now c.args.time c.args.delay (work_arc_view c.args.arc.now)) _ (refused_then c.in_err-terms.field-0.0 _ _ c.in_err-terms.ensures.terms)) }
+    record { added = rw (p.1, p.2) (refused_then c.in_err-terms.field-0.0 (made_by_arc (funs_view c.args.funs.now) c.args.binding.now c.args.time c.args.delay (work_arc_view c.args.arc.now)) _ (refused_then c.in_err-terms.field-0.0 _ _ (rw c.deref.ensures at c.in_err-terms.ensures.terms))) }
