@@ -1,11 +1,11 @@
 -- Loops, step by step: pairs that are pushed one after another, marks, picked instances.
 use Rattle.std.proofs.Common.{◌≡◌, ℕ, ◌+◌, ◌<◌, ◌≤◌, Bool, true, false, List, [], ◌∷◌, ◌++◌, length, get_or, map, take, Option, Some, None, refl, sym, ap, subst, ◌∙◌, append_assoc, inl, inr, arith}
-use Rattle.std.specs.Prelude.{◌≢◌, All, Contains, slice_index_or, slice_set, replicate, IsSome}
+use Rattle.std.specs.Prelude.{◌≢◌, Contains, slice_index_or, slice_set, replicate, IsSome}
 use Rattle.std.specs.List.{flat_map}
 use Rattle.std.proofs.lemmas.Bool.{cases_order, cases_lt}
-use Rattle.std.proofs.lemmas.List.{append-nil, take_all, get_or-replicate, get_or_past, length-replicate, take_more, map_more, get_or-set_same, get_or-set_other}
+use Rattle.std.proofs.lemmas.List.{append-nil, get_or-replicate, get_or_past, length-replicate, take_more, map_more, get_or-set_same, get_or-set_other}
 use Rattle.std.proofs.lemmas.List.Concat.{flat_map-append}
-use Rattle.std.proofs.lemmas.List.Elements.{All-push, Contains-push, Contains-push_cases, Contains-append_left}
+use Rattle.std.proofs.lemmas.List.Elements.{Contains-push, Contains-push_cases, Contains-append_left}
 use Rattle.cpn_fuse.specs.Instances.{PlainInstance, instance_at}
 use Rattle.cpn_fuse.specs.FewerPairs.{ArePicked, AreMarked}
 
@@ -126,16 +126,3 @@ all_picked_from is picked k e are = record {
   instance = λ m i is_some. let told = are.instance m i is_some in (rw e told.0, told.1);
   each = λ i lt. are.each i (rw (← e) lt);
 }
-
--- ---- what holds of each, as it is seen
-
--- of the next one too
-pub all_seen_more : {X Y : Type 0} (P : Y → Type 0) (f : X → Y) (xs : List X) (i : ℕ) (d : X) → i < length xs → All P (map f (take i xs)) → P (f (get_or xs i d)) → All P (map f (take (i + 1) xs))
-all_seen_more P f xs i d lt all next = rw (map_more f xs i d lt) (All-push P (map f (take i xs)) (f (get_or xs i d)) all next)
-
-pub all_read_more : {X Y : Type 0} (P : Y → Type 0) (f : X → Y) (xs : List X) (i : ℕ) (x : X) → i < length xs → x ≡ get_or xs i x → All P (map f (take i xs)) → P (f x) → All P (map f (take (i + 1) xs))
-all_read_more {X} P f xs i x lt e all next = all_seen_more P f xs i x lt all (subst (λ (y : X). P (f y)) e next)
-
--- so of all
-pub all_seen : {X Y : Type 0} (P : Y → Type 0) (f : X → Y) (xs : List X) (i : ℕ) → length xs ≤ i → All P (map f (take i xs)) → All P (map f xs)
-all_seen P f xs i le all = rw (take_all i xs le) at all

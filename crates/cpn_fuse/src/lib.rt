@@ -17,6 +17,3 @@ pub use compound_places::compound;
 pub use instances::{Instance, PartOf};
 pub use refusals::UnfoldError;
 pub use unfolding::{Unfolded, one_unfolding, unfold};
-
-#[cfg(test)]
-mod tests;
