@@ -8,6 +8,3 @@ mod classes;
 mod trees;
 
 pub use classes::Classes;
-
-#[cfg(test)]
-mod tests;

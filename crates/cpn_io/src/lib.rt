@@ -36,6 +36,3 @@ pub use outside::{Got, Put, Sink, Source};
 pub use reading::{MOST_BYTES, ReadError, read_all};
 pub use standard_streams::{Stdin, Stdout};
 pub use writing::{WriteError, write_all};
-
-#[cfg(test)]
-mod tests;

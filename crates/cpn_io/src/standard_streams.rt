@@ -119,6 +119,3 @@ impl<W: Write + Drop> Sink for Stdout<W> {
         }
     }
 }
-
-#[cfg(test)]
-mod tests;

@@ -14,8 +14,6 @@ mod markings;
 mod replay;
 mod settled;
 mod states;
-#[cfg(test)]
-mod tests;
 mod tokens;
 mod touched;
 
