@@ -16,6 +16,11 @@ The words of a row name one:
     fusion of N     the same, joined by a fusion set
     cycle of N      a top, and below it a chain of N modules, of which the last has the first as its part
     doubled N times N + 1 modules, each of which but the last has the next one as its part twice
+    ports doubled N times
+                    the same, each with a place, and all these places are one, joined by ports and sockets
+    N parts with P places, K listed R times
+                    a top with N parts, all one module; both modules have P places, and a fusion set has the first K of the parts' module,
+                    one after another, R times
     all of N        N modules, each of which has all later ones as its parts: 2^(N-1) instances
     all of N, and the last again
                     the same, where the last module is its own part too
@@ -260,6 +265,25 @@ def doubled(times):
     return as_bytes(modules), report([])
 
 
+def ports_doubled(times):
+    modules = []
+    for i in range(times + 1):
+        parts = "lr" if i < times else ""
+        arcs = [arc("P", name, "both") for name in parts]
+        subs = [sub(name, f"M{i + 1}", ("P", "P")) for name in parts]
+        modules.append(module(f"M{i}" if i else "Top", [place("P", port="io" if i else None)], [], arcs, subs))
+    return as_bytes(modules), report([("Top/P", "empty")])
+
+
+def listed(parts, places, fused, times):
+    own = [place(f"P{i}") for i in range(places)]
+    members = [member("M", f"P{i}") for _ in range(times) for i in range(fused)]
+    modules = [module("Top", own, subs=[sub(f"s{k}", "M") for k in range(parts)]), module("M", own)]
+    names = [f"Top/P{i}" for i in range(places)]
+    names += [f"Top/s{k}/P{i}" for k in range(parts) for i in range(places) if i >= fused or i == k == 0]
+    return as_bytes(modules, [{"name": "F", "members": members}]), report([(name, "empty") for name in names])
+
+
 def all_later(number, again):
     """Returns modules of which each has all later ones as its parts, and the last one itself where it is said again."""
     names = ["Top", *(f"M{i}" for i in range(1, number))]
@@ -280,6 +304,8 @@ MADE = {
     r"all of (\d+)(, and the last again)?": lambda number, again: all_later(int(number), again),
     r"cycle of (\d+)": lambda number: (cycle(int(number)), None),
     r"doubled (\d+) times": lambda times: doubled(int(times)),
+    r"ports doubled (\d+) times": lambda times: ports_doubled(int(times)),
+    r"(\d+) parts with (\d+) places, (\d+) listed (\d+) times": lambda *numbers: listed(*map(int, numbers)),
 }
 
 

@@ -15,3 +15,5 @@ pub mod WholeBindings
 mod AllEnds
 pub mod ApartEnds
 pub mod TransitionEnds
+mod OneTerm
+mod OneTermRows

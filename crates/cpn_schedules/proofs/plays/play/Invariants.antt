@@ -1,7 +1,0 @@
--- Unless the run has ended, what its book shows can be printed.
-use Rattle.std.specs.Prelude.{IfSome}
-use Rattle.cpn_schedules.specs.Shown.{IsShown}
-use Rattle.cpn_schedules.proofs.plays.play.Given as goal
-
-abbrev pub invariant-loop-line : goal.invariant-loop-line
-invariant-loop-line l = IfSome l.run (λ book. IsShown book)

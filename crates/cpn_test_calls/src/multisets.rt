@@ -1,0 +1,50 @@
+//! Whether a multiset covers another one, and what that takes from it.
+
+use cpn_core::{Memory, Value};
+use cpn_mset::MSet;
+use std::alloc::Global;
+
+/// More than any of these multisets, places and markings has.
+pub const MANY: u64 = 1_000_000;
+
+/// The multiset of these numbers, each with how often it appears.
+pub fn multiset_of(alloc: Global, counts: &[(i64, u64)]) -> Result<MSet, Memory> {
+    let mut multiset = MSet::new(alloc);
+    for (number, count) in counts {
+        let value = Value::Int(*number);
+        if multiset.count(&value) < MANY && *count < MANY {
+            multiset.add(value, *count)?;
+        }
+    }
+    Ok(multiset)
+}
+
+/// The number that a value is, or -1.
+pub fn number_of(value: &Value) -> i64 {
+    match value {
+        Value::Int(number) => *number,
+        _ => -1,
+    }
+}
+
+/// Whether the first multiset covers the second, and what is left without it.
+pub fn told_of_multisets(
+    alloc: Global,
+    first: &[(i64, u64)],
+    second: &[(i64, u64)],
+) -> Result<String, Memory> {
+    let mut first = multiset_of(alloc, first)?;
+    let second = multiset_of(alloc, second)?;
+    let mut text = String::new(alloc);
+    if !first.covers(&second) {
+        text.push_str("not covered")?;
+        return Ok(text);
+    }
+    first.subtract(&second);
+    text.push_str("covered, left")?;
+    for (value, count) in first.iter() {
+        let number = number_of(value);
+        write!(text, " {number}x{count}")?;
+    }
+    Ok(text)
+}

@@ -1,6 +1,0 @@
-mod ThreeMeanings
-mod SolvableGuards
-mod LoneVariables
-mod TwoPlaceNets
-mod PrintedNets
-mod PlayedNet

@@ -1,3 +1,0 @@
-pub mod ThreeVariables
-pub mod TwoPlaces
-pub mod ThreePlaces
