@@ -116,6 +116,7 @@ def document_of(row, net, written):
         module["transitions"][0][row.kind] = text(row.text)
     elif row.kind in ("transition", "place"):
         module[f"{row.kind}s"][0] |= json.loads("{" + text(row.text) + "}")
+        arc["place"] = here["name"]
     else:
         raise ValueError(f"a text does not stand at {row.kind}")
     return document
