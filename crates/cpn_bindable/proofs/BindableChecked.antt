@@ -4,10 +4,10 @@ use Rattle.std.specs.List.{flat_map, AllByRecursion}
 use Rattle.std.proofs.lemmas.List.{length-map}
 use Rattle.cpn_definitions.specs.Net.{PlainArc, Coloured, PlainTransition, PlainNet, variable_at, nothing}
 use Rattle.cpn_definitions.specs.Bindable.{binding_terms, pattern_variables, IsInTerm, IsSmall, IsBindable}
-use Rattle.cpn_definitions.proofs.RisingLists.{IsIn, in_from_contains, contains_from_in, in_append_left, in_append_right, in_flat_map, of_one_in}
+use Rattle.cpn_definitions.proofs.RisingLists.{IsIn, in_from_contains, contains_from_in, in_append_left, in_append_right, in_flat_map, of_one_in, in_flat_from}
 use Rattle.cpn_typing.specs.BindableRule.{FirstIs}
 use Rattle.cpn_typing.specs.Closure.{equations_of, found_in}
-use Rattle.cpn_typing.proofs.LeastBindable.{in_flat, IsStart, listed_in, in_listed, found_from_start}
+use Rattle.cpn_typing.proofs.LeastBindable.{IsStart, listed_in, in_listed, found_from_start}
 use Rattle.cpn_typing.proofs.BindableAnswers.{one_more}
 use Rattle.cpn_bindable.specs.declared.equations.Equation.{Equation as Pair}
 use Rattle.cpn_bindable.specs.Equations.{equation_view, equations_view}
@@ -22,8 +22,8 @@ carried_by arc = flat_map (λ term. pattern_variables term.pattern) arc.terms
 -- the variables that input arcs carry are those that stand in their terms
 in_terms : (t : PlainTransition) → AllByRecursion CarriesItsTerms t.inputs → (x : ℕ) → IsIn x (carried_variables t.inputs) → IsInTerm t x
 in_terms t carry x h =
-    let arc = in_flat carried_by t.inputs x h in
-    let term = in_flat (λ term. pattern_variables term.pattern) arc.0.terms x arc.2 in
+    let arc = in_flat_from carried_by t.inputs x h in
+    let term = in_flat_from (λ term. pattern_variables term.pattern) arc.0.terms x arc.2 in
     record {
       arc = arc.0;
       is_input = contains_from_in t.inputs arc.0 arc.1;

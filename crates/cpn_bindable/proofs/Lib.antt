@@ -1,9 +1,9 @@
-pub mod BindableChecked
-pub mod BindingTermForms
-pub mod EquationForms
-pub mod FoundSteps
-pub mod GatheredVariables
-pub mod ListedNumbers
-pub mod PatternLists
-pub mod RisingNumbers
-pub mod SmallAdded
+mod BindableChecked
+mod BindingTermForms
+mod EquationForms
+mod FoundSteps
+mod GatheredVariables
+mod ListedNumbers
+mod PatternLists
+mod RisingNumbers
+mod SmallAdded

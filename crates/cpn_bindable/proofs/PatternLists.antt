@@ -18,10 +18,6 @@ abbrev pub with_front : List PlainPattern → Option PlainPatterns → Option Pl
 with_front ps None = None
 with_front ps (Some qs) = Some (ahead_of ps qs)
 
-pub no_front : (o : Option PlainPatterns) → with_front [] o ≡ o
-no_front None = refl
-no_front (Some qs) = refl
-
 one_more : (ps : List PlainPattern) (p : PlainPattern) (qs : PlainPatterns) → ahead_of (ps ++ p ∷ []) qs ≡ ahead_of ps (more_patterns p qs)
 one_more [] p qs = refl
 one_more (q ∷ ps) p qs = ap (more_patterns q) (one_more ps p qs)
@@ -39,9 +35,6 @@ front_goes ps p e es is = split (patterns_of es) ∙ ap (λ o. with_front ps (op
     split : (o : Option PlainPatterns) → with_front (ps ++ p ∷ []) o ≡ with_front ps (option_map (more_patterns p) o)
     split None = refl
     split (Some qs) = ap Some (one_more ps p qs)
-
-pub front_misses : (ps : List PlainPattern) (e : PlainExpr) (es : PlainExprs) → pattern_of e ≡ None → with_front ps (patterns_of (more_exprs e es)) ≡ None
-front_misses ps e es is = ap (λ o. with_front ps (option_and_then (λ q. option_map (more_patterns q) (patterns_of es)) o)) is
 
 -- ---- in the loop over the inscriptions
 

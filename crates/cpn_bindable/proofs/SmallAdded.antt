@@ -1,5 +1,5 @@
 -- What is known once the variables of small colour sets are known too.
-use Rattle.std.proofs.Common.{◌≡◌, ◌⊎◌, ℕ, zero, suc, ◌+◌, ◌<◌, ◌≤◌, ◌==◌, Bool, true, false, ◌||◌, List, [], ◌∷◌, ◌++◌, map, length, get_or, take, slice_index_or, refl, sym, ap, ◌∙◌, subst, inl, inr, ⊎_elim, arith, eqb-true, eq-eqb}
+use Rattle.std.proofs.Common.{◌≡◌, ◌⊎◌, ℕ, zero, suc, ◌+◌, ◌<◌, ◌≤◌, ◌==◌, Bool, true, false, ◌||◌, List, [], ◌∷◌, ◌++◌, map, length, get_or, take, slice_index_or, refl, sym, ap, ◌∙◌, subst, inr, ⊎_elim, arith, eqb-true}
 use Rattle.std.proofs.lemmas.Bool.{or_cases}
 use Rattle.std.proofs.lemmas.List.{take_more, map-append, append-nil}
 use Rattle.std.proofs.lemmas.Grind.{flat_map-append}
@@ -11,7 +11,6 @@ use Rattle.cpn_core.specs.Nets.{variable_view}
 use Rattle.cpn_bindable.specs.declared.equations.Equation.{Equation}
 use Rattle.cpn_bindable.specs.Equations.{equation_view, equations_view}
 use Rattle.cpn_bindable.specs.Known.{is_listed, sources_of, AddsSmall}
-use Rattle.cpn_bindable.proofs.ListedNumbers.{listed_last}
 
 -- ---- listed in a join
 
@@ -32,9 +31,6 @@ alone x y h = split (y == x) refl h
 
 -- ---- steps
 
-pub adds_none : (vs : List Coloured) (xs : List ℕ) → AddsSmall vs [] xs xs
-adds_none vs xs = record { kept = λ x h. h; added = λ x h. inl h; small = λ x h s. cc }
-
 pub adds_both : (vs : List Coloured) (xs ys a b c : List ℕ) → AddsSmall vs xs a b → AddsSmall vs ys b c → AddsSmall vs (xs ++ ys) a c
 adds_both vs xs ys a b c first second = record {
   kept = λ x h. second.kept x (first.kept x h);
@@ -42,35 +38,7 @@ adds_both vs xs ys a b c first second = record {
   small = λ x h s. ⊎_elim (λ g. second.kept x (first.small x g s)) (λ g. second.small x g s) (or_cases (is_listed xs x) (is_listed ys x) (sym (listed_join xs ys x) ∙ h));
 }
 
-pub adds_known : (vs : List Coloured) (x : ℕ) (old : List ℕ) → is_listed old x ≡ true → AddsSmall vs (x ∷ []) old old
-adds_known vs x old is = record { kept = λ y h. h; added = λ y h. inl h; small = λ y h s. subst (λ z. is_listed old z ≡ true) (sym (alone x y h)) is }
-
-pub adds_other : (vs : List Coloured) (x : ℕ) (old : List ℕ) → (IsSmall (slice_index_or vs x nothing).colour → ⊥) → AddsSmall vs (x ∷ []) old old
-adds_other vs x old large = record {
-  kept = λ y h. h;
-  added = λ y h. inl h;
-  small = λ y h s. absurd (large (subst (λ z. IsSmall (slice_index_or vs z nothing).colour) (alone x y h) s));
-}
-
-pub adds_small : (vs : List Coloured) (x : ℕ) (old : List ℕ) → IsSmall (slice_index_or vs x nothing).colour → AddsSmall vs (x ∷ []) old (old ++ x ∷ [])
-adds_small vs x old is = record {
-  kept = λ y h. listed_last old x y ∙ rest y h (y == x);
-  added = λ y h. split y (y == x) refl (sym (listed_last old x y) ∙ h);
-  small = λ y h s. listed_last old x y ∙ rw (eq-eqb y x (alone x y h)) refl;
-}
-  where
-    rest : (y : ℕ) → is_listed old y ≡ true → (b : Bool) → (b || is_listed old y) ≡ true
-    rest y h true = refl
-    rest y h false = h
-
-    split : (y : ℕ) (b : Bool) → (y == x) ≡ b → (b || is_listed old y) ≡ true → (is_listed old y ≡ true) ⊎ IsSmall (slice_index_or vs y nothing).colour
-    split y true same h = inr (subst (λ z. IsSmall (slice_index_or vs z nothing).colour) (sym (eqb-true y x same)) is)
-    split y false same h = inl h
-
 -- ---- in the loops
-
-pub adds_next : (vs : List Coloured) (xs : List ℕ) (i x : ℕ) (a b c : List ℕ) → i < length xs → x ≡ get_or xs i x → AddsSmall vs (take i xs) a b → AddsSmall vs (x ∷ []) b c → AddsSmall vs (take (i + 1) xs) a c
-adds_next vs xs i x a b c lt at first second = subst (λ ys. AddsSmall vs ys a c) (sym (rw (take_more xs i x lt, ← at) refl)) (adds_both vs (take i xs) (x ∷ []) a b c first second)
 
 pub adds_sources : (vs : List Coloured) (es : List Equation) (i : ℕ) (e : Equation) (a b c : List ℕ) → i < length es → e ≡ get_or es i e → AddsSmall vs (sources_of (equations_view (take i es))) a b → AddsSmall vs e.sources.items b c → AddsSmall vs (sources_of (equations_view (take (i + 1) es))) a c
 adds_sources vs es i e a b c lt at first second = subst (λ ys. AddsSmall vs ys a c) (sym sources) (adds_both vs (sources_of (equations_view (take i es))) e.sources.items a b c first second)
@@ -87,13 +55,3 @@ pub past_is_small : (vs : List Variable) (k : ℕ) → length vs ≤ k → IsSma
 past_is_small [] k le = unit_is_small
 past_is_small (v ∷ vs) zero le = absurd (omega arith)
 past_is_small (v ∷ vs) (suc k) le = past_is_small vs k (omega arith)
-
-pub seen_variable : (vs : List Variable) (k : ℕ) (v : Variable) → k < length vs → v ≡ get_or vs k v → slice_index_or (map variable_view vs) k nothing ≡ variable_view v
-seen_variable [] k v lt at = absurd (omega arith)
-seen_variable (w ∷ vs) zero v lt at = ap variable_view (sym at)
-seen_variable (w ∷ vs) (suc k) v lt at = seen_variable vs k v (omega arith) at
-
-pub past_has_no_name : (vs : List Variable) (k : ℕ) → length vs ≤ k → (slice_index_or (map variable_view vs) k nothing).name ≡ []
-past_has_no_name [] k le = refl
-past_has_no_name (v ∷ vs) zero le = absurd (omega arith)
-past_has_no_name (v ∷ vs) (suc k) le = past_has_no_name vs k (omega arith)

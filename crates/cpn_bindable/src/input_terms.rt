@@ -12,7 +12,7 @@ use std::alloc::Global;
 /// The inscription read as a pattern, if it is made of variables, literals, constants, constructors, tuples, lists and
 /// `::` alone.
 #[cycle(patterns)]
-#[tactic(auto, using(crate::proofs::BindingTermForms::pattern_of_operation, cpn_levels::proofs::InscriptionLevels::view_applied, cpn_levels::proofs::InscriptionLevels::view_con_pattern))]
+#[tactic(auto, using(crate::proofs::BindingTermForms::pattern_of_operation, cpn_core::proofs::InscriptionLevels::view_applied, cpn_core::proofs::InscriptionLevels::view_con_pattern))]
 fn pattern_of(alloc: Global, expr: &Expr) -> Result<Option<Pat>, Memory>
     ensures exact { IfOk result (λ pattern. option_map pattern_view pattern ≡ bindable.pattern_of (expr_view expr.now)) }
 {

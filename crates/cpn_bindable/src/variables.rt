@@ -1,6 +1,6 @@
 //! The variables of inscriptions, as they stand in them.
 
-ghost use Rattle.std.specs.Prelude.{◌≡◌, ◌↔◌, ◌++◌, ℕ, List, map, option_map, Contains, IfOk};
+ghost use Rattle.std.specs.Prelude.{◌≡◌, ◌↔◌, ◌++◌, ℕ, List, map, Contains, IfOk};
 ghost use Rattle.std.specs.List.{flat_map};
 ghost use Rattle.std.specs.Ordering.{nat_cmp};
 ghost use Rattle.cpn_definitions.specs.Lists.{Rises};
@@ -10,7 +10,7 @@ ghost use Rattle.cpn_definitions.specs.Bindable.{variables_of_each, variables_of
 ghost use Rattle.cpn_typing.specs.InscriptionVariables.{inscription_variables, each_variables, arms_variables};
 ghost use Rattle.cpn_typing.specs.AcceptedTransitions.{delay_variables, arcs_variables, HasItsVariables};
 ghost use Rattle.cpn_core.specs.Inscriptions.{pattern_view, patterns_view, expr_view, exprs_view, arm_view, multiset_view, arc_arm_view, term_view};
-ghost use Rattle.cpn_core.specs.Nets.{arcs_view};
+ghost use Rattle.cpn_core.specs.Nets.{arcs_view, delay_view};
 ghost use Rattle.cpn_bindable.specs.Known.{carried_variables};
 ghost use Rattle.cpn_bindable.specs.Transitions.{transition_with};
 
@@ -18,6 +18,7 @@ use cpn_core::{
     Arm, BindingTerm, Expr, Exprs, Guard, MArm, MExpr, MExprs, Memory, Pat, Pats, PlaceArc,
 };
 use std::alloc::Global;
+use std::sync::Arc;
 
 /// Adds the variables of an inscription of a value behind those that were found.
 #[cycle(variables)]
@@ -158,8 +159,8 @@ fn push_of_arcs(arcs: &[PlaceArc], found: &mut Vec<u32>) -> Result<(), Memory>
 }
 
 /// Adds those of an inscription that may be missing.
-fn push_of_delay(delay: &Option<Expr>, found: &mut Vec<u32>) -> Result<(), Memory>
-    ensures all { IfOk result (λ _. found.new.items ≡ found.old.items ++ delay_variables (option_map expr_view delay.now)) }
+fn push_of_delay(delay: &Option<Arc<Expr>>, found: &mut Vec<u32>) -> Result<(), Memory>
+    ensures all { IfOk result (λ _. found.new.items ≡ found.old.items ++ delay_variables (delay_view delay.now)) }
 {
     match delay {
         None => Ok(()),
@@ -245,7 +246,7 @@ fn rising(mut numbers: Vec<u32>) -> Vec<u32>
 pub fn variables_of(
     alloc: Global,
     guard: &Guard,
-    delay: &Option<Expr>,
+    delay: &Option<Arc<Expr>>,
     inputs: &[PlaceArc],
     outputs: &[PlaceArc],
 ) -> Result<Vec<u32>, Memory>

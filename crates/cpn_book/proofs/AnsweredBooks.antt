@@ -7,6 +7,7 @@ use Rattle.std.proofs.lemmas.Option.{same_Some, slice_get-map}
 use Rattle.std.proofs.Math.Seq.{take-append_seam}
 use Rattle.cpn_core.specs.Elements.{entry_view}
 use Rattle.cpn_definitions.specs.Enabled.{PlainEntry, ready}
+use Rattle.cpn_definitions.proofs.ListItems.{last_is_at}
 use Rattle.cpn_draw.specs.Draw.{word}
 use Rattle.cpn_jobs.specs.Views.{job_view}
 use Rattle.cpn_log.specs.Logs.{head_of, claims_made}
@@ -15,11 +16,10 @@ use Rattle.cpn_runs.specs.FinishedViews.{setup_view}
 use Rattle.cpn_runs.specs.HoleRun.{PlainClaim, is_open}
 use Rattle.cpn_runs.specs.State.{PlainSetup, PlainState, PlainEvent, PlainEnd, EndsBy, claim_made, clock_moved, first_state, IsState, Happens, Leads, MayClaim, IsDrawn, new_claim}
 use Rattle.cpn_runs.specs.Views.{event_view}
-use Rattle.cpn_runs.proofs.Items.{last_is_at}
 use Rattle.cpn_runs.proofs.States.{event_is_unique, no_end_with_an_open_claim}
-use Rattle.cpn_standing.specs.Held.{held_from}
-use Rattle.cpn_standing.proofs.MadeClaims.{IsNextClaim, may_claim}
-use Rattle.cpn_standing.proofs.OpenClaims.{open_count_is, some_counted}
+use Rattle.cpn_book.specs.Held.{held_from}
+use Rattle.cpn_book.proofs.MadeClaims.{IsNextClaim, may_claim}
+use Rattle.cpn_book.proofs.OpenClaims.{open_count_is, some_counted}
 use Rattle.cpn_book.specs.Answers.{IsTicket, AnswersClaim, MayClaimNext, GoesOn, AnswersAdvance}
 use Rattle.cpn_book.specs.Books.{setup_in, journal_in, is_spent_in, InState, IsBook, IsRunning}
 use Rattle.cpn_book.specs.Standings.{HasCommitted, job_for, cut_view}

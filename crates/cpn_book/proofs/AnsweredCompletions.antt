@@ -18,7 +18,7 @@ use Rattle.cpn_runs.specs.Playable.{IsPlayable}
 use Rattle.cpn_runs.proofs.FilledStates.{completion_fills}
 use Rattle.cpn_runs.proofs.Journals.{marking_is_start}
 use Rattle.cpn_runs.proofs.States.{IsClaimOf, IsReached, every_state}
-use Rattle.cpn_standing.specs.Held.{held_from}
+use Rattle.cpn_book.specs.Held.{held_from}
 use Rattle.cpn_book.specs.Answers.{IsNotCut, HasOpenClaim, job_if_open, open_job, IsCompletion, AnswersCompletion, AnswersEvaluation}
 use Rattle.cpn_book.specs.Books.{setup_in, journal_in, InState, IsRunning}
 use Rattle.cpn_book.specs.Standings.{cut_view}

@@ -7,6 +7,7 @@ use Rattle.cpn_definitions.specs.Sound.{IsMarking}
 use Rattle.cpn_definitions.specs.Times.{last_time}
 use Rattle.cpn_definitions.proofs.BoundedMarkings.{bounded_by}
 use Rattle.cpn_definitions.proofs.RisingLists.{each_implied}
+use Rattle.cpn_definitions.proofs.ListItems.{all_parts}
 use Rattle.cpn_log.specs.LogViews.{log_view}
 use Rattle.cpn_runs.specs.Bounds.{most_after}
 use Rattle.cpn_runs.specs.HoleRun.{PlainClaim}
@@ -14,7 +15,6 @@ use Rattle.cpn_runs.specs.Playable.{IsPlayable}
 use Rattle.cpn_runs.specs.Run.{PlainFinished, IsRun}
 use Rattle.cpn_runs.specs.State.{PlainSetup, PlainState, PlainEnd, unclaimed_in}
 use Rattle.cpn_runs.proofs.BoundedStates.{HasBounds, IsWithinBounds, claims_keep, every_state_has_bounds}
-use Rattle.cpn_runs.proofs.Items.{all_parts}
 use Rattle.cpn_runs.proofs.Journals.{marking_is_start, ended_is_settled}
 use Rattle.cpn_runs.proofs.States.{IsClaimOf, every_state}
 use Rattle.cpn_book.specs.Books.{setup_in, journal_in, IsBook, IsRunning, shown}

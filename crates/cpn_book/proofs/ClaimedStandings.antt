@@ -13,9 +13,9 @@ use Rattle.cpn_log.specs.Logs.{head_of, heads, claims_made, opened}
 use Rattle.cpn_log.specs.LogViews.{log_view, jobs_in}
 use Rattle.cpn_runs.specs.HoleRun.{PlainClaim}
 use Rattle.cpn_runs.specs.State.{PlainSetup, PlainState, claim_made, IsDrawn, given_needs, new_claim, numbered}
-use Rattle.cpn_standing.specs.Held.{held_from}
-use Rattle.cpn_standing.specs.Standing.{StandsAt}
-use Rattle.cpn_standing.proofs.MadeClaims.{IsNextClaim, stands_claimed}
+use Rattle.cpn_book.specs.Held.{held_from}
+use Rattle.cpn_book.specs.StandingRuns.{StandsAt}
+use Rattle.cpn_book.proofs.MadeClaims.{IsNextClaim, stands_claimed}
 use Rattle.cpn_book.specs.Standings.{IsToldAt, IsAt, job_for, cut_view, events_in, occurrences_in}
 use Rattle.cpn_book.specs.declared.standings.Standing.{Standing}
 use Rattle.cpn_book.proofs.CountedClaims.{claims_counted}

@@ -6,6 +6,7 @@ use Rattle.std.proofs.lemmas.List.{append-nil, take-map}
 use Rattle.std.proofs.Math.Seq.{take-append_seam}
 use Rattle.cpn_definitions.specs.Occurrence.{outputs_of}
 use Rattle.cpn_definitions.specs.Outcome.{Fault}
+use Rattle.cpn_definitions.proofs.ListItems.{all_parts}
 use Rattle.cpn_jobs.specs.Views.{job_view}
 use Rattle.cpn_log.specs.Kept.{IsKept}
 use Rattle.cpn_log.specs.Logs.{PlainLog, head_of, heads, begin_done, with_committed}
@@ -13,11 +14,10 @@ use Rattle.cpn_log.specs.LogViews.{log_view, jobs_in}
 use Rattle.cpn_runs.specs.HoleRun.{PlainClaim, Status, open_claim, done_with, faulted_with, is_done, is_open}
 use Rattle.cpn_runs.specs.State.{PlainSetup, PlainState, cut_made, cut_at, fault_end, status_after, numbered, committed_occurrences}
 use Rattle.cpn_runs.specs.Views.{event_view}
-use Rattle.cpn_runs.proofs.Items.{all_parts}
 use Rattle.cpn_runs.proofs.States.{IsClaimOf, every_state}
-use Rattle.cpn_standing.specs.Standing.{IsTold, StandsAt}
-use Rattle.cpn_standing.proofs.CompletedClaims.{told_committed, stands_committed, stands_cut}
-use Rattle.cpn_standing.proofs.LoggedClaims.{committed_is}
+use Rattle.cpn_book.specs.StandingRuns.{IsTold, StandsAt}
+use Rattle.cpn_book.proofs.CompletedClaims.{told_committed, stands_committed, stands_cut}
+use Rattle.cpn_book.proofs.LoggedClaims.{committed_is}
 use Rattle.cpn_book.specs.Standings.{IsToldAt, IsAt, IsDoneClaim, HasCommitted, StillCommitted, job_for, cut_view, events_in, occurrences_in}
 use Rattle.cpn_book.specs.declared.standings.Standing.{Standing}
 use Rattle.cpn_book.proofs.CountedClaims.{as_many, first_are, heads_are}

@@ -6,7 +6,7 @@ use Rattle.std.specs.List.{AllByRecursion}
 use Rattle.cpn_definitions.specs.Marking.{Marking}
 use Rattle.cpn_runs.specs.HoleRun.{PlainClaim, Status, open_claim, done_with, faulted_with, is_done}
 use Rattle.cpn_log.specs.Logs.{PlainLog, PlainHead, stands_done, standing_of, standings, head_of, heads, claims_made}
-use Rattle.cpn_standing.specs.Logged.{HasClaims}
+use Rattle.cpn_book.specs.Logged.{HasClaims}
 
 -- a claim that is done stands so
 done_stands : (status : Status) → is_done status ≡ true → stands_done ≡ standing_of status

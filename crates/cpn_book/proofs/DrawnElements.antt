@@ -12,6 +12,7 @@ use Rattle.cpn_definitions.proofs.Outcomes.{gives_and_parts}
 use Rattle.cpn_definitions.proofs.RisingLists.{in_filter_from, contains_from_in}
 use Rattle.cpn_definitions.proofs.SoundElements.{outputs_mean}
 use Rattle.cpn_definitions.proofs.UntimedPlaces.{covered_alike, marking_stamped}
+use Rattle.cpn_definitions.proofs.ListItems.{in_from_get}
 use Rattle.cpn_draw.specs.Draw.{generator, word}
 use Rattle.cpn_jobs.specs.OutputsByWork.{work_makes}
 use Rattle.cpn_log.specs.Logs.{PlainHead, claims_made}
@@ -19,8 +20,7 @@ use Rattle.cpn_log.specs.LogViews.{log_view}
 use Rattle.cpn_runs.specs.Playable.{IsPlayable}
 use Rattle.cpn_runs.specs.State.{PlainSetup, IsDrawn}
 use Rattle.cpn_runs.proofs.BoundedStates.{every_state_has_bounds}
-use Rattle.cpn_runs.proofs.Items.{in_from_get}
-use Rattle.cpn_standing.proofs.LoggedClaims.{unclaimed_left}
+use Rattle.cpn_book.proofs.LoggedClaims.{unclaimed_left}
 use Rattle.cpn_book.specs.Evaluations.{IsReadyToEvaluate}
 use Rattle.cpn_book.specs.Standings.{IsAt, job_for, events_in}
 use Rattle.cpn_book.specs.declared.standings.Standing.{Standing}

@@ -22,11 +22,11 @@ use Rattle.cpn_runs.specs.Playable.{IsPlayable}
 use Rattle.cpn_runs.specs.State.{PlainSetup, PlainState, PlainCut, claim_completed, status_after, numbered}
 use Rattle.cpn_runs.proofs.BoundedStates.{HasFewOutputs, claim_has_few_outputs, every_state_has_bounds}
 use Rattle.cpn_runs.proofs.States.{IsClaimOf, every_state, no_completion_after_a_cut}
-use Rattle.cpn_standing.specs.Held.{held_from}
-use Rattle.cpn_standing.specs.Standing.{IsTold}
-use Rattle.cpn_standing.proofs.CompletedClaims.{IsItsCompletion, is_behind, told_completed, may_complete}
-use Rattle.cpn_standing.proofs.HeldClaims.{IsItsClaim, its_claim}
-use Rattle.cpn_standing.proofs.LoggedClaims.{unclaimed_left}
+use Rattle.cpn_book.specs.Held.{held_from}
+use Rattle.cpn_book.specs.StandingRuns.{IsTold}
+use Rattle.cpn_book.proofs.CompletedClaims.{IsItsCompletion, is_behind, told_completed, may_complete}
+use Rattle.cpn_book.proofs.HeldClaims.{IsItsClaim, its_claim}
+use Rattle.cpn_book.proofs.LoggedClaims.{unclaimed_left}
 use Rattle.cpn_book.specs.Evaluations.{outputs_in, outcome_of, status_by, Tells}
 use Rattle.cpn_book.specs.Standings.{IsToldAt, IsAt, job_for, cut_view, events_in, occurrences_in}
 use Rattle.cpn_book.specs.declared.standings.Cut.{Cut}

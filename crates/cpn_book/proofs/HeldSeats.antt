@@ -7,10 +7,9 @@ use Rattle.std.proofs.lemmas.List.Sums.{sum_by-cons}
 use Rattle.std.specs.Prelude.{OnOk}
 use Rattle.std.specs.Option.{is_some}
 use Rattle.cpn_runs.specs.HoleRun.{PlainClaim, is_open}
-use Rattle.cpn_runs.proofs.Items.{place_known}
-use Rattle.cpn_standing.specs.Held.{held_from, AreHeld}
-use Rattle.cpn_standing.proofs.HeldClaims.{IsItsClaim, its_claim}
-use Rattle.cpn_standing.proofs.SetItems.{set_there, set_elsewhere}
+use Rattle.cpn_book.specs.Held.{held_from, AreHeld}
+use Rattle.cpn_book.proofs.HeldClaims.{IsItsClaim, its_claim}
+use Rattle.cpn_definitions.proofs.ListItems.{place_known, set_there, set_elsewhere}
 
 -- what follows where the answer is there
 pub where_ok : {T E : Type 0} (r : Result T E) (P Q : Type 0) → (P → Q) → OnOk r P → OnOk r Q

@@ -1,24 +1,32 @@
-pub mod MovedBooks
-pub mod NextTimes
-pub mod ReadyEntries
-pub mod SoonestTimes
-pub mod CountedClaims
-pub mod ClaimedStandings
-pub mod DrawnElements
-pub mod DrawnEntries
-pub mod FilledStandings
-pub mod CommittedStandings
-pub mod HeldSeats
-pub mod DrawnClaims
-pub mod OccurredStandings
-pub mod NextClaims
-pub mod OpenNumbers
-pub mod RunningBooks
-pub mod BoundedBooks
-pub mod GoingAlone
-pub mod AloneRows
-pub mod PlayedRounds
-pub mod AnsweredBooks
-pub mod AnsweredCompletions
-pub mod StartedBooks
-pub mod OneAnswers
+mod MovedBooks
+mod NextTimes
+mod ReadyEntries
+mod SoonestTimes
+mod CountedClaims
+mod ClaimedStandings
+mod DrawnElements
+mod DrawnEntries
+mod FilledStandings
+mod CommittedStandings
+mod HeldSeats
+mod DrawnClaims
+mod OccurredStandings
+mod NextClaims
+mod OpenNumbers
+mod RunningBooks
+mod BoundedBooks
+mod GoingAlone
+mod AloneRows
+mod PlayedRounds
+mod AnsweredBooks
+mod AnsweredCompletions
+mod StartedBooks
+mod OneAnswers
+mod HeldClaims
+mod LoggedClaims
+mod StartedRuns
+mod MadeClaims
+mod CompletedClaims
+mod MovedClocks
+mod OpenClaims
+mod OccurredClaims

@@ -14,10 +14,10 @@ use Rattle.cpn_runs.specs.State.{PlainSetup, PlainEnd, clock_moved, EndsBy}
 use Rattle.cpn_runs.specs.Views.{end_view}
 use Rattle.cpn_runs.specs.declared.events.End.{End}
 use Rattle.cpn_runs.proofs.BoundedStates.{every_state_has_bounds}
-use Rattle.cpn_standing.specs.Standing.{StandsAt}
-use Rattle.cpn_standing.proofs.LoggedClaims.{unclaimed_left}
-use Rattle.cpn_standing.proofs.MovedClocks.{stands_moved}
-use Rattle.cpn_standing.proofs.OpenClaims.{none_held_where_none}
+use Rattle.cpn_book.specs.StandingRuns.{StandsAt}
+use Rattle.cpn_book.proofs.LoggedClaims.{unclaimed_left}
+use Rattle.cpn_book.proofs.MovedClocks.{stands_moved}
+use Rattle.cpn_book.proofs.OpenClaims.{none_held_where_none}
 use Rattle.cpn_book.specs.Books.{setup_in, journal_in, InState, IsBook, IsRunning, shown}
 use Rattle.cpn_book.specs.Standings.{IsAt, events_in}
 use Rattle.cpn_book.specs.declared.books.Book.{Book}

@@ -1,7 +1,7 @@
 -- The next time of what is enabled in a marking: there is none where the marking is dead; else it is the least time at which an
 -- element is covered, something is ready when the clock stands at it, and what is enabled is the same.
 use Rattle.std.proofs.Common.{◌≡◌, ℕ, ◌<◌, ◌≤◌, ◌⊎◌, ◌==◌, Bool, true, false, cond, List, [], ◌∷◌, length, Option, Some, None, refl, sym, ap, ◌∙◌, subst, inl, inr, arith, ⊎_elim, eq-eqb, Contains}
-use Rattle.std.proofs.lemmas.Bool.{cases_lt}
+use Rattle.std.proofs.lemmas.Bool.{cases_lt, cases_Bool}
 use Rattle.std.proofs.lemmas.Option.{same_Some}
 use Rattle.cpn_definitions.specs.Marking.{Marking}
 use Rattle.cpn_definitions.specs.Net.{PlainNet}
@@ -10,6 +10,7 @@ use Rattle.cpn_definitions.specs.Legal.{LeastTime}
 use Rattle.cpn_definitions.specs.Enabled.{PlainEntry, IsEarliest, Enabled, ready, or_sooner, next_time, IsDead}
 use Rattle.cpn_definitions.proofs.RisingLists.{IsIn, in_from_contains, contains_from_in}
 use Rattle.cpn_definitions.proofs.LeastTimes.{none_is_dead, has_entry}
+use Rattle.cpn_definitions.proofs.TruthValues.{not_both}
 
 -- ---- the least of the earliest times
 
@@ -59,13 +60,6 @@ none_has_no_entry (x ∷ xs) none = cc
 
 -- ---- in a marking
 
-clash : (b : Bool) → b ≡ true → b ≡ false → ⊥
-clash b is is_not = cc
-
-either_way : (b : Bool) → (b ≡ true) ⊎ (b ≡ false)
-either_way true = inl refl
-either_way false = inr refl
-
 pub no_next_is_dead : (n : PlainNet) (m : Marking) (clock : ℕ) (entries : List PlainEntry) → Enabled n m clock entries → next_time entries ≡ None → IsDead n m
 no_next_is_dead n m clock entries enabled none =
     let P : List PlainEntry → Type 0 = λ xs. Enabled n m clock xs in
@@ -78,12 +72,12 @@ one_is_ready time (y ∷ xs) x here is = by (λ later. one_is_ready time xs x la
   where
     by : (IsIn x xs → 0 < length (ready time xs)) → (b : Bool) → (y.earliest == time) ≡ b → (y ≡ x) ⊎ IsIn x xs → 0 < length (cond b (y ∷ ready time xs) (ready time xs))
     by rest true same where_it_is = omega arith
-    by rest false other (inl same) = absurd (clash (y.earliest == time) (eq-eqb y.earliest time (ap (λ (z : PlainEntry). z.earliest) same ∙ is)) other)
+    by rest false other (inl same) = absurd (not_both (y.earliest == time) (eq-eqb y.earliest time (ap (λ (z : PlainEntry). z.earliest) same ∙ is)) other)
     by rest false other (inr later) = rest later
 
 -- where nothing is ready, nothing is covered at the clock
 pub none_is_covered : (n : PlainNet) (m : Marking) (clock : ℕ) (entries : List PlainEntry) → Enabled n m clock entries → length (ready clock entries) ≡ 0 → (e : PlainElement) → covered n m clock e ≡ false
-none_is_covered n m clock entries enabled none e = ⊎_elim (λ yes. absurd (some yes)) (λ no. no) (either_way (covered n m clock e))
+none_is_covered n m clock entries enabled none e = ⊎_elim (λ yes. absurd (some yes)) (λ no. no) (cases_Bool (covered n m clock e))
   where
     some : covered n m clock e ≡ true → ⊥
     some is =
@@ -91,7 +85,7 @@ none_is_covered n m clock entries enabled none e = ⊎_elim (λ yes. absurd (som
         now y.0 y.1 y.2 (cases_lt clock y.0.earliest)
       where
         now : (x : PlainEntry) → x.element ≡ e → IsEarliest n m clock x → (clock < x.earliest) ⊎ (x.earliest ≤ clock) → ⊥
-        now x same earliest (inl late) = clash (covered n m clock e) is (subst (λ f. covered n m clock f ≡ false) same (earliest.not_earlier clock (omega arith) late))
+        now x same earliest (inl late) = not_both (covered n m clock e) is (subst (λ f. covered n m clock f ≡ false) same (earliest.not_earlier clock (omega arith) late))
         now x same earliest (inr early) =
             let from = earliest.not_before in
             let one = one_is_ready clock entries x (in_from_contains entries x ((enabled.exact x).1 earliest)) (omega (arith, from, early)) in
@@ -107,13 +101,13 @@ module _ (n : PlainNet) (m : Marking) (clock time : ℕ) (entries : List PlainEn
 
   -- nothing is covered before it
   none_before : (s : ℕ) (e : PlainElement) → clock ≤ s → s < time → covered n m s e ≡ false
-  none_before s e from before = ⊎_elim (λ yes. absurd (none yes)) (λ no. no) (either_way (covered n m s e))
+  none_before s e from before = ⊎_elim (λ yes. absurd (none yes)) (λ no. no) (cases_Bool (covered n m s e))
     where
       none : covered n m s e ≡ true → ⊥
       none is =
           let y = has_entry n m clock s e is in
           let late : time ≤ y.0.earliest = none_is_sooner entries time y.0 next (in_from_contains entries y.0 ((enabled.exact y.0).1 y.2)) in
-          clash (covered n m s e) is (subst (λ f. covered n m s f ≡ false) y.1 (y.2.not_earlier s from (omega arith)))
+          not_both (covered n m s e) is (subst (λ f. covered n m s f ≡ false) y.1 (y.2.not_earlier s from (omega arith)))
 
   pub next_is_least : LeastTime n m clock time
   next_is_least = record {

@@ -8,6 +8,7 @@ use Rattle.cpn_core.specs.Elements.{element_view}
 use Rattle.cpn_definitions.specs.Bounds.{most_made}
 use Rattle.cpn_definitions.specs.Outcome.{gives}
 use Rattle.cpn_definitions.specs.Occurrence.{Needed, Made, are_covered, threshold, needs_of, outputs_of}
+use Rattle.cpn_definitions.proofs.ListItems.{map_more}
 use Rattle.cpn_draw.specs.Draw.{generator}
 use Rattle.cpn_jobs.specs.OutputsByWork.{work_makes}
 use Rattle.cpn_jobs.specs.Views.{job_view}
@@ -19,11 +20,10 @@ use Rattle.cpn_runs.specs.HoleRun.{PlainClaim, done_with, marking_left}
 use Rattle.cpn_runs.specs.Playable.{IsPlayable}
 use Rattle.cpn_runs.specs.State.{PlainSetup, PlainState, PlainOccurrence, claim_made, claim_completed, given_needs, new_claim, numbered, status_after}
 use Rattle.cpn_runs.proofs.BoundedStates.{claim_has_few_outputs}
-use Rattle.cpn_runs.proofs.Items.{map_more}
-use Rattle.cpn_standing.specs.Standing.{StandsAt}
-use Rattle.cpn_standing.proofs.MadeClaims.{IsNextClaim}
-use Rattle.cpn_standing.proofs.OccurredClaims.{all_committed, stands_occurred}
-use Rattle.cpn_standing.proofs.OpenClaims.{none_held_where_none}
+use Rattle.cpn_book.specs.StandingRuns.{StandsAt}
+use Rattle.cpn_book.proofs.MadeClaims.{IsNextClaim}
+use Rattle.cpn_book.proofs.OccurredClaims.{all_committed, stands_occurred}
+use Rattle.cpn_book.proofs.OpenClaims.{none_held_where_none}
 use Rattle.cpn_book.specs.DrawnClaims.{IsDrawnClaim, undrawn}
 use Rattle.cpn_book.specs.Evaluations.{outputs_in}
 use Rattle.cpn_book.specs.Standings.{IsAt, StillCommitted, job_for, cut_view, events_in, occurrences_in}

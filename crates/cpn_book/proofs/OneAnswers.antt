@@ -7,15 +7,15 @@ use Rattle.cpn_definitions.specs.Legal.{LeastTime}
 use Rattle.cpn_definitions.specs.Marking.{Marking}
 use Rattle.cpn_definitions.specs.Occurrence.{covered}
 use Rattle.cpn_definitions.proofs.OneEnabledList.{enabled_is_unique}
+use Rattle.cpn_definitions.proofs.ListItems.{place_known}
 use Rattle.cpn_draw.specs.Draw.{word}
 use Rattle.cpn_jobs.specs.Views.{job_view}
 use Rattle.cpn_runs.specs.HoleRun.{PlainClaim}
 use Rattle.cpn_runs.specs.State.{PlainSetup, PlainState, unclaimed_in, PlainCut, PlainEvent, owed_cut, claim_completed, MayClaim, MayMove}
-use Rattle.cpn_runs.proofs.Items.{place_known}
 use Rattle.cpn_runs.proofs.States.{claim_is_unique, completion_is_unique, least_is_unique, move_is_unique}
-use Rattle.cpn_standing.specs.Held.{held_from}
-use Rattle.cpn_standing.proofs.HeldClaims.{held_none}
-use Rattle.cpn_standing.proofs.OpenClaims.{some_counted}
+use Rattle.cpn_book.specs.Held.{held_from}
+use Rattle.cpn_book.proofs.HeldClaims.{held_none}
+use Rattle.cpn_book.proofs.OpenClaims.{some_counted}
 use Rattle.cpn_book.specs.States.{open_claims, IsFull, IsIndex, AreReady, claimed_job, cut_events}
 use Rattle.cpn_book.specs.Tickets.{number_of, job_of, evaluated_number}
 use Rattle.cpn_book.specs.Answers.{AnswersClaim, IsNotCut, AnswersCompletion, AnswersAdvance}

@@ -6,6 +6,7 @@ use Rattle.std.proofs.lemmas.Option.{same_Some}
 use Rattle.cpn_definitions.specs.Times.{last_time}
 use Rattle.cpn_definitions.proofs.LegalSequences.{covered_is_bound}
 use Rattle.cpn_definitions.proofs.SoundElements.{outputs_mean}
+use Rattle.cpn_definitions.proofs.ListItems.{place_known}
 use Rattle.cpn_jobs.specs.declared.work.Job.{Job}
 use Rattle.cpn_jobs.specs.Views.{job_view}
 use Rattle.cpn_log.specs.Logs.{stands_open, standing_of, standings, head_of, heads, seats, claims_made}
@@ -15,9 +16,8 @@ use Rattle.cpn_runs.specs.Playable.{IsPlayable}
 use Rattle.cpn_runs.specs.State.{PlainSetup, is_held_by}
 use Rattle.cpn_runs.proofs.BoundedStates.{every_state_has_bounds}
 use Rattle.cpn_runs.proofs.States.{IsClaimOf, every_state}
-use Rattle.cpn_runs.proofs.Items.{place_known}
-use Rattle.cpn_standing.specs.Held.{held_from}
-use Rattle.cpn_standing.proofs.HeldClaims.{IsItsClaim, its_claim, counted, one_counted}
+use Rattle.cpn_book.specs.Held.{held_from}
+use Rattle.cpn_book.proofs.HeldClaims.{IsItsClaim, its_claim, counted, one_counted}
 use Rattle.cpn_book.specs.Evaluations.{IsReadyToEvaluate}
 use Rattle.cpn_book.specs.Standings.{IsAt, job_for, events_in}
 use Rattle.cpn_book.specs.declared.standings.Standing as program

@@ -3,10 +3,9 @@ use Rattle.std.proofs.Common.{◌≡◌, ◌≢◌, ℕ, ◌<◌, ◌==◌, Bool
 use Rattle.std.specs.List.{count_by}
 use Rattle.std.specs.Option.{is_some}
 use Rattle.std.proofs.lemmas.Bool.{eqb-false}
-use Rattle.cpn_standing.proofs.OpenClaims.{none_held_where_none}
-use Rattle.cpn_standing.proofs.SetItems.{set_there, set_elsewhere}
-use Rattle.cpn_runs.proofs.Items.{place_known}
+use Rattle.cpn_book.proofs.OpenClaims.{none_held_where_none}
 use Rattle.cpn_book.proofs.HeldSeats.{none_counted_held}
+use Rattle.cpn_definitions.proofs.ListItems.{place_known, set_there, set_elsewhere}
 
 -- where none is open no seat holds one
 pub none_held_of : (held : List (Option ℕ)) → count_by is_some held ≡ 0 → (s k : ℕ) → slice_get held s ≡ Some (Some k) → ⊥

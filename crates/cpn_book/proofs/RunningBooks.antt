@@ -19,9 +19,9 @@ use Rattle.cpn_runs.specs.State.{PlainSetup, PlainState, PlainEvent, PlainCut, P
 use Rattle.cpn_runs.specs.FinishedViews.{setup_view, outlook_view}
 use Rattle.cpn_runs.proofs.Journals.{marking_is_start}
 use Rattle.cpn_runs.proofs.States.{one_state, least_is_unique}
-use Rattle.cpn_standing.proofs.LoggedClaims.{unclaimed_left, committed_is}
-use Rattle.cpn_standing.proofs.OpenClaims.{none_held_where_none}
-use Rattle.cpn_standing.proofs.MovedClocks.{none_open, ends_by_cut, ends_without, run_is}
+use Rattle.cpn_book.proofs.LoggedClaims.{unclaimed_left, committed_is}
+use Rattle.cpn_book.proofs.OpenClaims.{none_held_where_none}
+use Rattle.cpn_book.proofs.MovedClocks.{none_open, ends_by_cut, ends_without, run_is}
 use Rattle.cpn_book.specs.Books.{setup_in, journal_in, works_in, committed_in, is_spent_in, InState, IsRunning, IsBook, shown}
 use Rattle.cpn_book.specs.Shown.{outlook_at}
 use Rattle.cpn_book.specs.Standings.{HasCommitted, cut_view}

@@ -15,7 +15,7 @@ use Rattle.cpn_log.specs.Logs.{PlainLog}
 use Rattle.cpn_runs.specs.FinishedViews.{outlook_view}
 use Rattle.cpn_runs.specs.Playable.{IsPlayable}
 use Rattle.cpn_runs.specs.Run.{Outlook, HasOutlook}
-use Rattle.cpn_standing.specs.Standing.{IsTold}
+use Rattle.cpn_book.specs.StandingRuns.{IsTold}
 use Rattle.cpn_search.specs.CoveredNeeds.{StandBeside}
 use Rattle.cpn_book.specs.Books.{setup_in, works_in, IsBook}
 use Rattle.cpn_book.specs.Shown.{outlook_at}

@@ -12,7 +12,7 @@ use Rattle.cpn_runs.specs.HoleRun.{PlainClaim, is_open}
 use Rattle.cpn_runs.specs.Run.{IsRun}
 use Rattle.cpn_runs.specs.State.{PlainSetup, PlainState, PlainCut, PlainEvent, PlainEnd, claim_made, claim_completed, clock_moved, unclaimed_in, owed_cut, is_held_by, MayClaim, MayComplete, MayMove, EndsBy}
 use Rattle.cpn_runs.specs.FinishedViews.{setup_view, finished_view}
-use Rattle.cpn_standing.specs.Held.{held_from}
+use Rattle.cpn_book.specs.Held.{held_from}
 use Rattle.cpn_book.specs.States.{open_claims, IsFull, AreReady, claimed_job, cut_events}
 use Rattle.cpn_book.specs.Evaluations.{outputs_told}
 use Rattle.cpn_book.specs.Tickets.{number_of, job_of, evaluated_number, evaluated_job}

@@ -9,3 +9,6 @@ pub mod States
 pub mod Answers
 pub mod GoingAlone
 pub mod Steps
+pub mod Held
+pub mod Logged
+pub mod StandingRuns

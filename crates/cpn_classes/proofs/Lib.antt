@@ -1,4 +1,4 @@
-pub mod Links
-pub mod NewParents
-pub mod NumberedTrees
-pub mod Rows
+mod Links
+mod NewParents
+mod NumberedTrees
+mod Rows

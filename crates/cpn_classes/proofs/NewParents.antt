@@ -178,6 +178,3 @@ module _ (old parents : List ℕ) (one other : ℕ) (same : JoinTheSame (links o
               rw (high, low) (under_joins first second first_in first_root roots_by_pairs
               (through one first other (still one first to_first) (through first second other (to_new_parent parents first second first_in) (turned other second (still other second to_second)))))
         ]
-
-    pub roots_trees : AreTrees parents → AreTrees (set parents (max first second) (min first second))
-    roots_trees trees = trees_with parents (max first second) (min first second) (omega arith) trees (omega arith)

@@ -3,7 +3,7 @@ use Rattle.std.proofs.Common.{◌≡◌, ℕ, ◌<◌, ◌≤◌, ◌+◌, List,
 use Rattle.std.proofs.lemmas.List.{get_or_append_left, get_or_push, length_push}
 use Rattle.cpn_classes.specs.Joined.{IsJoined, itself, turned, through}
 use Rattle.cpn_classes.specs.Numbering.{Numbering, number_of, first_of, IsInOrder, IsNumbering}
-use Rattle.cpn_classes.specs.Trees.{AreTrees, links, JoinTheSame}
+use Rattle.cpn_classes.specs.Trees.{AreTrees, links}
 use Rattle.cpn_classes.specs.JoinedPairs.{alike}
 use Rattle.cpn_classes.proofs.Links.{to_parent, linked}
 
@@ -13,21 +13,6 @@ pub record AreNumbered (parents : List ℕ) (k : ℕ) (n : Numbering) : Type 0 w
   pub in_order : IsInOrder n
   pub of_parent : (i : ℕ) → i < k → number_of n i ≡ number_of n (get_or parents i 0)
   pub to_first : (i : ℕ) → i < k → IsJoined (links parents) i (first_of n (number_of n i))
-
--- no item
-pub none_numbered : (parents : List ℕ) → AreNumbered parents 0 (record { numbers = []; firsts = [] })
-none_numbered parents = record {
-  each = refl;
-  in_order = record {
-    in_class = λ i lt. absurd (omega arith);
-    is_item = λ c lt. absurd (omega arith);
-    is_member = λ c lt. absurd (omega arith);
-    is_least = λ i lt. absurd (omega arith);
-    rise = λ c d less lt. absurd (omega arith);
-  };
-  of_parent = λ i lt. absurd (omega arith);
-  to_first = λ i lt. absurd (omega arith);
-}
 
 module _ (parents : List ℕ) (trees : AreTrees parents) (k : ℕ) (k_in : k < length parents) (n : Numbering) (is : AreNumbered parents k n) where
   -- the numbers, with one more

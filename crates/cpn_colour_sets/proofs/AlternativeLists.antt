@@ -1,5 +1,5 @@
 -- Alternatives of a union, one after another.
-use Rattle.std.proofs.Common.{◌≡◌, ◌∙◌, ℕ, suc, ◌+◌, ◌<◌, ◌≤◌, Bool, true, false, List, [], ◌∷◌, ◌++◌, length, map, drop, get_or, Option, Some, None, refl, sym, ap, append_assoc, arith}
+use Rattle.std.proofs.Common.{◌≡◌, ◌∙◌, ℕ, suc, ◌+◌, ◌<◌, ◌≤◌, Bool, true, false, List, [], ◌∷◌, ◌++◌, length, map, drop, get_or, Option, Some, None, refl, sym, ap, append_assoc, arith, add-zero}
 use Rattle.std.proofs.lemmas.List.{drop_all, drop_more, map-append, append-nil, length-map}
 use Rattle.cpn_definitions.specs.Colour.{PlainShape, Constructors, no_constructors, without, taking}
 use Rattle.cpn_core.specs.Colours.{constructors_of}
@@ -83,10 +83,8 @@ names_of_constructors id k [] = refl
 names_of_constructors id k (c ∷ cs) = ap (λ rest. c.name ∷ rest) (names_of_constructors id (k + 1) cs)
 
 constructors_behind : (id k : ℕ) (cs : List NamedConstructor) (c : NamedConstructor) → constructors_from id k (cs ++ c ∷ []) ≡ constructors_from id k cs ++ constructors_from id (k + length cs) (c ∷ [])
-constructors_behind id k [] c = ap (λ j. constructors_from id j (c ∷ [])) (nothing_more k)
+constructors_behind id k [] c = ap (λ j. constructors_from id j (c ∷ [])) (sym (add-zero k))
   where
-    nothing_more : (k : ℕ) → k ≡ k + 0
-    nothing_more k = omega arith
 constructors_behind id k (d ∷ cs) c =
     ap (λ rest. record { name = d.name; meant = a_constructor id k d.argument } ∷ rest) (constructors_behind id (k + 1) cs c ∙ ap (λ j. constructors_from id (k + 1) cs ++ constructors_from id j (c ∷ [])) (one_more k (length cs)))
   where

@@ -5,7 +5,7 @@ use Rattle.std.proofs.lemmas.List.{drop_all}
 use Rattle.cpn_definitions.specs.Colour.{PlainShape, PlainShapes, no_shapes, more_shapes}
 use Rattle.cpn_core.specs.Colours.{shapes_of}
 use Rattle.cpn_typing.specs.ColourSets.{component, components}
-use Rattle.cpn_typing.specs.Names.{Name, Declared, Refusal, Checked, ok, refused, ◌>>=◌}
+use Rattle.cpn_typing.specs.Names.{Name, Declared, Checked, ok, refused, ◌>>=◌}
 use Rattle.cpn_colour_sets.proofs.NameLists.{left_is}
 
 -- shapes before others
@@ -32,9 +32,6 @@ front_more front s (refused r) = refl
 -- the next component is there, or refused with all
 pub component_more : (ds : Declared) (front : List PlainShape) (n : Name) (ns : List Name) (s : PlainShape) → component ds n ≡ ok s → with_front (front ++ s ∷ []) (components ds ns) ≡ with_front front (components ds (n ∷ ns))
 component_more ds front n ns s h = front_more front s (components ds ns) ∙ ap (with_front front) (ap (λ c. c >>= λ t. components ds ns >>= λ ss. ok (more_shapes t ss)) (sym h))
-
-pub component_refused : (ds : Declared) (front : List PlainShape) (n : Name) (ns : List Name) (r : Refusal) → component ds n ≡ refused r → with_front front (components ds (n ∷ ns)) ≡ refused r
-component_refused ds front n ns r h = ap (λ c. with_front front (c >>= λ t. components ds ns >>= λ ss. ok (more_shapes t ss))) h
 
 pub components_done : (front : List PlainShape) → with_front front (ok no_shapes) ≡ ok (shapes_of front)
 components_done front = ap ok (ahead_none front)

@@ -1,4 +1,4 @@
-pub mod AlternativeLists
-pub mod Bodies
-pub mod Components
-pub mod NameLists
+mod AlternativeLists
+mod Bodies
+mod Components
+mod NameLists

@@ -1,5 +1,5 @@
 -- Several names, one after another, each of which is new beside those before it.
-use Rattle.std.proofs.Common.{◌≡◌, ◌∙◌, ℕ, suc, ◌+◌, ◌<◌, Bool, true, false, ◌||◌, List, [], ◌∷◌, ◌++◌, length, map, take, drop, get_or, Some, refl, sym, ap, append_assoc, String, string_bytes, if◌then◌else◌, arith}
+use Rattle.std.proofs.Common.{◌≡◌, ◌∙◌, ℕ, suc, ◌+◌, ◌<◌, Bool, true, false, ◌||◌, List, [], ◌∷◌, ◌++◌, length, map, take, drop, get_or, Some, refl, sym, ap, append_assoc, String, string_bytes, if◌then◌else◌, arith, add-zero}
 use Rattle.std.specs.List.{list_any}
 use Rattle.std.specs.Str.{bytes_eq}
 use Rattle.std.specs.declared.alloc.Global.{Global}
@@ -15,11 +15,6 @@ use Rattle.cpn_typing.specs.Types.{PlainTy, type_of_shape}
 use Rattle.cpn_declared.specs.Additions.{named_from, all_before, with_names, with_more_variables}
 
 -- ---- the same names, in any order
-
-any_swapped : (a b c : Bool) → (a || (b || c)) ≡ (b || (a || c))
-any_swapped true true c = refl
-any_swapped true false c = refl
-any_swapped false b c = refl
 
 any_past : (p q r : Bool) → ((p || q) || r) ≡ (q || (p || r))
 any_past true true r = refl
@@ -66,10 +61,8 @@ all_before_more [] n taken = refl
 all_before_more (m ∷ ns) n taken = all_before_more ns n (m ∷ taken)
 
 named_more : (kind : ℕ → Meant) (k : ℕ) (ns : List Name) (n : Name) → named_from kind k (ns ++ n ∷ []) ≡ named_from kind k ns ++ record { name = n; meant = kind (k + length ns) } ∷ []
-named_more kind k [] n = ap (λ j. record { name = n; meant = kind j } ∷ []) (nothing_more k)
+named_more kind k [] n = ap (λ j. record { name = n; meant = kind j } ∷ []) (sym (add-zero k))
   where
-    nothing_more : (k : ℕ) → k ≡ k + 0
-    nothing_more k = omega arith
 named_more kind k (m ∷ ns) n = ap (λ rest. record { name = m; meant = kind k } ∷ rest) (named_more kind (k + 1) ns n ∙ ap (λ j. named_from kind (k + 1) ns ++ record { name = n; meant = kind j } ∷ []) (one_more k (length ns)))
   where
     one_more : (k j : ℕ) → (k + 1) + j ≡ k + suc j
@@ -138,10 +131,7 @@ variables_behind first k t (n ∷ ns) = ap (λ rest. record { name = n; meant = 
     one_more a b = omega arith
 
 pub variables_are : (first : ℕ) (t : PlainTy) (ns : List Name) → named_from (λ j. a_variable (first + j) t) 0 ns ≡ variables_from first t ns
-variables_are first t ns = variables_behind first 0 t ns ∙ ap (λ j. variables_from j t ns) (nothing_more first)
-  where
-    nothing_more : (k : ℕ) → k + 0 ≡ k
-    nothing_more k = omega arith
+variables_are first t ns = variables_behind first 0 t ns ∙ ap (λ j. variables_from j t ns) (add-zero first)
 
 -- ---- variables of a colour set
 

@@ -29,7 +29,7 @@ pub(crate) fn check_limits(shape: &Shape) -> Result<(), TypeError>
 
 // How deep bodies nest in it. A number past the greatest `u64` is given as that one, here and below.
 #[cycle(depth)]
-#[tactic(auto, using(cpn_levels::proofs::ShapeLevels::shape_list, cpn_levels::proofs::ShapeLevels::shape_tuple, cpn_levels::proofs::ShapeLevels::shape_union))]
+#[tactic(auto, using(cpn_core::proofs::ShapeLevels::shape_list, cpn_core::proofs::ShapeLevels::shape_tuple, cpn_core::proofs::ShapeLevels::shape_union))]
 fn depth(shape: &Shape) -> u64
     ensures number { result ≡ min (depth_of (shape_view shape.now)) (2 ^ 64 - 1) }
 {
@@ -74,7 +74,7 @@ fn deepest_argument(constructors: &[Option<Shape>]) -> u64
 
 // How many bodies there are in it, all written out.
 #[cycle(bodies)]
-#[tactic(auto, using(cpn_levels::proofs::ShapeLevels::shape_list, cpn_levels::proofs::ShapeLevels::shape_tuple, cpn_levels::proofs::ShapeLevels::shape_union))]
+#[tactic(auto, using(cpn_core::proofs::ShapeLevels::shape_list, cpn_core::proofs::ShapeLevels::shape_tuple, cpn_core::proofs::ShapeLevels::shape_union))]
 fn bodies(shape: &Shape) -> u64
     ensures number { result ≡ min (bodies_of (shape_view shape.now)) (2 ^ 64 - 1) }
 {

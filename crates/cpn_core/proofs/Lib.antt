@@ -1,11 +1,13 @@
-pub mod Levels
-pub mod Items
+pub mod ValueLevels
+pub mod InscriptionLevels
+pub mod ShapeLevels
+mod Items
 pub mod Shapes
-pub mod NumberedItems
-pub mod ShapeCounts
-pub mod CappedCounts
-pub mod ListedValues
-pub mod ListedParts
-pub mod ShapeOrder
-pub mod ShapeMembers
-pub mod SmallSets
+mod NumberedItems
+mod ShapeCounts
+mod CappedCounts
+mod ListedValues
+mod ListedParts
+mod ShapeOrder
+mod ShapeMembers
+mod SmallSets

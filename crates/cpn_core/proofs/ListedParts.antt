@@ -1,33 +1,21 @@
 -- The rows of a tuple's shapes and the values of a union's constructors, one shape or constructor at a time.
 use Rattle.std.proofs.Common.{◌≡◌, ℕ, zero, suc, ◌+◌, ◌-◌, ◌*◌, ◌<◌, ◌≤◌, List, [], ◌∷◌, ◌++◌, map, length, get_or, drop, Option, Some, None, refl, sym, ap, ◌∙◌, arith, add-one, drop-cons, append_assoc, subst, Box, Global}
 use Rattle.std.proofs.Math.Nat.{mul-suc, suc-mul}
+use Rattle.std.proofs.lemmas.List.{nil_from_length}
 use Rattle.cpn_definitions.specs.Value.{PlainValue, bare, applied, list, none}
 use Rattle.cpn_definitions.specs.Colour.{PlainShapes, list_shape}
 use Rattle.cpn_core.specs.declared.colours.Shape.{Shape}
 use Rattle.cpn_core.specs.declared.colours.Shape.TheViews as views
 use Rattle.cpn_core.specs.Colours.{shape_view, shapes_view, constructors_view}
-use Rattle.cpn_core.specs.ShapeValues.{values_in, rows_in, constructed_in, headed, lists, count_of, count_of_rows, count_of_constructed}
+use Rattle.cpn_core.specs.ShapeValues.{values_in, rows_in, constructed_in, lists, count_of, count_of_rows, count_of_constructed}
 use Rattle.cpn_core.proofs.ShapeCounts.{values_counted, rows_counted}
-use Rattle.cpn_core.proofs.ShapeMembers.{empty_list, no_item}
-use Rattle.cpn_core.proofs.Shapes.{view_list}
+use Rattle.cpn_core.proofs.ShapeMembers.{no_item}
+use Rattle.cpn_core.proofs.ShapeLevels.{shape_list}
 
 -- ---- rows
 
 pub no_rows : (ss : PlainShapes) → count_of_rows ss ≡ 0 → rows_in ss ≡ []
-no_rows ss zero_rows = empty_list (rows_in ss) (rows_counted ss ∙ zero_rows)
-
--- from the last shape on, those of one shape more have its values ahead
-pub rows_go_on
-    : (ss : List Shape) (done at : ℕ) (s : Shape)
-    → done < length ss
-    → at ≡ length ss - 1 - done
-    → s ≡ get_or ss at s
-    → rows_in (shapes_view (drop (length ss - (done + 1)) ss)) ≡ headed (values_in (shape_view s)) (rows_in (shapes_view (drop (length ss - done) ss)))
-rows_go_on ss done at s lt is es =
-    let here : length ss - (done + 1) ≡ at = omega arith in
-    let later : length ss - done ≡ suc at = omega arith in
-    let ds : drop at ss ≡ s ∷ drop (suc at) ss = drop-cons ss at s (omega arith) ∙ ap (λ x. x ∷ drop (suc at) ss) (sym es) in
-    rw (here, later, ds) refl
+no_rows ss zero_rows = nil_from_length (rows_in ss) (rows_counted ss ∙ zero_rows)
 
 -- where there are a few rows, but some, there are a few values of each shape
 few_of_two : (a b m : ℕ) → a * b ≤ m → 0 < a * b → (a ≤ m) × (b ≤ m) × (0 < b)
@@ -91,7 +79,7 @@ constructed_grows cs k d e before after all lt is same grown so_far =
 -- the empty list alone, where there are a few lists
 pub alone : (shape : Shape) (b : Box Shape Global) → shape ≡ views.List b → count_of (shape_view shape) ≤ 256 → list none ∷ [] ≡ values_in (shape_view shape)
 alone shape b is few =
-    let whole : shape_view shape ≡ list_shape (shape_view b.value) = ap shape_view is ∙ view_list b in
+    let whole : shape_view shape ≡ list_shape (shape_view b.value) = ap shape_view is ∙ shape_list b in
     let few_lists : count_of (list_shape (shape_view b.value)) ≤ 256 = subst (λ p. count_of p ≤ 256) whole few in
-    let empty = empty_list (values_in (shape_view b.value)) (values_counted (shape_view b.value) ∙ no_item (count_of (shape_view b.value)) few_lists) in
+    let empty = nil_from_length (values_in (shape_view b.value)) (values_counted (shape_view b.value) ∙ no_item (count_of (shape_view b.value)) few_lists) in
     ap (lists 257) (sym empty) ∙ ap values_in (sym whole)

@@ -1,12 +1,13 @@
 -- The values of a shape have the shape, and where they are at most 256 no other value has it.
-use Rattle.std.proofs.Common.{◌≡◌, ℕ, zero, suc, ◌+◌, ◌*◌, ◌<◌, ◌≤◌, if◌then◌else◌, ◌==◌, suc-mul, ◌⊎◌, inl, inr, ⊎_elim, ℤ, pos, negsuc, ◌+ℤ◌, ◌≤ℤ◌, ◌-◌, Bool, true, false, ◌&&◌, nat_lt, int_le, List, [], ◌∷◌, map, length, replicate, refl, sym, ap, ◌∙◌, subst, arith}
+use Rattle.std.proofs.Common.{◌≡◌, ℕ, zero, suc, ◌+◌, ◌*◌, ◌<◌, ◌≤◌, if◌then◌else◌, ◌==◌, suc-mul, ◌⊎◌, inl, inr, ⊎_elim, ℤ, pos, negsuc, ◌+ℤ◌, ◌≤ℤ◌, ◌-◌, true, false, ◌&&◌, int_le, List, [], ◌∷◌, map, length, replicate, refl, sym, ap, ◌∙◌, subst, arith, ltb-true}
 use Rattle.std.specs.List.{list_all}
 use borrow.Author.Differences.{up, down}
 use Rattle.std.specs.Int.{int_gap}
 use Rattle.std.proofs.Math.Nat.{mul-suc}
-use Rattle.std.proofs.lemmas.Bool.{and_parts}
+use Rattle.std.proofs.lemmas.Bool.{and_parts, and_from}
 use Rattle.std.proofs.lemmas.Bool.Decides.{nat_tests}
 use Rattle.std.proofs.lemmas.Int.{ints}
+use Rattle.std.proofs.lemmas.List.{nil_from_length}
 use Rattle.cpn_definitions.specs.Value.{PlainValue, PlainValues, unit, boolean, int, constant, text, tuple, bare, applied, list, none, more, from_list}
 use Rattle.cpn_definitions.specs.Colour.{PlainShape, PlainShapes, Constructors, unit_shape, boolean_shape, int_shape, text_shape, constant_shape, tuple_shape, union_shape, list_shape, no_shapes, more_shapes, no_constructors, without, taking, has_shape, have_shapes, all_have_shape, constructor_at, is_bare, takes, is_printable}
 use Rattle.cpn_core.specs.ShapeValues.{int_count, integers, strings, lists, headed, values_in, rows_in, constructed_in, count_of, count_of_rows, count_of_constructed}
@@ -15,9 +16,6 @@ use Rattle.cpn_core.proofs.NumberedItems.{in_numbered, in_numbered_from}
 use Rattle.cpn_core.proofs.ShapeCounts.{values_counted, rows_counted}
 
 -- ---- numbers
-
-both_true : (a b : Bool) → a ≡ true → b ≡ true → (a && b) ≡ true
-both_true a b first second = rw first second
 
 gap_is : (a b : ℤ) → int_gap a b ≡ (up b + down a) - (up a + down b)
 gap_is (pos a) (pos b) = omega arith
@@ -29,7 +27,7 @@ gap_is (negsuc a) (negsuc b) = omega arith
 between : (low high : ℤ) (i : ℕ) → i < int_count low high → (int_le low (low +ℤ pos i) && int_le (low +ℤ pos i) high) ≡ true
 between low high i lt =
     let gap = gap_is low (high +ℤ pos 1) in
-    both_true (int_le low (low +ℤ pos i)) (int_le (low +ℤ pos i) high) (grind (arith, ints)) (grind (arith, ints))
+    and_from (int_le low (low +ℤ pos i)) (int_le (low +ℤ pos i) high) (grind (arith, ints)) (grind (arith, ints))
 
 pub within_bounds : (low high : ℤ) (i : ℕ) → i < int_count low high → (low +ℤ pos i) ≤ℤ high
 within_bounds low high i lt = let gap = gap_is low (high +ℤ pos 1) in omega (arith, ints)
@@ -66,19 +64,12 @@ only_empty s [] all e none h = inl refl
 only_empty s [] all e (more v vs) h = absurd (all v (and_parts (has_shape v s) (all_have_shape vs s) h).0)
 only_empty s (w ∷ ws) all e vs h = cc
 
-pub empty_list : {X : Type 0} (xs : List X) → length xs ≡ 0 → xs ≡ []
-empty_list [] e = refl
-empty_list (x ∷ xs) e = let no : ⊥ = omega arith in absurd no
-
 pub no_item : (n : ℕ) → (if n == 0 then 1 else 257) ≤ 256 → n ≡ 0
 no_item zero le = refl
 no_item (suc n) le = let no : ⊥ = grind (arith, nat_tests) in absurd no
 
 in_headed : (v : PlainValue) (row : PlainValues) (vs : List PlainValue) (rows : List PlainValues) → IsIn v vs → IsIn row rows → IsIn (more v row) (headed vs rows)
 in_headed v row vs rows head rest = in_flat_map (λ w. map (more w) rows) vs v (more v row) head (in_map (more v) rows row rest)
-
-below_count : (k count : ℕ) → nat_lt k count ≡ true → k < count
-below_count k count h = grind (arith, nat_tests)
 
 mutual
   pub values_all : (s : PlainShape) (v : PlainValue) → count_of s ≤ 256 → has_shape v s ≡ true → IsIn v (values_in s)
@@ -89,13 +80,13 @@ mutual
       let made = made_so low high z h in
       subst (λ w. IsIn (int w) (integers low (int_count low high))) made.2 (in_numbered (λ k. int (low +ℤ pos k)) 0 (int_count low high) made.0 (omega arith) (omega arith))
   values_all text_shape (text bytes) few h = let no : ⊥ = omega arith in absurd no
-  values_all (constant_shape id count) (constant k) few h = let lt = below_count k count h in in_numbered constant 0 count k (omega arith) (omega arith)
+  values_all (constant_shape id count) (constant k) few h = let lt = ltb-true k count h in in_numbered constant 0 count k (omega arith) (omega arith)
   values_all (tuple_shape ss) (tuple vs) few h = in_map tuple (rows_in ss) vs (rows_all ss vs few h)
   values_all (union_shape id cs) (bare j) few h = let same : 0 + j ≡ j = omega arith in subst (λ n. IsIn (bare n) (constructed_in cs 0)) same (bare_in cs 0 j h)
   values_all (union_shape id cs) (applied j w) few h = let same : 0 + j ≡ j = omega arith in subst (λ n. IsIn (applied n w) (constructed_in cs 0)) same (applied_in cs 0 j w few h)
   values_all (list_shape s) (list vs) few h =
       let empty = no_item (count_of s) few in
-      only_empty s (values_in s) (λ w has. values_all s w (omega arith) has) (empty_list (values_in s) (values_counted s ∙ empty)) vs h
+      only_empty s (values_in s) (λ w has. values_all s w (omega arith) has) (nil_from_length (values_in s) (values_counted s ∙ empty)) vs h
   values_all s v few h = cc
 
   rows_all : (ss : PlainShapes) (vs : PlainValues) → count_of_rows ss ≤ 256 → have_shapes vs ss ≡ true → IsIn vs (rows_in ss)
@@ -146,7 +137,7 @@ strings_have n v h =
 
 copies_have : (s : PlainShape) (v : PlainValue) (k : ℕ) → has_shape v s ≡ true → all_have_shape (from_list (replicate k v)) s ≡ true
 copies_have s v zero has = refl
-copies_have s v (suc k) has = both_true (has_shape v s) (all_have_shape (from_list (replicate k v)) s) has (copies_have s v k has)
+copies_have s v (suc k) has = and_from (has_shape v s) (all_have_shape (from_list (replicate k v)) s) has (copies_have s v k has)
 
 lists_have : (s : PlainShape) (n : ℕ) (items : List PlainValue) → ((v : PlainValue) → IsIn v items → has_shape v s ≡ true) → (v : PlainValue) → IsIn v (lists n items) → has_shape v (list_shape s) ≡ true
 lists_have s n [] each v (inl e) = subst (λ w. has_shape w (list_shape s) ≡ true) e refl
@@ -205,7 +196,7 @@ mutual
   rows_have (more_shapes s ss) vs h =
       let from = in_headed_from (values_in s) (rows_in ss) vs h in
       subst (λ row. have_shapes row (more_shapes s ss) ≡ true) from.4
-      (both_true (has_shape from.0 s) (have_shapes from.1 ss) (values_have s from.0 from.2) (rows_have ss from.1 from.3))
+      (and_from (has_shape from.0 s) (have_shapes from.1 ss) (values_have s from.0 from.2) (rows_have ss from.1 from.3))
 
   constructed_have : (cs : Constructors) (k : ℕ) (v : PlainValue) → IsIn v (constructed_in cs k) → IsOf cs k v
   constructed_have no_constructors k v h = absurd h

@@ -12,12 +12,10 @@ use Rattle.cpn_definitions.specs.ValueOrder.{value_itself}
 use Rattle.cpn_definitions.specs.Lists.{Rises}
 use Rattle.cpn_core.specs.ShapeValues.{int_count, strings, lists, headed, values_in, rows_in, constructed_in}
 use Rattle.cpn_definitions.proofs.RisingLists.{IsIn, AllBefore, each_in, in_append_cases, in_map_from, rises_mapped, rises_appended, rises_flat}
+use Rattle.cpn_definitions.proofs.NumberTests.{compared_less}
 use Rattle.cpn_core.proofs.NumberedItems.{rises_numbered}
 
 -- ---- of one kind
-
-nat_less : (i j : ℕ) → i < j → nat_cmp i j ≡ Less
-nat_less i j lt = grind (arith, nat_tests)
 
 nat_itself : (k : ℕ) → nat_cmp k k ≡ Equal
 nat_itself k = grind (arith, nat_tests)
@@ -82,12 +80,12 @@ constructed_from (taking s cs) k v h =
     (in_append_cases (map (applied k) (values_in s)) (constructed_in cs (suc k)) v h)
 
 bare_before : (i k : ℕ) (v : PlainValue) → i < k → IsFrom k v → value_cmp (bare i) v ≡ Less
-bare_before i k v lt (j, from, inl e) = rw e (nat_less i j (omega arith))
-bare_before i k v lt (j, from, inr (w, e)) = rw e (then_less_first _ _ (nat_less i j (omega arith)))
+bare_before i k v lt (j, from, inl e) = rw e (compared_less i j (omega arith))
+bare_before i k v lt (j, from, inr (w, e)) = rw e (then_less_first _ _ (compared_less i j (omega arith)))
 
 applied_before : (i k : ℕ) (u v : PlainValue) → i < k → IsFrom k v → value_cmp (applied i u) v ≡ Less
-applied_before i k u v lt (j, from, inl e) = rw e (then_less_first _ _ (nat_less i j (omega arith)))
-applied_before i k u v lt (j, from, inr (w, e)) = rw e (then_less_first _ _ (nat_less i j (omega arith)))
+applied_before i k u v lt (j, from, inl e) = rw e (then_less_first _ _ (compared_less i j (omega arith)))
+applied_before i k u v lt (j, from, inr (w, e)) = rw e (then_less_first _ _ (compared_less i j (omega arith)))
 
 applied_all_before : (s : PlainShape) (cs : Constructors) (k : ℕ) → AllBefore value_cmp (map (applied k) (values_in s)) (constructed_in cs (suc k))
 applied_all_before s cs k =
@@ -109,7 +107,7 @@ mutual
   values_rise boolean_shape = ((refl, tt), (tt, tt))
   values_rise (int_shape low high) = rises_numbered value_cmp (λ k. int (low +ℤ pos k)) 0 (int_count low high) (int_less low)
   values_rise text_shape = strings_rise 257
-  values_rise (constant_shape id count) = rises_numbered value_cmp constant 0 count nat_less
+  values_rise (constant_shape id count) = rises_numbered value_cmp constant 0 count compared_less
   values_rise (tuple_shape ss) = rises_mapped values_cmp value_cmp tuple (rows_in ss) (λ x y less. less) (rows_rise ss)
   values_rise (union_shape id cs) = constructed_rise cs 0
   values_rise (list_shape s) = lists_rise 257 (values_in s)

@@ -1,20 +1,12 @@
 -- Shapes, one level or one item at a time.
-use Rattle.std.proofs.Common.{◌≡◌, ℕ, zero, suc, ◌+◌, ◌<◌, ◌≤◌, min, ◌&&◌, nat_eq, List, [], ◌∷◌, length, get_or, drop, refl, sym, ap, ◌∙◌, arith, add-one, drop-cons, Option, Some, None, option_map, Box, Vec, Global, rules}
+use Rattle.std.proofs.Common.{◌≡◌, ℕ, zero, suc, ◌+◌, ◌<◌, ◌≤◌, min, ◌&&◌, nat_eq, List, [], ◌∷◌, length, get_or, drop, refl, sym, ap, ◌∙◌, arith, add-one, drop-cons, Option, Some, None, option_map}
 use Rattle.std.proofs.lemmas.Bool.Decides.{nat_tests}
-use Rattle.cpn_definitions.specs.Colour.{has_shape, have_shapes, constructor_at, list_shape, union_shape}
+use Rattle.cpn_definitions.specs.Colour.{has_shape, have_shapes, constructor_at}
 use Rattle.cpn_core.specs.declared.values.Value.{Value}
-use Rattle.cpn_core.specs.declared.colours.Shape.{Shape, the_lemmas}
+use Rattle.cpn_core.specs.declared.colours.Shape.{Shape}
 use Rattle.cpn_core.specs.declared.colours.Shape.TheViews as views
 use Rattle.cpn_core.specs.Views.{value_view, values_view}
 use Rattle.cpn_core.specs.Colours.{shape_view, shapes_view, constructors_view}
-
--- a list's shape, by its items'
-pub view_list : (b : Box Shape Global) → shape_view (views.List b) ≡ list_shape (shape_view b.value)
-view_list b = search (rules, the_lemmas)
-
--- a union's shape, by its constructors'
-pub view_union : (number : ℕ) (cs : Vec (Option Shape) Global) → shape_view (views.Union number cs) ≡ union_shape number (constructors_view cs.items)
-view_union number cs = search (rules, the_lemmas)
 
 -- the constructor at a position among the declared ones, and none past them
 pub declared_at : (cs : List (Option Shape)) (k : ℕ) (d : Option Shape) → k < length cs → d ≡ get_or cs k d → constructor_at (constructors_view cs) k ≡ Some (option_map shape_view d)

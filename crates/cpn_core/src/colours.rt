@@ -61,7 +61,7 @@ impl Colour {
 }
 
 #[cycle(admits)]
-#[tactic(auto, using(crate::proofs::Levels::view_con, crate::proofs::Shapes::view_union))]
+#[tactic(auto, using(crate::proofs::ValueLevels::view_con, crate::proofs::ShapeLevels::shape_union))]
 fn has_shape(value: &Value, shape: &Shape) -> bool
     ensures exact { result ≡ shape_holds (value_view value.now) (shape_view shape.now) }
 {
@@ -170,7 +170,7 @@ fn are_printable(bytes: &[u8]) -> bool
 }
 
 #[cycle(copy)]
-#[tactic(auto, using(crate::proofs::Shapes::view_list, crate::proofs::Shapes::view_union))]
+#[tactic(auto, using(crate::proofs::ShapeLevels::shape_list, crate::proofs::ShapeLevels::shape_union))]
 fn copy_shape(shape: &Shape) -> Result<Shape, Memory>
     ensures same { IfOk result (λ copied. shape_view copied ≡ shape_view shape.now) }
 {

@@ -84,7 +84,7 @@ fn by_kind(left: &Value, right: &Value) -> Ordering
 
 // Two values of one kind by what they hold, and others by their kinds.
 #[cycle(compare)]
-#[tactic(auto, using(crate::proofs::Levels::view_con))]
+#[tactic(auto, using(crate::proofs::ValueLevels::view_con))]
 fn compare(left: &Value, right: &Value) -> Ordering
     ensures order { result ≡ value_cmp (value_view left.now) (value_view right.now) }
 {

@@ -9,8 +9,8 @@ use std::sync::Arc;
 pub struct PlaceArc {
     /// The number of the place.
     pub place: u32,
-    /// The arc's inscription.
-    pub inscription: ArcExpr,
+    /// The arc's inscription, which may be shared.
+    pub inscription: Arc<ArcExpr>,
 }
 
 /// A transition.
@@ -18,10 +18,10 @@ pub struct PlaceArc {
 pub struct Transition {
     /// The flattened name, as `Top/t`.
     pub name: String,
-    /// The guard.
-    pub guard: Guard,
-    /// The delay, where one is written: a whole number from 0 to 2^62.
-    pub delay: Option<Expr>,
+    /// The guard, which may be shared.
+    pub guard: Arc<Guard>,
+    /// The delay, where one is written: a whole number from 0 to 2^62. It may be shared.
+    pub delay: Option<Arc<Expr>>,
     /// The input arcs, in document order. An arc `both` is one here and one of the outputs.
     pub inputs: Vec<PlaceArc>,
     /// The output arcs, in document order.
@@ -48,7 +48,7 @@ pub struct Variable {
     pub colour: Colour,
 }
 
-/// A net.
+/// A net. Its inscriptions and functions are shared: by the instances of a module, and by what is made of the net for a run.
 ///
 /// Source: Jensen and Kristensen, chapter 4.
 #[derive(Drop)]

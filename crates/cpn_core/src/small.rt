@@ -218,7 +218,7 @@ fn constructed(alloc: Global, constructors: &Vec<Option<Shape>>) -> Result<Value
 }
 
 // Adds the constructor at the position with each of the arguments.
-#[tactic(auto, using(crate::proofs::Levels::view_con_some))]
+#[tactic(auto, using(crate::proofs::ValueLevels::view_con_some))]
 fn push_applied(values: &mut Values, position: u32, arguments: Values) -> Result<(), Memory>
     ensures { IfOk result (λ _. map value_view values.new.items ≡ map value_view values.old.items ++ map (applied position) (map value_view arguments.items)) }
 {

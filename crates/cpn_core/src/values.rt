@@ -55,7 +55,7 @@ pub fn copy_values(values: &Values) -> Result<Values, Memory>
 }
 
 #[cycle(copy)]
-#[tactic(auto, using(crate::proofs::Levels::view_con_some))]
+#[tactic(auto, using(crate::proofs::ValueLevels::view_con_some))]
 fn copy_value(value: &Value) -> Result<Value, Memory>
     ensures same { IfOk result (λ copied. value_view copied ≡ value_view value.now) }
 {
@@ -89,7 +89,7 @@ fn copy_each(values: &Values) -> Result<Values, Memory>
 }
 
 #[cycle(nodes)]
-#[tactic(auto, using(crate::proofs::Levels::view_con_some))]
+#[tactic(auto, using(crate::proofs::ValueLevels::view_con_some))]
 fn nodes_in(value: &Value) -> u64
     ensures count { result ≡ min (nodes_of (value_view value.now)) (2 ^ 64 - 1) }
 {

@@ -1,4 +1,4 @@
-pub mod ConstructorNames
-pub mod Entries
-pub mod NewNames
-pub mod TypeLevels
+mod ConstructorNames
+mod Entries
+mod NewNames
+mod TypeLevels

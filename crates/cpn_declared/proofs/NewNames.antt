@@ -6,28 +6,13 @@ use Rattle.cpn_core.specs.Colours.{colour_view}
 use Rattle.std.specs.Map.{lookup}
 use Rattle.std.specs.Str.{bytes_eq}
 use Rattle.std.specs.declared.alloc.Global.{Global}
+use Rattle.std.proofs.lemmas.Bool.{or_parts}
 use Rattle.indexmap.specs.IndexMap.{insert_entry}
 use Rattle.cpn_core.specs.declared.colours.Colour.{Colour}
-use Rattle.cpn_typing.specs.ColourSets.{is_there, is_new, with_new}
-use Rattle.cpn_typing.specs.Names.{Name, predeclared_named, duplicate, Refusal, ok, refused, accepted_if}
+use Rattle.cpn_typing.specs.ColourSets.{is_there, is_new}
+use Rattle.cpn_typing.specs.Names.{Name, predeclared_named, refused}
 use Rattle.cpn_declared.specs.DeclsViews.{colour_entry, meaning_entry, meaning_view}
 use Rattle.cpn_declared.specs.declared.meanings.Meaning.{Meaning}
-
--- ---- accepted or refused
-
-accept : {A : Type 0} (b : Bool) (r : Refusal) (x : A) → b ≡ true → accepted_if b r x ≡ ok x
-accept true r x h = refl
-accept false r x h = cc
-
-refuse : {A : Type 0} (b : Bool) (r : Refusal) (x : A) → b ≡ false → accepted_if b r x ≡ refused r
-refuse true r x h = cc
-refuse false r x h = refl
-
-pub new_accepted : (n : Name) (taken : List Name) → is_new n taken ≡ true → with_new n taken ≡ ok (n ∷ taken)
-new_accepted n taken h = accept (is_new n taken) (duplicate n) (n ∷ taken) h
-
-pub old_refused : (n : Name) (taken : List Name) → is_new n taken ≡ false → with_new n taken ≡ refused (duplicate n)
-old_refused n taken h = refuse (is_new n taken) (duplicate n) (n ∷ taken) h
 
 -- ---- what a map tells
 
@@ -66,10 +51,6 @@ absent true q h = cc
 absent false true h = cc
 absent false false h = refl
 
-none_here : (a b : Bool) → (a || b) ≡ false → (a ≡ false) × (b ≡ false)
-none_here true b h = cc
-none_here false b h = (refl, h)
-
 goes_last : {X : Type 0} (b : Bool) (here there : List X) → b ≡ false → cond b here there ≡ there
 goes_last true here there h = cc
 goes_last false here there h = refl
@@ -77,13 +58,13 @@ goes_last false here there h = refl
 colour_last : (key : String Global) (colour : Colour) (es : List (String Global × Colour)) → list_any (bytes_eq (string_bytes key)) (map (λ c. c.name) (map colour_entry es)) ≡ false → insert_entry string_eq es key colour ≡ es ++ (key, colour) ∷ []
 colour_last key colour [] h = refl
 colour_last key colour (e ∷ es) h =
-    let parts = none_here (bytes_eq (string_bytes key) (string_bytes e.0)) (list_any (bytes_eq (string_bytes key)) (map (λ c. c.name) (map colour_entry es))) h in
+    let parts = or_parts (bytes_eq (string_bytes key) (string_bytes e.0)) (list_any (bytes_eq (string_bytes key)) (map (λ c. c.name) (map colour_entry es))) h in
     goes_last (string_eq key e.0) ((e.0, colour) ∷ es) (e ∷ insert_entry string_eq es key colour) parts.0 ∙ ap (λ rest. e ∷ rest) (colour_last key colour es parts.1)
 
 name_last : (key : String Global) (meaning : Meaning) (es : List (String Global × Meaning)) → list_any (bytes_eq (string_bytes key)) (map (λ d. d.name) (map meaning_entry es)) ≡ false → insert_entry string_eq es key meaning ≡ es ++ (key, meaning) ∷ []
 name_last key meaning [] h = refl
 name_last key meaning (e ∷ es) h =
-    let parts = none_here (bytes_eq (string_bytes key) (string_bytes e.0)) (list_any (bytes_eq (string_bytes key)) (map (λ d. d.name) (map meaning_entry es))) h in
+    let parts = or_parts (bytes_eq (string_bytes key) (string_bytes e.0)) (list_any (bytes_eq (string_bytes key)) (map (λ d. d.name) (map meaning_entry es))) h in
     goes_last (string_eq key e.0) ((e.0, meaning) ∷ es) (e ∷ insert_entry string_eq es key meaning) parts.0 ∙ ap (λ rest. e ∷ rest) (name_last key meaning es parts.1)
 
 pub colour_added : (n : Name) (key : String Global) (colour : Colour) (es : List (String Global × Colour)) → string_bytes key ≡ n → is_new n (map (λ c. c.name) (map colour_entry es)) ≡ true → insert_entry string_eq es key colour ≡ es ++ (key, colour) ∷ []

@@ -158,7 +158,7 @@ fn same_types(left: &Tys, right: &Tys) -> bool
 }
 
 #[cycle(of_shape)]
-#[tactic(auto, using(crate::proofs::TypeLevels::view_list, cpn_levels::proofs::ShapeLevels::shape_list, cpn_levels::proofs::ShapeLevels::shape_tuple))]
+#[tactic(auto, using(crate::proofs::TypeLevels::view_list, cpn_core::proofs::ShapeLevels::shape_list, cpn_core::proofs::ShapeLevels::shape_tuple))]
 fn shape_type(alloc: Global, shape: &Shape) -> Result<Ty, Memory>
     ensures exact { IfOk result (λ ty. ty_view ty ≡ type_of_shape (shape_view shape.now)) }
 {

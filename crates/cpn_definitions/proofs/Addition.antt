@@ -1,13 +1,12 @@
 -- The timed addition: a marking with tokens that were made has, of each value on each of its places, the stamps that it had and
 -- those of the tokens made for it, in their order.
-use Rattle.std.proofs.Common.{◌≡◌, ℕ, ◌<◌, ◌==◌, Bool, true, false, ◌&&◌, cond, List, [], ◌∷◌, map, length, refl, sym, ap, subst, ◌∙◌, eqb-true, arith, Ordering, Less, Equal, Greater, nat_cmp, is_lt, is_gt}
+use Rattle.std.proofs.Common.{◌≡◌, ℕ, ◌<◌, ◌==◌, Bool, true, false, ◌&&◌, cond, List, [], ◌∷◌, map, length, refl, sym, ap, subst, ◌∙◌, eqb-true, arith, Ordering, Less, Equal, Greater, nat_cmp, is_lt}
 use Rattle.std.specs.List.{filter}
 use Rattle.std.specs.Ordering.{ordering_then}
 use Rattle.std.proofs.lemmas.Bool.{cond_both, cond-true, cond-false}
-use Rattle.std.proofs.lemmas.Cmp.{alike_right}
 use Rattle.cpn_definitions.specs.Value.{PlainValue}
 use Rattle.cpn_definitions.specs.Order.{value_cmp, same_value}
-use Rattle.cpn_definitions.specs.ValueOrder.{value_cmp_total, same_value_true, same_value_refl, value_not_above}
+use Rattle.cpn_definitions.specs.ValueOrder.{same_value_true}
 use Rattle.cpn_definitions.specs.Lists.{with_item, with_items}
 use Rattle.cpn_definitions.specs.Marking.{PlainToken, token_at, Tokens, Marking, tokens_at, on_place, token_cmp, add_token, AreSorted, stamps}
 use Rattle.cpn_definitions.specs.Occurrence.{Made, add_made}
@@ -15,6 +14,7 @@ use Rattle.cpn_definitions.proofs.SortedTokens.{add_token_sorted}
 use Rattle.cpn_definitions.proofs.Stamps.{stamps_add_other}
 use Rattle.cpn_definitions.proofs.ChangedPlaces.{places_with, changed_place, other_place, tokens_on_place}
 use Rattle.cpn_definitions.proofs.Subtraction.{AllAreSorted}
+use Rattle.cpn_definitions.proofs.SameTokens.{stamps_here, below_none}
 
 -- sorted stamps with one more, and with several
 abbrev pub with_stamp : ℕ → List ℕ → List ℕ
@@ -24,23 +24,6 @@ abbrev pub with_stamps : List ℕ → List ℕ → List ℕ
 with_stamps ss rs = with_items nat_cmp ss rs
 
 -- ---- a token of the value
-
--- the first token's stamp is the first of its value
-stamps_here : (k : PlainToken) (ks : Tokens) → stamps k.value (k ∷ ks) ≡ k.stamp ∷ stamps k.value ks
-stamps_here k ks = cond-true (same_value k.value k.value) (k.stamp ∷ stamps k.value ks) (stamps k.value ks) (same_value_refl k.value)
-
-less_upto : (u v w : PlainValue) → value_cmp u v ≡ Less → is_gt (value_cmp v w) ≡ false → value_cmp u w ≡ Less
-less_upto u v w h g = split (value_cmp v w) refl g
-  where
-    split : (o : Ordering) → value_cmp v w ≡ o → is_gt o ≡ false → value_cmp u w ≡ Less
-    split Less e f = value_cmp_total.trans u v w h e
-    split Equal e f = sym (alike_right value_cmp_total v w u e) ∙ h
-    split Greater e f = cc
-
--- a value that comes before that of the first token has no stamps
-none_before : (u : PlainValue) (k : PlainToken) (ks : Tokens) → AreSorted (k ∷ ks) → value_cmp u k.value ≡ Less → stamps u (k ∷ ks) ≡ []
-none_before u k [] sorted h = rw h refl
-none_before u k (l ∷ ls) sorted h = rw h (none_before u l ls sorted.1 (less_upto u k.value l.value h (value_not_above k l sorted.0)))
 
 -- among sorted tokens a token that is added adds its stamp to those of its value, in their order
 pub stamps_added : (v : PlainValue) (s : ℕ) (ks : Tokens) → AreSorted ks → stamps v (add_token (token_at v s) ks) ≡ with_stamp s (stamps v ks)
@@ -53,7 +36,7 @@ stamps_added v s (k ∷ ks) sorted =
     token = token_at v s
 
     first : (o : Ordering) → value_cmp v k.value ≡ o → is_lt (ordering_then o (nat_cmp s k.stamp)) ≡ true → s ∷ stamps v (k ∷ ks) ≡ with_stamp s (stamps v (k ∷ ks))
-    first Less e h = rw (none_before v k ks sorted e) refl
+    first Less e h = rw (below_none v k ks sorted e) refl
     first Equal e h = rw e (sym (cond-true (is_lt (nat_cmp s k.stamp)) (s ∷ k.stamp ∷ stamps v ks) (k.stamp ∷ with_stamp s (stamps v ks)) h))
     first Greater e h = cc
 

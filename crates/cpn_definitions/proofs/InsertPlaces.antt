@@ -2,7 +2,7 @@
 -- with one item more (`with_item`), in order again.
 use Rattle.std.proofs.Common.{◌≡◌, ℕ, zero, suc, ◌≤◌, Bool, true, false, not, List, [], ◌∷◌, ◌++◌, map, length, get_or, take, drop, insert, refl, sym, ap, ap₂, subst, ◌∙◌, arith, Ordering, Less, Equal, Greater, is_lt, is_gt}
 use Rattle.std.specs.List.Sorted.{IsPartitionPoint, IsPartitionedBy}
-use Rattle.std.specs.Ordering.{ordering_reverse}
+use Rattle.std.specs.Ordering.{ordering_reverse, ordering_then}
 use Rattle.std.specs.Cmp.{IsTotalOrder}
 use Rattle.std.proofs.lemmas.Bool.{cond-true, cond-false}
 use Rattle.std.proofs.lemmas.List.{length-map, map-append, take-map, drop-map}
@@ -12,10 +12,18 @@ use Rattle.cpn_definitions.proofs.DividedLists.{divided, divided_views}
 use Rattle.cpn_definitions.proofs.OrderedLists.{with_item_in_order}
 use Rattle.cpn_definitions.specs.InsertPlaces.{IsInsertPlace}
 
-turn_lt : (o : Ordering) → is_gt (ordering_reverse o) ≡ is_lt o
+pub turn_lt : (o : Ordering) → is_gt (ordering_reverse o) ≡ is_lt o
 turn_lt Less = refl
 turn_lt Equal = refl
 turn_lt Greater = refl
+
+-- what is not after another by three comparisons in turn is not by the first two
+pub not_after : (o p q : Ordering) → is_gt (ordering_then o (ordering_then p q)) ≡ false → is_gt (ordering_then o p) ≡ false
+not_after Less p q h = refl
+not_after Equal Less q h = refl
+not_after Equal Equal q h = refl
+not_after Equal Greater q h = h
+not_after Greater p q h = h
 
 module _ {A X : Type 0} (view : A → X) (c : X → X → Ordering) where
   -- that an item does not come before those of a list in order divides it

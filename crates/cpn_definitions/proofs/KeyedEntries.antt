@@ -74,7 +74,7 @@ rises_from {B = B} {X = X} C (e ∷ es) sorted = (first es (sorted_head C e.0 (k
 
 -- ---- what is found afterwards
 
-equal_from : (o : Ordering) → is_eq o ≡ true → o ≡ Equal
+pub equal_from : (o : Ordering) → is_eq o ≡ true → o ≡ Equal
 equal_from Equal h = refl
 equal_from o h = cc
 

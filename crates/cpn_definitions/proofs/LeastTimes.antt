@@ -1,8 +1,8 @@
 -- What is covered at a time is covered at each later time; so a marking with no enabled element is dead, and each element
 -- has a least time exactly where it is covered at some time.
-use Rattle.std.proofs.Common.{◌≡◌, ℕ, zero, suc, ◌+◌, ◌<◌, ◌≤◌, ◌-◌, ◌⊎◌, Bool, true, false, cond, nat_le, List, [], ◌∷◌, map, refl, sym, ap, ap₂, subst, ◌∙◌, arith, ⊎_elim, Contains, le-leb, leb-true, is_lt, nat_cmp, inl, inr}
+use Rattle.std.proofs.Common.{◌≡◌, ℕ, zero, suc, ◌+◌, ◌<◌, ◌≤◌, ◌-◌, ◌⊎◌, Bool, true, false, cond, nat_le, List, [], ◌∷◌, map, refl, sym, ap, ap₂, subst, ◌∙◌, arith, ⊎_elim, Contains, le-leb, leb-true, is_lt, nat_cmp}
 use Rattle.std.specs.List.{list_all, filter}
-use Rattle.std.proofs.lemmas.Bool.{and_parts, and_from}
+use Rattle.std.proofs.lemmas.Bool.{and_parts, and_from, cases_Bool}
 use Rattle.std.proofs.lemmas.Bool.Decides.{nat_tests}
 use Rattle.cpn_definitions.specs.Lists.{with_item, with_items, in_order}
 use Rattle.cpn_definitions.specs.Marking.{Marking, tokens_at, stamps, covers}
@@ -11,6 +11,7 @@ use Rattle.cpn_definitions.specs.Outcome.{Outcome, gives, faults, no_meaning, gi
 use Rattle.cpn_definitions.specs.Occurrence.{PlainElement, Needed, threshold, threshold_in, same_need, thresholds, are_covered, may_occur, needs_of, covered}
 use Rattle.cpn_definitions.specs.Enabled.{PlainEntry, IsEarliest, Enabled, IsDead}
 use Rattle.cpn_definitions.proofs.UntimedPlaces.{same_place, thresholds_of_timed}
+use Rattle.cpn_definitions.proofs.TruthValues.{not_both}
 
 -- ---- thresholds that are not below others
 
@@ -129,23 +130,16 @@ covered_later n m s t e le is =
 
 -- ---- the least time
 
-clash : (b : Bool) → b ≡ true → b ≡ false → ⊥
-clash b is_true is_false = cc
-
-either_way : (b : Bool) → (b ≡ true) ⊎ (b ≡ false)
-either_way true = inl refl
-either_way false = inr refl
-
 -- an element that is covered at the end of a stretch of time has a least time there
 least_within : (n : PlainNet) (m : Marking) (clock d : ℕ) (e : PlainElement) → covered n m (clock + d) e ≡ true → (x : PlainEntry) × (x.element ≡ e) × IsEarliest n m clock x
 least_within n m clock zero e is = (record { earliest = clock; element = e }, refl, record { not_before = omega arith; is_covered = subst (λ (t : ℕ). covered n m t e ≡ true) (omega arith) is; not_earlier = λ s from before. absurd (omega arith) })
 least_within n m clock (suc d) e is =
     ⊎_elim (λ sooner. least_within n m clock d e sooner)
     (λ not_yet. (record { earliest = clock + suc d; element = e }, refl, record { not_before = omega arith; is_covered = is; not_earlier = λ s from before. none_before s (omega arith) not_yet }))
-    (either_way (covered n m (clock + d) e))
+    (cases_Bool (covered n m (clock + d) e))
   where
     none_before : (s : ℕ) → s ≤ clock + d → covered n m (clock + d) e ≡ false → covered n m s e ≡ false
-    none_before s le not_yet = ⊎_elim (λ yes. absurd (clash (covered n m (clock + d) e) (covered_later n m s (clock + d) e le yes) not_yet)) (λ no. no) (either_way (covered n m s e))
+    none_before s le not_yet = ⊎_elim (λ yes. absurd (not_both (covered n m (clock + d) e) (covered_later n m s (clock + d) e le yes) not_yet)) (λ no. no) (cases_Bool (covered n m s e))
 
 -- each element that is covered at some time has an entry
 pub has_entry : (n : PlainNet) (m : Marking) (clock time : ℕ) (e : PlainElement) → covered n m time e ≡ true → (x : PlainEntry) × (x.element ≡ e) × IsEarliest n m clock x
@@ -153,7 +147,7 @@ has_entry n m clock time e is = least_within n m clock time e (covered_later n m
 
 -- a marking with no enabled element is dead
 pub none_is_dead : (n : PlainNet) (m : Marking) (clock : ℕ) → Enabled n m clock [] → IsDead n m
-none_is_dead n m clock enabled time e = ⊎_elim (λ yes. absurd (none yes)) (λ no. no) (either_way (covered n m time e))
+none_is_dead n m clock enabled time e = ⊎_elim (λ yes. absurd (none yes)) (λ no. no) (cases_Bool (covered n m time e))
   where
     none : covered n m time e ≡ true → ⊥
     none is =
@@ -167,4 +161,4 @@ pub dead_has_none : (n : PlainNet) (m : Marking) (clock : ℕ) (entries : List P
 dead_has_none n m clock [] dead enabled = refl
 dead_has_none n m clock (x ∷ xs) dead enabled =
     let is = (enabled.exact x).0 (0, omega arith, refl) in
-    absurd (clash (covered n m x.earliest x.element) is.is_covered (dead x.earliest x.element))
+    absurd (not_both (covered n m x.earliest x.element) is.is_covered (dead x.earliest x.element))

@@ -1,4 +1,4 @@
-pub mod ViewedLists
+mod ViewedLists
 pub mod ChangedPlaces
 pub mod DividedLists
 pub mod RisingLists
@@ -9,7 +9,7 @@ pub mod TokenOrder
 pub mod Outcomes
 pub mod UntimedPlaces
 pub mod LeastTimes
-pub mod UntimedNets
+mod UntimedNets
 pub mod Subtraction
 pub mod Addition
 pub mod RicherMarkings
@@ -17,23 +17,23 @@ pub mod Needs
 pub mod Terms
 pub mod Markings
 pub mod LegalSequences
-pub mod Rows
-pub mod WorkedNets
+mod Rows
+mod WorkedNets
 pub mod SortedTokens
 pub mod Stamps
-pub mod ShortForms
-pub mod ArithmeticRows
-pub mod ListRows
-pub mod PatternRows
-pub mod MeaningRows
-pub mod TermRows
-pub mod FaultRows
+mod ShortForms
+mod ArithmeticRows
+mod ListRows
+mod PatternRows
+mod MeaningRows
+mod TermRows
+mod FaultRows
 pub mod Division
 pub mod EarlierCalls
-pub mod FirstFault
+mod FirstFault
 pub mod SmallColours
-pub mod BindableRows
-pub mod Patterns
+mod BindableRows
+mod Patterns
 pub mod TokenCounts
 pub mod OwnVariables
 pub mod FewerItems
@@ -43,3 +43,8 @@ pub mod DelayBounds
 pub mod PlaceCounts
 pub mod PlaceStamps
 pub mod BoundedMarkings
+pub mod SameTokens
+pub mod NumberTests
+pub mod TruthValues
+pub mod ListItems
+pub mod ValueRows

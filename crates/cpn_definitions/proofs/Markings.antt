@@ -4,7 +4,7 @@ use Rattle.std.specs.List.{list_all, list_any, flat_map, AllByRecursion}
 use Rattle.std.proofs.lemmas.Bool.{cond_both, and_parts, and_from}
 use Rattle.cpn_definitions.specs.Value.{PlainValue}
 use Rattle.cpn_definitions.specs.Colour.{PlainColour, admits}
-use Rattle.cpn_definitions.specs.Lists.{with_item, with_items, in_order}
+use Rattle.cpn_definitions.specs.Lists.{in_order}
 use Rattle.cpn_definitions.specs.Marking.{PlainToken, Tokens, Marking, token_at, token_cmp, tokens_at, on_place, AreSorted, add_token, without_token, is_taken_by}
 use Rattle.cpn_definitions.specs.Inscription.{ArcInscription}
 use Rattle.cpn_definitions.specs.Net.{PlainArc, PlainTransition, PlainNet, Coloured, nothing, no_transition, place_at, transition_at, is_timed}
@@ -15,7 +15,7 @@ use Rattle.cpn_definitions.specs.Occurrence.{gather, PlainElement, Needed, Made,
 use Rattle.cpn_definitions.specs.Sound.{IsSoundArc, IsSoundTransition, IsSound, may_hold, IsMarking}
 use Rattle.cpn_definitions.proofs.Outcomes.{bound_parts, same_given}
 use Rattle.cpn_definitions.proofs.RisingLists.{each_appended, each_flat}
-use Rattle.cpn_definitions.proofs.OrderedLists.{all_with_item}
+use Rattle.cpn_definitions.proofs.OrderedLists.{each_with_items}
 use Rattle.cpn_definitions.proofs.SortedTokens.{add_token_sorted, without_token_sorted}
 use Rattle.cpn_definitions.proofs.ChangedPlaces.{places_with, tokens_on_place}
 use Rattle.cpn_definitions.proofs.Terms.{AreTermsOf, terms_are}
@@ -126,10 +126,6 @@ arcs_held n t b time delay (arc ∷ arcs) made sound is =
     let rest = bound_parts (gather (made_by n b time delay) arcs) _ made first.2 in
     subst (AllByRecursion (MayBeHeld n.places)) (same_given (first.0 ++ rest.0) made rest.2) (each_appended (MayBeHeld n.places) first.0 rest.0 (arc_held n t b time delay arc first.0 sound.0 first.1) (arcs_held n t b time delay arcs rest.0 sound.1 rest.1))
 
-all_with_items : (P : Made → Type 0) (xs ys : List Made) → AllByRecursion P xs → AllByRecursion P ys → AllByRecursion P (with_items made_cmp xs ys)
-all_with_items P [] ys first second = second
-all_with_items P (x ∷ xs) ys first second = all_with_items P xs (with_item made_cmp x ys) first.1 (all_with_item made_cmp P x ys first.0 second)
-
 -- the output arcs of a transition of a sound net are sound; past the last transition there is none
 pub outputs_sound_at : (n : PlainNet) (ts : List PlainTransition) (t : ℕ) → AllByRecursion (IsSoundTransition n) ts → AllByRecursion (IsSoundArc n (slice_index_or ts t no_transition)) (slice_index_or ts t no_transition).outputs
 outputs_sound_at n [] zero all = tt
@@ -143,7 +139,7 @@ outputs_held n e time outputs sound is =
     let tr = transition_at n e.transition in
     let delay = bound_parts (transition_delay n.functions tr.delay e.binding time) _ outputs is in
     let made = bound_parts (gather (made_by n e.binding time delay.0) tr.outputs) _ outputs delay.2 in
-    subst (AllByRecursion (MayBeHeld n.places)) (same_given (in_order made_cmp made.0) outputs made.2) (all_with_items (MayBeHeld n.places) made.0 [] (arcs_held n tr e.binding time delay.0 tr.outputs made.0 (outputs_sound_at n n.transitions e.transition sound.transitions_sound) made.1) tt)
+    subst (AllByRecursion (MayBeHeld n.places)) (same_given (in_order made_cmp made.0) outputs made.2) (each_with_items made_cmp (MayBeHeld n.places) made.0 [] (arcs_held n tr e.binding time delay.0 tr.outputs made.0 (outputs_sound_at n n.transitions e.transition sound.transitions_sound) made.1) tt)
 
 -- a marking of the places of a sound net stays one when needs are taken and the outputs of an element are added
 pub occurred_marking : (n : PlainNet) (latest : Needed → ℕ) (needs : List Needed) (e : PlainElement) (time : ℕ) (outputs : List Made) (m : Marking) → IsSound n → outputs_of n e time ≡ gives outputs → IsMarking n.places m → IsMarking n.places (add_made outputs (subtract latest needs m))

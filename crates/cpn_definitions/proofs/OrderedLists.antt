@@ -9,6 +9,11 @@ use Rattle.std.proofs.lemmas.Cmp.{upto}
 use Rattle.cpn_definitions.specs.Lists.{IsInOrder, with_item, with_items, in_order}
 use Rattle.cpn_definitions.proofs.RisingLists.{each_implied}
 
+-- items that are put in order one after another
+pub with_items_append : {X : Type 0} (c : X → X → Ordering) (xs ys zs : List X) → with_items c (xs ++ ys) zs ≡ with_items c ys (with_items c xs zs)
+with_items_append c [] ys zs = refl
+with_items_append c (x ∷ xs) ys zs = with_items_append c xs ys (with_item c x zs)
+
 -- what comes before another is not after it
 below : (o : Ordering) → is_lt o ≡ true → is_gt o ≡ false
 below Less h = refl
@@ -157,10 +162,6 @@ module _ {X : Type 0} (c : X → X → Ordering) (total : IsTotalOrder c) where
     one_later [] y zs = refl
     one_later (x ∷ xs) y zs = ap (with_items c xs) (added_either_way x y zs) ∙ one_later xs y (with_item c x zs)
 
-    items_joined : (xs ys zs : List X) → with_items c (xs ++ ys) zs ≡ with_items c ys (with_items c xs zs)
-    items_joined [] ys zs = refl
-    items_joined (x ∷ xs) ys zs = items_joined xs ys (with_item c x zs)
-
     items_either_way : (xs ys zs : List X) → with_items c ys (with_items c xs zs) ≡ with_items c xs (with_items c ys zs)
     items_either_way [] ys zs = refl
     items_either_way (x ∷ xs) ys zs = items_either_way xs ys (with_item c x zs) ∙ ap (with_items c xs) (one_later ys x zs)
@@ -169,6 +170,11 @@ module _ {X : Type 0} (c : X → X → Ordering) (total : IsTotalOrder c) where
     pub exchanged_in_order : (before xs ys later : List X) → in_order c (before ++ (xs ++ (ys ++ later))) ≡ in_order c (before ++ (ys ++ (xs ++ later)))
     exchanged_in_order before xs ys later =
         let zs = with_items c before [] in
-        items_joined before (xs ++ (ys ++ later)) [] ∙ items_joined xs (ys ++ later) zs ∙ items_joined ys later (with_items c xs zs)
+        with_items_append c before (xs ++ (ys ++ later)) [] ∙ with_items_append c xs (ys ++ later) zs ∙ with_items_append c ys later (with_items c xs zs)
         ∙ ap (with_items c later) (items_either_way xs ys zs)
-        ∙ sym (items_joined before (ys ++ (xs ++ later)) [] ∙ items_joined ys (xs ++ later) zs ∙ items_joined xs later (with_items c ys zs))
+        ∙ sym (with_items_append c before (ys ++ (xs ++ later)) [] ∙ with_items_append c ys (xs ++ later) zs ∙ with_items_append c xs later (with_items c ys zs))
+
+-- what holds of each item holds of each of them in order
+pub each_with_items : {X : Type 0} (c : X → X → Ordering) (P : X → Type 0) (xs ys : List X) → AllByRecursion P xs → AllByRecursion P ys → AllByRecursion P (with_items c xs ys)
+each_with_items c P [] ys first rest = rest
+each_with_items c P (x ∷ xs) ys first rest = each_with_items c P xs (with_item c x ys) first.1 (all_with_item c P x ys first.0 rest)

@@ -4,7 +4,6 @@
 use Rattle.std.proofs.Common.{◌≡◌, ℕ, zero, suc, ◌<◌, ◌≤◌, ◌==◌, Bool, true, false, cond, nat_le, List, [], ◌∷◌, map, length, refl, sym, ap, ap₂, subst, ◌∙◌, inl, ⊎_elim, eqb-true, arith, nat_cmp, is_lt}
 use Rattle.std.specs.List.{filter}
 use Rattle.std.proofs.lemmas.Bool.{cond_both, cond-true, cond-false, leb-true, le-leb, and_parts, and_from, cases_lt}
-use Rattle.std.proofs.lemmas.Bool.Decides.{nat_tests}
 use Rattle.std.proofs.lemmas.Cmp.{nat_cmp_total}
 use Rattle.cpn_definitions.specs.Value.{PlainValue}
 use Rattle.cpn_definitions.specs.Order.{same_value}
@@ -19,6 +18,7 @@ use Rattle.cpn_definitions.proofs.Subtraction.{AllAreSorted, is_for, thresholds_
 use Rattle.cpn_definitions.proofs.Needs.{thresholds_in_order}
 use Rattle.cpn_definitions.proofs.ChangedPlaces.{places_with}
 use Rattle.cpn_definitions.proofs.Addition.{with_stamp, with_stamps, stamps_for, places_added, add_made_is_more}
+use Rattle.cpn_definitions.proofs.NumberTests.{earlier, not_earlier, is_behind}
 
 -- ---- stamps that cover stamps
 
@@ -107,12 +107,6 @@ less_covers (t ∷ ts) rs ss rising_r rising_s over all =
 
 -- ---- one stamp more
 
-earlier : (s r : ℕ) → is_lt (nat_cmp s r) ≡ true → s < r
-earlier s r h = grind (arith, nat_tests)
-
-not_earlier : (s r : ℕ) → is_lt (nat_cmp s r) ≡ false → r ≤ s
-not_earlier s r h = grind (arith, nat_tests)
-
 at_most_less : (s r : ℕ) (rs : List ℕ) → s ≤ r → IsAtMostEach r rs → IsAtMostEach s rs
 at_most_less s r [] h below = tt
 at_most_less s r (q ∷ qs) h below = (omega (arith, below.0), at_most_less s r qs h below.1)
@@ -157,12 +151,9 @@ with_covers x (r ∷ rs) (s ∷ ss) rising over = split (is_lt (nat_cmp x s)) re
         covers_one_more x x (r ∷ rs) (s ∷ ss) (omega arith) ((low, at_most_less x s ss low rising.0), rising) over
     split false h rest =
         let le = not_earlier x s h in
-        let behind : is_lt (nat_cmp x r) ≡ false = later x r (omega (arith, leb-true r s parts.0)) in
+        let behind : is_lt (nat_cmp x r) ≡ false = is_behind x r (omega (arith, leb-true r s parts.0)) in
         ap (λ xs. covers xs (s ∷ with_stamp x ss)) (cond-false (is_lt (nat_cmp x r)) (x ∷ r ∷ rs) (r ∷ with_stamp x rs) behind)
         ∙ and_from (nat_le r s) (covers (with_stamp x rs) (with_stamp x ss)) parts.0 rest
-      where
-        later : (x r : ℕ) → r ≤ x → is_lt (nat_cmp x r) ≡ false
-        later x r le = grind (arith, nat_tests)
 
 with_all_covers : (xs rs ss : List ℕ) → AreRising ss → covers rs ss ≡ true → covers (with_stamps xs rs) (with_stamps xs ss) ≡ true
 with_all_covers [] rs ss rising over = over
@@ -245,7 +236,7 @@ richer_subtracted time k m needs sorted_k sorted_m ordered richer all = record {
 }
 
 -- there are no tokens past the last place
-past_the_last : (m : Marking) (p : ℕ) → length m ≤ p → tokens_at m p ≡ []
+pub past_the_last : (m : Marking) (p : ℕ) → length m ≤ p → tokens_at m p ≡ []
 past_the_last [] p past = refl
 past_the_last (ks ∷ m) zero past = absurd (omega arith)
 past_the_last (ks ∷ m) (suc p) past = past_the_last m p (omega arith)

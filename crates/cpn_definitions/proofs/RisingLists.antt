@@ -2,6 +2,7 @@
 use Rattle.std.proofs.Common.{◌≡◌, ℕ, zero, suc, ◌<◌, ◌⊎◌, Bool, true, false, cond, ◌||◌, List, [], ◌∷◌, ◌++◌, map, length, slice_index_or, refl, sym, ap, ◌∙◌, subst, inl, inr, ⊎_elim, arith, Contains, Ordering, Less}
 use Rattle.std.specs.List.{filter, flat_map, list_all, list_any, AllByRecursion}
 use Rattle.std.proofs.lemmas.Bool.{cond_both, and_parts}
+use Rattle.std.proofs.Math.Bool.{or-true}
 use Rattle.cpn_definitions.specs.Lists.{Rises}
 
 -- x is in the list, by recursion on the list
@@ -58,6 +59,11 @@ in_flat_map f [] x y h g = absurd h
 in_flat_map f (z ∷ xs) x y (inl e) g = in_append_left (f z) (flat_map f xs) y (subst (λ w. IsIn y (f w)) (sym e) g)
 in_flat_map f (z ∷ xs) x y (inr h) g = in_append_right (f z) (flat_map f xs) y (in_flat_map f xs x y h g)
 
+-- what a flat map has comes from one of the list
+pub in_flat_from : {X Y : Type 0} (f : X → List Y) (xs : List X) (y : Y) → IsIn y (flat_map f xs) → (x : X) × IsIn x xs × IsIn y (f x)
+in_flat_from f [] y h = absurd h
+in_flat_from f (x ∷ xs) y h = ⊎_elim (λ g. (x, inl refl, g)) (λ g. let rest = in_flat_from f xs y g in (rest.0, inr rest.1, rest.2)) (in_append_cases (f x) (flat_map f xs) y h)
+
 pub in_filter : {X : Type 0} (p : X → Bool) (xs : List X) (x : X) → IsIn x xs → p x ≡ true → IsIn x (filter p xs)
 in_filter p [] x h passes = absurd h
 in_filter p (y ∷ ys) x (inl e) passes =
@@ -90,11 +96,7 @@ all_pass p (y ∷ ys) each = rw (each y (inl refl)) (all_pass p ys (λ x h. each
 pub some_passes : {X : Type 0} (p : X → Bool) (xs : List X) (x : X) → IsIn x xs → p x ≡ true → list_any p xs ≡ true
 some_passes p [] x h is = absurd h
 some_passes p (y ∷ ys) x (inl e) is = rw (ap p e ∙ is) refl
-some_passes p (y ∷ ys) x (inr h) is = rw (some_passes p ys x h is) (or_true (p y))
-  where
-    or_true : (b : Bool) → (b || true) ≡ true
-    or_true true = refl
-    or_true false = refl
+some_passes p (y ∷ ys) x (inr h) is = rw (some_passes p ys x h is) (or-true (p y))
 
 pub one_that_passes : {X : Type 0} (p : X → Bool) (xs : List X) → list_any p xs ≡ true → (x : X) × IsIn x xs × (p x ≡ true)
 one_that_passes p [] any = cc
@@ -137,11 +139,6 @@ each_flat P f [] all = tt
 each_flat P f (x ∷ xs) all = each_appended P (f x) (flat_map f xs) all.0 (each_flat P f xs all.1)
 
 -- ---- rising lists
-
-pub rises_filtered : {X : Type 0} (c : X → X → Ordering) (p : X → Bool) (xs : List X) → Rises c xs → Rises c (filter p xs)
-rises_filtered c p [] h = tt
-rises_filtered c p (x ∷ xs) h =
-    cond_both (p x) (x ∷ filter p xs) (filter p xs) (Rises c) (λ _. (each_filtered (λ y. c x y ≡ Less) p xs h.0, rises_filtered c p xs h.1)) (λ _. rises_filtered c p xs h.1)
 
 pub rises_mapped : {X Y : Type 0} (c : X → X → Ordering) (d : Y → Y → Ordering) (f : X → Y) (xs : List X) → ((x y : X) → c x y ≡ Less → d (f x) (f y) ≡ Less) → Rises c xs → Rises d (map f xs)
 rises_mapped c d f [] so h = tt

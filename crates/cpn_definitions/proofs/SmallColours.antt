@@ -1,6 +1,6 @@
 -- A colour set has one list of all its values, and is small exactly where that list is short: what makes it small, and what
 -- makes it not small.
-use Rattle.std.proofs.Common.{◌≡◌, ◌⊎◌, ℕ, zero, suc, ◌+◌, ◌<◌, ◌≤◌, ◌==◌, pos, negsuc, Bool, true, false, List, [], ◌∷◌, length, replicate, refl, sym, ap, ◌∙◌, subst, inl, inr, arith, Less, nat_cmp}
+use Rattle.std.proofs.Common.{◌≡◌, ◌⊎◌, ℕ, zero, suc, ◌+◌, ◌<◌, ◌≤◌, ◌==◌, pos, negsuc, Bool, true, false, List, [], ◌∷◌, length, replicate, refl, sym, ap, ◌∙◌, subst, inl, inr, arith, Less}
 use Rattle.std.specs.List.{AllByRecursion}
 use Rattle.std.proofs.lemmas.Bool.Decides.{nat_tests}
 use Rattle.cpn_definitions.specs.Value.{PlainValue, unit, boolean, int, list, from_list}
@@ -11,6 +11,7 @@ use Rattle.cpn_definitions.specs.Lists.{Rises}
 use Rattle.cpn_definitions.specs.Bindable.{AreAll, IsSmall}
 use Rattle.cpn_definitions.proofs.RisingLists.{IsIn, in_from_contains, contains_from_in}
 use Rattle.cpn_definitions.proofs.OneEnabledList.{rising_is_unique, asymmetric, after_first}
+use Rattle.cpn_definitions.proofs.NumberTests.{compared_less}
 
 -- ---- one list
 
@@ -65,10 +66,7 @@ integers_from k zero = []
 integers_from k (suc n) = int (pos k) ∷ integers_from (suc k) n
 
 earlier : (i j : ℕ) → i < j → value_cmp (int (pos i)) (int (pos j)) ≡ Less
-earlier i j lt = pos_cmp i j ∙ below i j lt
-  where
-    below : (i j : ℕ) → i < j → nat_cmp i j ≡ Less
-    below i j lt = grind (arith, nat_tests)
+earlier i j lt = pos_cmp i j ∙ compared_less i j lt
 
 all_later : (i k n : ℕ) → i < k → AllByRecursion (λ v. value_cmp (int (pos i)) v ≡ Less) (integers_from k n)
 all_later i k zero lt = tt

@@ -1,6 +1,6 @@
 -- In a net where no place keeps time stamps, being covered does not depend on the time: what is enabled is ready, and each
 -- occurrence of a legal sequence is at the clock.
-use Rattle.std.proofs.Common.{◌≡◌, ℕ, suc, ◌<◌, ◌≤◌, ◌==◌, Bool, true, false, ◌&&◌, List, [], ◌∷◌, length, refl, sym, ap, ◌∙◌, subst, arith, ⊎_elim, Contains, eq-eqb}
+use Rattle.std.proofs.Common.{◌≡◌, ℕ, suc, ◌<◌, ◌≤◌, ◌==◌, Bool, true, ◌&&◌, List, [], ◌∷◌, length, refl, sym, ap, ◌∙◌, subst, arith, ⊎_elim, Contains, eq-eqb}
 use Rattle.std.specs.List.{filter, AllByRecursion}
 use Rattle.std.proofs.Math.Path.{fun_ext}
 use Rattle.std.proofs.lemmas.Bool.{cases_lt}
@@ -11,6 +11,7 @@ use Rattle.cpn_definitions.specs.Occurrence.{PlainElement, Needed, threshold_in,
 use Rattle.cpn_definitions.specs.Enabled.{PlainEntry, IsEarliest, Enabled, ready}
 use Rattle.cpn_definitions.specs.Legal.{LeastTime, TimedElement, Legal}
 use Rattle.cpn_definitions.specs.Sound.{IsUntimed}
+use Rattle.cpn_definitions.proofs.TruthValues.{not_both}
 
 threshold_is_zero : (n : PlainNet) (time : ℕ) (need : Needed) → IsUntimed n → threshold_in n time need ≡ 0
 threshold_is_zero n time need untimed = rw (untimed need.place) refl
@@ -22,13 +23,10 @@ covered_at_any_time n m s t e untimed =
     let same : threshold_in n s ≡ threshold_in n t = fun_ext (λ need. threshold_is_zero n s need untimed ∙ sym (threshold_is_zero n t need untimed)) in
     ap (λ (latest : Needed → ℕ). may_occur n e && gives_and (needs_of n e) (are_covered latest m)) same
 
-clash : (b : Bool) → b ≡ true → b ≡ false → ⊥
-clash b is_true is_false = cc
-
 -- the earliest time of an element is the clock
 pub earliest_is_clock : (n : PlainNet) (m : Marking) (clock : ℕ) (x : PlainEntry) → IsUntimed n → IsEarliest n m clock x → x.earliest ≡ clock
 earliest_is_clock n m clock x untimed is =
-    ⊎_elim (λ before. absurd (clash (covered n m clock x.element) (covered_at_any_time n m clock x.earliest x.element untimed ∙ is.is_covered) (is.not_earlier clock (omega arith) before)))
+    ⊎_elim (λ before. absurd (not_both (covered n m clock x.element) (covered_at_any_time n m clock x.earliest x.element untimed ∙ is.is_covered) (is.not_earlier clock (omega arith) before)))
     (λ (upto : x.earliest ≤ clock). let from : clock ≤ x.earliest = is.not_before in omega arith) (cases_lt clock x.earliest)
 
 -- where each item of a list passes a test, the filter keeps all
@@ -46,7 +44,7 @@ all_are_ready n m clock entries untimed enabled =
 pub least_is_clock : (n : PlainNet) (m : Marking) (clock time : ℕ) → IsUntimed n → LeastTime n m clock time → time ≡ clock
 least_is_clock n m clock time untimed least =
     let e = least.some.0 in
-    ⊎_elim (λ before. absurd (clash (covered n m clock e) (covered_at_any_time n m clock time e untimed ∙ least.some.1) (least.none_earlier clock e (omega arith) before)))
+    ⊎_elim (λ before. absurd (not_both (covered n m clock e) (covered_at_any_time n m clock time e untimed ∙ least.some.1) (least.none_earlier clock e (omega arith) before)))
     (λ (upto : time ≤ clock). let from : clock ≤ time = least.not_before in omega arith) (cases_lt clock time)
 
 -- Each occurrence of a legal sequence is at the clock, and so is its end.

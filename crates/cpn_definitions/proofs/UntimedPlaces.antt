@@ -15,7 +15,7 @@ use Rattle.cpn_definitions.specs.Meaning.{PlainBinding}
 use Rattle.cpn_definitions.specs.Terms.{PlainTerm, terms_of}
 use Rattle.cpn_definitions.specs.Sound.{IsStamped, may_hold, IsMarking}
 use Rattle.cpn_definitions.proofs.RisingLists.{each_appended, each_flat, each_in}
-use Rattle.cpn_definitions.proofs.OrderedLists.{all_with_item}
+use Rattle.cpn_definitions.proofs.OrderedLists.{each_with_items}
 use Rattle.cpn_definitions.proofs.ChangedPlaces.{tokens_on_place}
 use Rattle.cpn_definitions.proofs.Outcomes.{bound_parts, same_given}
 use Rattle.std.specs.Ordering.{nat_cmp, is_lt}
@@ -101,7 +101,7 @@ one_covered n m time need needs stamped = split (is_timed n need.place) refl
     split false untimed =
         zeros_cover (stamps need.value (tokens_at m need.place)) (thresholds (threshold time) need needs) (thresholds (threshold_in n time) need needs) (stamps_zero need.value (tokens_at m need.place) (stamped need.place untimed)) (as_many (threshold time) (threshold_in n time) need needs)
 
-all_alike : {X : Type 0} (p q : X → Bool) (xs : List X) → ((x : X) → p x ≡ q x) → list_all p xs ≡ list_all q xs
+pub all_alike : {X : Type 0} (p q : X → Bool) (xs : List X) → ((x : X) → p x ≡ q x) → list_all p xs ≡ list_all q xs
 all_alike p q [] same = refl
 all_alike p q (x ∷ xs) same = ap₂ (λ a b. a && b) (same x) (all_alike p q xs same)
 
@@ -203,17 +203,13 @@ arcs_made n b time delay (arc ∷ arcs) made is =
     let rest = bound_parts (gather (made_by n b time delay) arcs) _ made first.2 in
     subst (MadeStamped n) (same_given (first.0 ++ rest.0) made rest.2) (each_appended (IsMadeStamped n) first.0 rest.0 (arc_made n b time delay arc first.0 first.1) (arcs_made n b time delay arcs rest.0 rest.1))
 
-all_with_items : (P : Made → Type 0) (xs ys : List Made) → AllByRecursion P xs → AllByRecursion P ys → AllByRecursion P (with_items made_cmp xs ys)
-all_with_items P [] ys first second = second
-all_with_items P (x ∷ xs) ys first second = all_with_items P xs (with_item made_cmp x ys) first.1 (all_with_item made_cmp P x ys first.0 second)
-
 -- the outputs of an element are stamped as the net is timed
 pub outputs_stamped : (n : PlainNet) (e : PlainElement) (time : ℕ) (outputs : List Made) → outputs_of n e time ≡ gives outputs → MadeStamped n outputs
 unfolding outputs_of
 outputs_stamped n e time outputs is =
     let delay = bound_parts (transition_delay n.functions (transition_at n e.transition).delay e.binding time) _ outputs is in
     let made = bound_parts (gather (made_by n e.binding time delay.0) (transition_at n e.transition).outputs) _ outputs delay.2 in
-    subst (MadeStamped n) (same_given (in_order made_cmp made.0) outputs made.2) (all_with_items (IsMadeStamped n) made.0 [] (arcs_made n e.binding time delay.0 (transition_at n e.transition).outputs made.0 made.1) tt)
+    subst (MadeStamped n) (same_given (in_order made_cmp made.0) outputs made.2) (each_with_items made_cmp (IsMadeStamped n) made.0 [] (arcs_made n e.binding time delay.0 (transition_at n e.transition).outputs made.0 made.1) tt)
 
 held_at_zero : (colour : PlainColour) (ks : Tokens) → colour.timed ≡ false → list_all (may_hold colour) ks ≡ true → AreZero ks
 held_at_zero colour [] untimed all = refl

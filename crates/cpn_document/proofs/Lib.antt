@@ -1,8 +1,8 @@
-pub mod SeenValues
-pub mod NameLists
-pub mod BrokenRules
-pub mod ReadLists
-pub mod ArcCounts
-pub mod OneReading
-pub mod FewArcs
+mod SeenValues
+mod NameLists
+mod BrokenRules
+mod ReadLists
+mod ArcCounts
+mod OneReading
+mod FewArcs
 mod Rows

@@ -1,15 +1,12 @@
 -- What is gathered from arcs one after another, and added to what is in order.
-use Rattle.std.proofs.Common.{◌≡◌, ℕ, suc, ◌+◌, ◌-◌, ◌<◌, ◌≤◌, max, List, [], ◌∷◌, ◌++◌, replicate, refl, sym, ap, ◌∙◌, arith, Ordering}
+use Rattle.std.proofs.Common.{◌≡◌, ℕ, suc, ◌+◌, ◌-◌, ◌<◌, ◌≤◌, max, List, ◌∷◌, ◌++◌, replicate, refl, sym, ap, ◌∙◌, arith, Ordering}
 use Rattle.cpn_definitions.specs.Lists.{with_item, with_items}
 use Rattle.cpn_definitions.specs.Net.{PlainArc}
-use Rattle.cpn_definitions.specs.Outcome.{Outcome, gives, faults, no_meaning, Fault, ◌>>=◌}
+use Rattle.cpn_definitions.specs.Outcome.{Outcome, gives, faults, no_meaning, Fault}
 use Rattle.cpn_definitions.specs.Terms.{PlainTerm}
 use Rattle.cpn_definitions.specs.Occurrence.{gather}
+use Rattle.cpn_definitions.proofs.OrderedLists.{with_items_append}
 use Rattle.cpn_elements.specs.Summed.{and_these, tokens_of}
-
-pub with_items_append : {X : Type 0} (c : X → X → Ordering) (xs ys zs : List X) → with_items c (xs ++ ys) zs ≡ with_items c ys (with_items c xs zs)
-with_items_append c [] ys zs = refl
-with_items_append c (x ∷ xs) ys zs = with_items_append c xs ys (with_item c x zs)
 
 module _ {X : Type 0} (c : X → X → Ordering) where
   -- the first arc's outcome and that of the others

@@ -1,10 +1,11 @@
 -- What the arcs and the conjuncts that are left give, by the next of them.
-use Rattle.std.proofs.Common.{◌≡◌, ℕ, suc, ◌+◌, ◌<◌, Bool, true, false, ◌&&◌, List, ◌∷◌, map, length, get_or, drop, sym, ap, ◌∙◌, subst, add-one, drop-cons, Ordering}
+use Rattle.std.proofs.Common.{◌≡◌, ℕ, ◌+◌, ◌<◌, Bool, true, false, ◌&&◌, List, ◌∷◌, map, length, get_or, drop, sym, ap, ◌∙◌, subst, Ordering}
 use Rattle.cpn_definitions.specs.Net.{PlainArc}
 use Rattle.cpn_definitions.specs.Inscription.{PlainExpr, Functions}
 use Rattle.cpn_definitions.specs.Outcome.{Outcome, gives, gives_and}
 use Rattle.cpn_definitions.specs.Meaning.{PlainBinding, meaning, is_true}
 use Rattle.cpn_definitions.specs.Occurrence.{gather, guard_holds}
+use Rattle.cpn_definitions.proofs.ListItems.{next_left}
 use Rattle.cpn_core.specs.declared.inscriptions.Expr.{Expr}
 use Rattle.cpn_core.specs.Inscriptions.{expr_view}
 use Rattle.cpn_core.specs.declared.nets.PlaceArc.{PlaceArc}
@@ -16,12 +17,6 @@ use Rattle.cpn_eval.specs.Answers.{Refuses}
 use Rattle.cpn_elements.specs.Guards.{GuardHasMeaning}
 use Rattle.cpn_elements.specs.Summed.{and_these}
 use Rattle.cpn_elements.proofs.GatheredTerms.{gather_gives, gather_faults}
-
--- the next item of those that are left, as it is seen, and the others
-pub next_left : {A B : Type 0} (view : A → B) (xs : List A) (i : ℕ) (x : A) → i < length xs → x ≡ get_or xs i x → map view (drop i xs) ≡ view x ∷ map view (drop (i + 1) xs)
-next_left view xs i x lt is =
-    let left : drop i xs ≡ x ∷ drop (i + 1) xs = rw add-one (drop-cons xs i x lt ∙ ap (λ y. y ∷ drop (suc i) xs) (sym is)) in
-    ap (map view) left
 
 module _ {X : Type 0} (c : X → X → Ordering) (f : PlainArc → Outcome (List X)) (arcs : List PlaceArc) (i : ℕ) (arc : PlaceArc) (front : List X) (whole : Outcome (List X)) where
   -- with what the next arc gives, the others give the whole

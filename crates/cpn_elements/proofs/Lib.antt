@@ -1,2 +1,2 @@
-pub mod GatheredTerms
-pub mod ItemsLeft
+mod GatheredTerms
+mod ItemsLeft

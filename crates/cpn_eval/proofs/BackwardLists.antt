@@ -8,10 +8,11 @@ use Rattle.std.proofs.lemmas.Bool.Decides.{nat_tests}
 use Rattle.cpn_definitions.specs.Value.{PlainValue, PlainValues, unit, boolean, int, constant, text, tuple, bare, applied, list, more, nodes_of, to_list, from_list}
 use Rattle.cpn_definitions.specs.Outcome.{gives, faults, empty_list, too_large}
 use Rattle.cpn_definitions.specs.Operations.{most_nodes, items_in, consed}
+use Rattle.cpn_definitions.proofs.ValueRows.{to_list_from_list, from_list_to_list}
 use Rattle.cpn_core.specs.declared.values.Value.{Value}
 use Rattle.cpn_core.specs.Views.{value_view, values_view}
 use Rattle.cpn_eval.specs.Operands.{head_of, length_of}
-use Rattle.cpn_eval.proofs.ValueLists.{to_list_from_list, from_list_to_list, map_reverse}
+use Rattle.cpn_eval.proofs.ValueLists.{map_reverse}
 
 -- items that stand for the same stand for the same backwards
 pub same_backwards : (xs ys : List Value) → values_view xs ≡ values_view ys → values_view (reverse xs) ≡ values_view (reverse ys)

@@ -1,35 +1,17 @@
 -- Which function a call begins.
-use Rattle.std.proofs.Common.{◌≡◌, ◌≢◌, map, length, get_or, ℕ, zero, suc, ◌<◌, ◌≤◌, ◌⊎◌, inl, inr, List, Some, subst, refl, ap, ◌∙◌, sym, arith}
+use Rattle.std.proofs.Common.{◌≡◌, ◌≢◌, map, length, get_or, ℕ, ◌<◌, ◌≤◌, List, Some, subst, refl, ap, ◌∙◌, sym, arith}
 use Rattle.std.specs.List.{slice_get}
 use Rattle.std.proofs.lemmas.Bool.Decides.{nat_tests}
-use Rattle.std.proofs.Math.Nat.{eq-or-lt_of_le}
 use Rattle.std.proofs.lemmas.Option.{slice_get-map, slice_get_past, slice_get-get_or}
 use Rattle.cpn_definitions.specs.Value.{PlainValue}
 use Rattle.cpn_definitions.specs.Outcome.{no_meaning}
-use Rattle.cpn_definitions.specs.Inscription.{PlainFunction, Functions}
-use Rattle.cpn_definitions.specs.Meaning.{PlainBinding, Setting, meant, called, calls_below, setting_below}
+use Rattle.cpn_definitions.specs.Inscription.{PlainFunction}
+use Rattle.cpn_definitions.specs.Meaning.{Setting, meant, called}
+use Rattle.cpn_definitions.proofs.EarlierCalls.{called_there, not_there}
 use Rattle.cpn_core.specs.declared.inscriptions.Function.{Function}
 use Rattle.cpn_core.specs.Inscriptions.{expr_view, function_view}
 use Rattle.cpn_eval.specs.declared.frames.World.{World}
 use Rattle.cpn_eval.specs.Frames.{calls_in, setting_in, meant_at}
-
-here_or_before
-    : (funs : Functions) (b : PlainBinding) (time n k : ℕ) (args : List PlainValue)
-    → (k < n → calls_below funs b time n k args ≡ called (slice_get funs k) (setting_below funs b time k) args)
-    → (k ≡ n) ⊎ (k < n)
-    → calls_below funs b time (suc n) k args ≡ called (slice_get funs k) (setting_below funs b time k) args
-here_or_before funs b time n k args before (inl e) = grind (arith, nat_tests)
-here_or_before funs b time n k args before (inr l) = let h : calls_below funs b time n k args ≡ called (slice_get funs k) (setting_below funs b time k) args = before l in grind (arith, nat_tests)
-
--- a call of a function that is there
-pub call_there : (funs : Functions) (b : PlainBinding) (time n k : ℕ) (args : List PlainValue) → k < n → calls_below funs b time n k args ≡ called (slice_get funs k) (setting_below funs b time k) args
-call_there funs b time zero k args h = absurd (omega arith)
-call_there funs b time (suc n) k args h = here_or_before funs b time n k args (λ l. call_there funs b time n k args l) (eq-or-lt_of_le (omega arith))
-
--- a call of one that is not
-pub no_call : (funs : Functions) (b : PlainBinding) (time n k : ℕ) (args : List PlainValue) → n ≤ k → calls_below funs b time n k args ≡ no_meaning
-no_call funs b time zero k args h = refl
-no_call funs b time (suc n) k args h = let before : calls_below funs b time n k args ≡ no_meaning = no_call funs b time n k args (omega arith) in grind (arith, nat_tests)
 
 -- ---- in a world
 
@@ -37,13 +19,13 @@ abbrev functions_in : World → List Function
 functions_in w = w.funs.now.functions.items
 
 pub no_call_in : (w : World) (n k : ℕ) (args : List PlainValue) → n ≤ k → calls_in w n k args ≡ no_meaning
-no_call_in w n k args h = no_call (map function_view (functions_in w)) w.binding.now w.time n k args h
+no_call_in w n k args h = not_there (map function_view (functions_in w)) w.binding.now w.time n k args h
 
 pub no_function_in : (w : World) (n k : ℕ) (args : List PlainValue) (fs : List Function) → fs ≡ w.funs.now.functions.items → k < n → length fs ≤ k → calls_in w n k args ≡ no_meaning
 no_function_in w n k args fs same h past =
     let P : List Function → Type 0 = λ xs. length xs ≤ k in
     let beyond : length (functions_in w) ≤ k = subst P same past in
-    call_there (map function_view (functions_in w)) w.binding.now w.time n k args h ∙ rw (slice_get-map function_view (functions_in w) k, slice_get_past (functions_in w) k beyond) refl
+    called_there (map function_view (functions_in w)) w.binding.now w.time n k args h ∙ rw (slice_get-map function_view (functions_in w) k, slice_get_past (functions_in w) k beyond) refl
 
 function_in
     : (w : World) (n k : ℕ) (args : List PlainValue) (fs : List Function) (f : Function)
@@ -55,7 +37,7 @@ function_in
 function_in w n k args fs f same h there is =
     let P : List Function → Type 0 = λ xs. slice_get xs k ≡ Some f in
     let found : slice_get (functions_in w) k ≡ Some f = subst P same (slice_get-get_or fs k f there ∙ ap Some (sym is)) in
-    call_there (map function_view (functions_in w)) w.binding.now w.time n k args h ∙ rw (slice_get-map function_view (functions_in w) k, found) refl
+    called_there (map function_view (functions_in w)) w.binding.now w.time n k args h ∙ rw (slice_get-map function_view (functions_in w) k, found) refl
 
 right_count : (f : PlainFunction) (s : Setting) (args : List PlainValue) → length args ≡ f.parameters → called (Some f) s args ≡ meant f.body s args
 right_count f s args h = grind (arith, nat_tests)

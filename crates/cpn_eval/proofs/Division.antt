@@ -3,6 +3,7 @@ use Rattle.std.proofs.Common.{◌≡◌, ℕ, zero, suc, ℤ, pos, negsuc, neg_�
 use Rattle.std.specs.Int.{int_div_euclid, int_rem_euclid}
 use Rattle.std.proofs.lemmas.Int.{ints}
 use Rattle.cpn_definitions.specs.Operations.{within, divided, floor_div, floor_mod}
+use Rattle.cpn_definitions.proofs.Division.{euclid_rest}
 
 pub quotient_by_positive : (x y q : ℤ) → pos 0 <ℤ y → q ≡ int_div_euclid x y → divided floor_div x y ≡ within q
 quotient_by_positive x (pos zero) q h e = absurd (omega (arith, ints))
@@ -12,10 +13,6 @@ quotient_by_positive x (negsuc n) q h e = absurd (omega (arith, ints))
 pub quotient_by_negative : (x y q : ℤ) → y <ℤ pos 0 → q ≡ int_div_euclid (neg_ℤ x) (neg_ℤ y) → divided floor_div x y ≡ within q
 quotient_by_negative x (pos n) q h e = absurd (omega (arith, ints))
 quotient_by_negative x (negsuc n) q h e = ap within (sym e)
-
-euclid_rest : (x : ℤ) (n : ℕ) → floor_mod x (pos (suc n)) ≡ int_rem_euclid x (pos (suc n))
-euclid_rest (pos a) n = omega (arith, ints)
-euclid_rest (negsuc a) n = omega (arith, ints)
 
 turned_rest : (x : ℤ) (n : ℕ) → floor_mod x (negsuc n) ≡ neg_ℤ (int_rem_euclid (neg_ℤ x) (pos (suc n)))
 turned_rest (pos zero) n = omega (arith, ints)

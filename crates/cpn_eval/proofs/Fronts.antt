@@ -1,11 +1,11 @@
 -- What patterns bind, one after the other.
-use Rattle.std.proofs.Common.{◌≡◌, rules, Box, Global, take, ◌-◌, ℕ, zero, suc, ◌+◌, ◌<◌, ◌≤◌, min, List, [], ◌∷◌, ◌++◌, Bool, true, false, nat_eq, if◌then◌else◌, Option, Some, None, drop, length, get_or, refl, sym, ap, ◌∙◌, append_assoc, arith, add-one, drop-cons}
+use Rattle.std.proofs.Common.{◌≡◌, take, ◌-◌, ℕ, zero, suc, ◌+◌, ◌<◌, ◌≤◌, min, List, [], ◌∷◌, ◌++◌, Bool, true, false, nat_eq, if◌then◌else◌, Option, Some, None, drop, length, get_or, refl, sym, ap, ◌∙◌, append_assoc, arith, add-one, drop-cons}
 use Rattle.std.proofs.lemmas.List.{append-nil, take_all}
 use Rattle.std.proofs.lemmas.Bool.Decides.{nat_tests}
 use Rattle.cpn_definitions.specs.Value.{PlainValue, list}
 use Rattle.cpn_core.specs.declared.values.Value.{Value}
 use Rattle.cpn_core.specs.Views.{value_view, values_view}
-use Rattle.cpn_core.specs.declared.inscriptions.Pat.{Pat, the_lemmas}
+use Rattle.cpn_core.specs.declared.inscriptions.Pat.{Pat}
 use Rattle.cpn_core.specs.declared.inscriptions.Pat.TheViews as pats
 use Rattle.cpn_definitions.specs.Inscription.{PlainPattern, cons_pattern}
 use Rattle.cpn_core.specs.Inscriptions.{pattern_view, patterns_view}
@@ -103,6 +103,3 @@ pub list_misses
     → with_front before (matched (cons_pattern p q) (list (values_view vs))) ≡ None
 list_misses p q vs v before mid false h is t e = ap (with_front before) (first_and_rest p q vs v h is) ∙ front_none before _ _ e
 list_misses p q vs v before mid true h is t e = cc
-
-pub view_cons : (p q : Box Pat Global) → pattern_view (pats.Cons p q) ≡ cons_pattern (pattern_view p.value) (pattern_view q.value)
-view_cons p q = search (rules, the_lemmas)

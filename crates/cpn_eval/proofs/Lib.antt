@@ -1,16 +1,16 @@
-pub mod Division
-pub mod Fronts
-pub mod ValueLists
-pub mod Operands
-pub mod Binds
-pub mod Calling
-pub mod FirstParts
-pub mod Turns
-pub mod TermAmounts
-pub mod TokenTerms
-pub mod TokenArms
-pub mod KeptTerms
-pub mod SumTerms
-pub mod BackwardLists
-pub mod SpareLocals
-pub mod LeafOperands
+mod Division
+mod Fronts
+mod ValueLists
+mod Operands
+mod Binds
+mod Calling
+mod FirstParts
+mod Turns
+mod TermAmounts
+mod TokenTerms
+mod TokenArms
+mod KeptTerms
+mod SumTerms
+mod BackwardLists
+mod SpareLocals
+mod LeafOperands

@@ -1,7 +1,6 @@
 -- Coefficients and delays, as the integers that they are.
 use Rattle.std.proofs.Common.{◌≡◌, ℕ, ◌+◌, ◌-◌, ◌≤◌, ◌<◌, ◌^◌, min, Bool, true, false, cond, List, [], ◌∷◌, ◌++◌, length, drop, map, refl, sym, ap, arith, append_assoc, drop_of_length-le}
 use Rattle.std.specs.List.{list_all}
-use Rattle.std.proofs.lemmas.List.{append-nil}
 use Rattle.std.proofs.lemmas.Bool.Decides.{nat_tests}
 use Rattle.cpn_definitions.specs.Value.{PlainValue, unit, boolean, int, constant, text, tuple, bare, applied, list}
 use Rattle.cpn_definitions.specs.Outcome.{Outcome, gives, faults, ◌>>=◌, bad_delay}
@@ -56,13 +55,3 @@ delayed_next n t ts done h =
     split : (b : Bool) → behind done (cond b (gives (delayed_by n t ∷ map (delayed_by n) ts)) (faults bad_delay)) ≡ behind (done ++ delayed_by n t ∷ []) (cond b (gives (map (delayed_by n) ts)) (faults bad_delay))
     split true = ap gives (sym (append_assoc done (delayed_by n t ∷ []) (map (delayed_by n) ts)))
     split false = refl
-
--- the next term may not have it
-pub delayed_past : (n : ℕ) (t : PlainTerm) (ts done : List PlainTerm) → last_time < t.delay + n → behind done (all_delayed (t ∷ ts) n) ≡ faults bad_delay
-delayed_past n t ts done h =
-    let may : may_be_delayed n t ≡ false = grind (arith, nat_tests) in
-    rw may refl
-
--- no term is left
-pub delayed_all : (n : ℕ) (ts : List PlainTerm) (done : List PlainTerm) → ts ≡ [] → behind done (all_delayed ts n) ≡ gives done
-delayed_all n ts done h = rw (h, append-nil) refl

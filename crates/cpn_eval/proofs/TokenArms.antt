@@ -9,7 +9,7 @@ use Rattle.cpn_core.specs.declared.inscriptions.MArm.{MArm}
 use Rattle.cpn_core.specs.Inscriptions.{pattern_view, multiset_view}
 use Rattle.cpn_eval.specs.Answers.{with_front}
 use Rattle.cpn_eval.specs.Arms.{among}
-use Rattle.cpn_levels.proofs.InscriptionLevels.{tokens_arm}
+use Rattle.cpn_core.proofs.InscriptionLevels.{tokens_arm}
 use Rattle.cpn_eval.proofs.Turns.{arm_found, arm_missed}
 
 -- the arms from an index on give what the one there gives, or those after it

@@ -1,6 +1,6 @@
 -- What a turn of the machine leaves as it is.
 use Rattle.std.proofs.Common.{◌≡◌, Bool, true, false, cond, if◌then◌else◌, ℕ, suc, ◌+◌, ◌<◌, get_or, drop, drop-cons, add-one, map, subst, Result, List, [], ◌∷◌, ◌++◌, length, take, Option, Some, None, refl, sym, ap, ◌∙◌, append_assoc}
-use Rattle.std.proofs.lemmas.List.{append-nil, map-append, length-map, take-map}
+use Rattle.std.proofs.lemmas.List.{map-append, length-map, take-map}
 use Rattle.std.proofs.Math.Seq.{take-append_seam}
 use Rattle.cpn_definitions.specs.Value.{PlainValue, boolean, applied}
 use Rattle.cpn_definitions.specs.Outcome.{Outcome, gives, faults, no_meaning, ◌>>=◌}
@@ -26,7 +26,7 @@ use Rattle.cpn_eval.specs.declared.refusals.NoValue.{NoValue}
 use Rattle.cpn_eval.specs.declared.refusals.NoValue.TheVariants as reasons
 use Rattle.cpn_eval.specs.Answers.{with_front, Stops}
 use Rattle.cpn_eval.specs.Frames.{PlainFrame, parts, argument, also, otherwise, branches, body_of, arms, forget, start, steps, back, State, at, given_at, setting_in, calls_in, meant_at, rest_of, folded, chosen_by, one, through, frame_view, to, locals_of, frames_of, after_value, after_outcome, after_frame, after_waiting, Goes, Ended}
-use Rattle.cpn_levels.proofs.InscriptionLevels.{view_arm}
+use Rattle.cpn_core.proofs.InscriptionLevels.{view_arm}
 use Rattle.cpn_eval.proofs.Binds.{bind_assoc, bind_gives, bind_ext}
 
 -- the last frame is the first to get the value
@@ -45,10 +45,6 @@ put_back n ls k o = bind_assoc o (given_at n ls) k
 -- a part of an expression, and then the rest of it
 pub then_rest : (n : ℕ) (ls : List PlainValue) (k : State → Outcome State) (o : Outcome PlainValue) (f : PlainValue → Outcome PlainValue) → (o >>= (λ v. (f v >>= given_at n ls) >>= k)) ≡ ((o >>= f) >>= (λ v. k (at n ls v)))
 then_rest n ls k o f = bind_ext o _ _ (λ v. put_back n ls k (f v)) ∙ sym (bind_assoc o f (λ v. k (at n ls v)))
-
--- no part is left
-pub rest_none : (w : World) (n : ℕ) (ls : List PlainValue) (head : Head) (done : List PlainValue) → rest_of w n ls head done no_exprs ≡ done_with head (calls_in w n) done
-rest_none w n ls head done = rw append-nil refl
 
 -- the first part that is left, and then the others
 pub rest_more : (w : World) (n : ℕ) (ls : List PlainValue) (head : Head) (done : List PlainValue) (e : PlainExpr) (es : PlainExprs) → rest_of w n ls head done (more_exprs e es) ≡ (meant_at w n ls e >>= (λ v. rest_of w n ls head (done ++ v ∷ []) es))
@@ -313,19 +309,6 @@ pub selected_goes
     → meant_among cases v (setting_in w m.visible) (locals_of m) ≡ meant_at w m.visible (locals_of m ++ found) body
     → after_outcome w m (meant_at w m.visible (locals_of m ++ found) body) ≡ after_waiting w m (arms cases) (meant_at w m.visible (locals_of m) subject)
 selected_goes w m subject body cases v found h chosen = ap (after_outcome w m) (sym chosen) ∙ selected w m subject cases v h
-
-pub stops_then : {A B : Type 0} (reason : NoValue) (o : Outcome A) (f : A → Outcome B) → Stops reason o → Stops reason (o >>= f)
-stops_then reasons.Memory o f h = tt
-stops_then reasons.Untyped o f h = rw h refl
-stops_then (reasons.Fault g) o f h = rw h refl
-
-pub selected_stops
-    : (w : World) (m : Machine) (subject : PlainExpr) (cases : PlainArms) (v : PlainValue) (reason : NoValue)
-    → meant_at w m.visible (locals_of m) subject ≡ gives v
-    → Stops reason (meant_among cases v (setting_in w m.visible) (locals_of m))
-    → Stops reason (after_waiting w m (arms cases) (meant_at w m.visible (locals_of m) subject))
-selected_stops w m subject cases v reason h stopped =
-    stops_same reason _ _ (selected w m subject cases v h) (stops_then reason (meant_among cases v (setting_in w m.visible) (locals_of m)) (after_value w m) stopped)
 
 -- ---- expressions that are begun
 

@@ -1,25 +1,18 @@
 -- Lists of values, and rows of values.
-use Rattle.std.proofs.Common.{◌≡◌, ℤ, Bool, ◌<◌, ◌⊎◌, inl, inr, zero, suc, ◌++◌, length, get_or, reverse, sym, ◌∙◌, arith, rules, ℕ, Some, Box, Vec, Global, List, [], ◌∷◌, map, refl, ap}
+use Rattle.std.proofs.Common.{◌≡◌, ℤ, Bool, ◌<◌, ◌⊎◌, inl, inr, zero, suc, ◌++◌, length, get_or, reverse, sym, ◌∙◌, arith, rules, ℕ, Some, Vec, Global, List, [], ◌∷◌, map, refl, ap}
 use Rattle.std.specs.List.{slice_get}
 use Rattle.std.proofs.lemmas.List.{map-append}
 use Rattle.std.proofs.lemmas.Grind.{reverse_onto}
 use Rattle.std.proofs.lemmas.Option.{slice_get-map, slice_get_past, slice_get-get_or}
-use Rattle.cpn_definitions.specs.Value.{PlainValue, PlainValues, boolean, int, none, more, tuple, list, applied, to_list, from_list}
+use Rattle.cpn_definitions.specs.Value.{PlainValue, boolean, int, tuple, list, from_list}
 use Rattle.cpn_definitions.specs.Outcome.{gives, no_meaning}
 use Rattle.cpn_definitions.specs.Operations.{items_in, components_in}
+use Rattle.cpn_definitions.proofs.ValueRows.{to_list_from_list}
 use Rattle.cpn_core.specs.declared.values.Value.{Value, the_lemmas}
 use Rattle.cpn_core.specs.declared.values.Value.TheViews as values
 use Rattle.cpn_core.specs.declared.values.Value.TheVariants as variants
 use Rattle.cpn_core.specs.Views.{value_view}
 use Rattle.cpn_eval.specs.Operands.{reversed, component_of}
-
-pub to_list_from_list : (vs : List PlainValue) → to_list (from_list vs) ≡ vs
-to_list_from_list [] = refl
-to_list_from_list (v ∷ vs) = ap (λ ws. v ∷ ws) (to_list_from_list vs)
-
-pub from_list_to_list : (vs : PlainValues) → from_list (to_list vs) ≡ vs
-from_list_to_list none = refl
-from_list_to_list (more v vs) = ap (λ ws. more v ws) (from_list_to_list vs)
 
 -- a list and a tuple are seen as those of what their items are seen as
 pub view_list : (vs : Vec Value Global) → value_view (values.List vs) ≡ list (from_list (map value_view vs.items))
@@ -40,10 +33,6 @@ view_integer z = search (rules, the_lemmas)
 
 pub view_boolean : (b : Bool) → value_view (variants.Bool b) ≡ boolean b
 view_boolean b = search (rules, the_lemmas)
-
--- a constructor with its argument
-pub view_applied : (k : ℕ) (b : Box Value Global) → value_view (values.Con k (Some b)) ≡ applied k (value_view b.value)
-view_applied k b = search (rules, the_lemmas)
 
 -- ---- what operations make of them
 

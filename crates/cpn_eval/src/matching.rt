@@ -116,7 +116,7 @@ fn is_bare(position: u32, value: &Value) -> bool
 
 /// Whether the value is the constructor of that position, with an argument that fits.
 #[cycle(matching)]
-#[tactic(auto, using(crate::proofs::ValueLists::view_applied))]
+#[tactic(auto, using(cpn_core::proofs::ValueLevels::view_con_some))]
 fn argument_matches(
     position: u32,
     pattern: &Pat,

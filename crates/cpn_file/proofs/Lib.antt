@@ -1,2 +1,2 @@
-pub mod LoadedDocuments
-pub mod ReadBytes
+mod LoadedDocuments
+mod ReadBytes

@@ -1,19 +1,10 @@
 -- Tokens are known by their groups, and lists of groups by the groups at each position.
 use Rattle.std.proofs.Common.{◌≡◌, ℕ, ◌+◌, ◌<◌, Bool, true, false, cond, ◌==◌, List, [], ◌∷◌, ◌++◌, length, get_or, map, replicate, refl, sym, ap, ap₂, ◌∙◌, add-one, eq-eqb, ◌↔◌, IsTrue}
-use Rattle.std.proofs.lemmas.Bool.{and_parts, and_from, eqb-true}
+use Rattle.std.proofs.lemmas.Bool.{eqb-true}
 use Rattle.std.proofs.lemmas.List.{get_or-map}
-use Rattle.cpn_definitions.specs.Order.{same_value}
 use Rattle.cpn_definitions.specs.Marking.{PlainToken, Tokens}
-use Rattle.cpn_definitions.specs.ValueOrder.{same_value_true, same_value_refl}
 use Rattle.cpn_tmset.specs.Listed.{Group, same_token, grouped_with, groups}
-
-equal_tokens : (t u : PlainToken) → same_token t u ≡ true → t ≡ u
-equal_tokens t u e =
-    let parts = and_parts (same_value t.value u.value) (t.stamp == u.stamp) e in
-    ap₂ (λ v s. record { value = v; stamp = s }) (same_value_true t.value u.value parts.0) (eqb-true t.stamp u.stamp parts.1)
-
-same_itself : (t : PlainToken) → same_token t t ≡ true
-same_itself t = and_from (same_value t.value t.value) (t.stamp == t.stamp) (same_value_refl t.value) (eq-eqb t.stamp t.stamp refl)
+use Rattle.cpn_tmset.proofs.CountedTokens.{equal_tokens, same_itself}
 
 -- ---- two groups
 

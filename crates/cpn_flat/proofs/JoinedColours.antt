@@ -5,8 +5,7 @@ use Rattle.std.proofs.lemmas.List.{get_or-map}
 use Rattle.std.proofs.lemmas.List.Elements.{All-get_or, All-contains}
 use Rattle.cpn_definitions.specs.Colour.{PlainColour}
 use Rattle.cpn_definitions.specs.Net.{Coloured, nothing}
-use Rattle.cpn_definitions.proofs.RisingLists.{IsIn, in_from_contains, contains_from_in, in_append_cases, in_map_from}
-use Rattle.cpn_typing.proofs.LeastBindable.{in_flat}
+use Rattle.cpn_definitions.proofs.RisingLists.{IsIn, in_from_contains, contains_from_in, in_append_cases, in_map_from, in_flat_from}
 use Rattle.cpn_classes.specs.Joined.{IsJoined, paired, itself, turned, through}
 use Rattle.cpn_classes.specs.Numbering.{Numbering, number_of, first_of}
 use Rattle.cpn_module.specs.Hierarchy.{PlainAssignment, PlainSubstitution, PlainMember, no_structure, no_substitution, places_in, structure_at, substitution_at}
@@ -131,7 +130,7 @@ module _ (accepted : PlainAccepted) (well : IsWellAccepted accepted) (is : List 
   fused_colour : (members : List PlainMember) → Contains accepted.hierarchy.fusions members → (a : ℕ) → IsIn a (fused accepted.hierarchy is members)
       → (member : PlainMember) × Contains members member × (colour_here a ≡ colour_of_place accepted member.of_module member.place)
   fused_colour members in_fusions a h =
-      let one = in_flat (instances_of accepted.hierarchy is) members a h in
+      let one = in_flat_from (instances_of accepted.hierarchy is) members a h in
       let member : PlainMember = one.0 in
       let contained : Contains members member = contains_from_in members member one.1 in
       let there : IsMember accepted.hierarchy member = All-contains (IsMember accepted.hierarchy) members member (All-contains (λ ms. (k : ℕ) (d : PlainMember) → k < length ms → IsMember accepted.hierarchy (slice_index_or ms k d)) accepted.hierarchy.fusions members well.numbers.fusions in_fusions) contained in
@@ -144,7 +143,7 @@ module _ (accepted : PlainAccepted) (well : IsWellAccepted accepted) (is : List 
       first.2 ∙ well.agree.members members in_fusions first.0 second.0 first.1 second.1 ∙ sym second.2
 
   fusions_alike : (a b : ℕ) → IsIn (a, b) (fusion_pairs accepted.hierarchy is) → colour_here a ≡ colour_here b
-  fusions_alike a b h = of_fusion (in_flat (λ members. each_with_each (fused accepted.hierarchy is members)) accepted.hierarchy.fusions (a, b) h)
+  fusions_alike a b h = of_fusion (in_flat_from (λ members. each_with_each (fused accepted.hierarchy is members)) accepted.hierarchy.fusions (a, b) h)
     where
       of_second : (all : List ℕ) (x : ℕ) → ((y : ℕ) → IsIn y all → colour_here x ≡ colour_here y) → (y : ℕ) × IsIn y all × (◌≡◌ {A = ℕ × ℕ} (x, y) (a, b)) → colour_here a ≡ colour_here b
       of_second all x alike second = ap (λ (p : ℕ × ℕ). colour_here p.0) (sym second.2) ∙ alike second.0 second.1 ∙ ap (λ (p : ℕ × ℕ). colour_here p.1) second.2
@@ -155,7 +154,7 @@ module _ (accepted : PlainAccepted) (well : IsWellAccepted accepted) (is : List 
       of_fusion : (members : List PlainMember) × IsIn members accepted.hierarchy.fusions × IsIn {X = ℕ × ℕ} (a, b) (each_with_each (fused accepted.hierarchy is members)) → colour_here a ≡ colour_here b
       of_fusion fusion =
           of_first (fused accepted.hierarchy is fusion.0) (members_alike fusion.0 (contains_from_in accepted.hierarchy.fusions fusion.0 fusion.1))
-          (in_flat (λ (x : ℕ). map (λ (y : ℕ). (x, y)) (fused accepted.hierarchy is fusion.0)) (fused accepted.hierarchy is fusion.0) (a, b) fusion.2)
+          (in_flat_from (λ (x : ℕ). map (λ (y : ℕ). (x, y)) (fused accepted.hierarchy is fusion.0)) (fused accepted.hierarchy is fusion.0) (a, b) fusion.2)
 
   -- ---- joined place instances
 

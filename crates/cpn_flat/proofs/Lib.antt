@@ -1,23 +1,23 @@
-pub mod TakenItems
-pub mod InstanceLists
-pub mod InstanceNames
-pub mod WrittenLists
-pub mod AllItems
-pub mod InstanceItems
-pub mod OneFlatNet
-pub mod InstanceLookups
-pub mod PlaceLookups
-pub mod PlacedInstances
-pub mod JoinedColours
-pub mod SoundFlatNets
-pub mod ItemsThere
-pub mod NamedFlatNets
-pub mod FlatMeanings
-pub mod FlatConditions
-pub mod NetPlaces
-pub mod AddedTokens
-pub mod EqualGroups
-pub mod SharedTokens
-pub mod SharedMarkings
-pub mod StartedMarkings
-pub mod StartedWell
+mod TakenItems
+mod InstanceLists
+mod InstanceNames
+mod WrittenLists
+mod AllItems
+mod InstanceItems
+mod OneFlatNet
+mod InstanceLookups
+mod PlaceLookups
+mod PlacedInstances
+mod JoinedColours
+mod SoundFlatNets
+mod ItemsThere
+mod NamedFlatNets
+mod FlatMeanings
+mod FlatConditions
+mod NetPlaces
+mod AddedTokens
+mod EqualGroups
+mod SharedTokens
+mod SharedMarkings
+mod StartedMarkings
+mod StartedWell

@@ -1,8 +1,8 @@
 -- The marking in which the members of compound places share tokens, place by place.
-use Rattle.std.proofs.Common.{◌≡◌, ℕ, ◌+◌, ◌<◌, ◌≤◌, List, [], length, map, take, get_or, set, replicate, sym, ap, ◌∙◌, arith, add-one, subst}
+use Rattle.std.proofs.Common.{◌≡◌, ℕ, ◌+◌, ◌<◌, ◌≤◌, List, [], length, map, take, get_or, set, sym, ap, ◌∙◌, arith, add-one, subst}
 use Rattle.std.specs.Prelude.{Vec, Option, Some, None}
 use Rattle.std.specs.declared.alloc.Global.{Global}
-use Rattle.std.proofs.lemmas.List.{get_or-set_other, get_or-replicate, length-set, length-replicate, take_all}
+use Rattle.std.proofs.lemmas.List.{get_or-set_other, length-set, take_all}
 use Rattle.std.proofs.Math.Seq.{take-suc-set}
 use Rattle.cpn_definitions.specs.Marking.{Tokens, Marking}
 use Rattle.cpn_definitions.specs.Net.{PlainNet, Coloured, place_at}
@@ -45,12 +45,6 @@ pub record AreShared (n : PlainNet) (values : List Values) (i : ℕ) (m : Markin
   pub reads : AreRead (Shares n) 0 (map seen (take i values)) (take i m)
 
 module _ (n : PlainNet) (values : List Values) where
-  pub shared_first : (m : Marking) → m ≡ replicate (length values) [] → AreShared n values 0 m
-  shared_first m is = record {
-    long = ap length is ∙ length-replicate (length values) [];
-    rest = λ k low lt. ap (λ (ts : Marking). get_or ts k []) is ∙ get_or-replicate (length values) k [] [] lt;
-    reads = tt;
-  }
 
   module _ (i : ℕ) (v : Values) (lt : i < length values) (at : v ≡ get_or values i v) (m : Marking) (so_far : AreShared n values i m) where
     pub shared_more : (new : Marking) (ts : Tokens) → new ≡ set m i ts → Shares n i (seen v) (read ts) → AreShared n values (i + 1) new

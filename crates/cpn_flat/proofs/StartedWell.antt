@@ -2,13 +2,12 @@
 use Rattle.std.proofs.Common.{◌≡◌, ◌||◌, ◌==◌, ℕ, zero, suc, ◌+◌, ◌<◌, ◌≤◌, Bool, true, false, nat_le, if◌then◌else◌, List, [], ◌∷◌, length, replicate, slice_index_or, refl, sym, ap, ◌∙◌, subst, arith, leb-true}
 use Rattle.std.specs.Prelude.{Some}
 use Rattle.std.specs.List.{list_all, flat_map, AllByRecursion}
-use Rattle.std.specs.declared.cmp.Ordering.{Ordering}
 use Rattle.std.proofs.lemmas.Bool.{and_parts, and_from}
 use Rattle.std.proofs.lemmas.Bool.Decides.{nat_tests}
 use Rattle.cpn_definitions.specs.Bounds.{last_stamp, IsBounded}
 use Rattle.cpn_definitions.specs.Colour.{PlainColour, admits}
 use Rattle.cpn_definitions.specs.Inscription.{Functions}
-use Rattle.cpn_definitions.specs.Lists.{IsInOrder, with_item, with_items}
+use Rattle.cpn_definitions.specs.Lists.{IsInOrder}
 use Rattle.cpn_definitions.specs.Marking.{PlainToken, Tokens, Marking, tokens_at, AreSorted, token_cmp}
 use Rattle.cpn_definitions.specs.Meaning.{setting_of}
 use Rattle.cpn_definitions.specs.Net.{Coloured, PlainNet, nothing, place_at}
@@ -19,7 +18,7 @@ use Rattle.cpn_definitions.specs.Terms as counts
 use Rattle.cpn_definitions.specs.Times.{last_time}
 use Rattle.cpn_definitions.specs.ValueOrder.{token_cmp_total}
 use Rattle.cpn_definitions.proofs.DelayBounds.{AreInRange, delays_in_range}
-use Rattle.cpn_definitions.proofs.OrderedLists.{all_with_item, in_order_is}
+use Rattle.cpn_definitions.proofs.OrderedLists.{in_order_is, each_with_items}
 use Rattle.cpn_definitions.proofs.PlaceCounts.{length-in_order, length-of_terms}
 use Rattle.cpn_definitions.proofs.PlaceStamps.{all_append, all_replicate, all_with_items}
 use Rattle.cpn_definitions.proofs.RisingLists.{each_flat}
@@ -43,10 +42,6 @@ order_sorted : (ks : Tokens) → IsInOrder token_cmp ks → AreSorted ks
 order_sorted [] h = tt
 order_sorted (k ∷ []) h = (tt, tt)
 order_sorted (k ∷ l ∷ ls) h = (h.0.0, order_sorted (l ∷ ls) h.1)
-
-items_all : {X : Type 0} (c : X → X → Ordering) (P : X → Type 0) (xs ys : List X) → AllByRecursion P xs → AllByRecursion P ys → AllByRecursion P (with_items c xs ys)
-items_all c P [] ys h all = all
-items_all c P (x ∷ xs) ys h all = items_all c P xs (with_item c x ys) h.1 (all_with_item c P x ys h.0 all)
 
 all_equal : {X : Type 0} (P : X → Type 0) (k : ℕ) (x : X) → P x → AllByRecursion P (replicate k x)
 all_equal P zero x h = tt
@@ -104,7 +99,7 @@ module _ (colour : PlainColour) where
       let flat = length-of_terms (λ (term : PlainTerm). token_of colour.timed term) terms in
       record {
         sorted = order_sorted (tokens_of colour.timed terms) (in_order_is token_cmp token_cmp_total tokens);
-        held = passes_all (may_hold colour) (tokens_of colour.timed terms) (items_all token_cmp IsHeld tokens [] (each_flat IsHeld (λ (term : PlainTerm). replicate term.count (token_of colour.timed term)) terms (terms_held terms are)) tt);
+        held = passes_all (may_hold colour) (tokens_of colour.timed terms) (each_with_items token_cmp IsHeld tokens [] (each_flat IsHeld (λ (term : PlainTerm). replicate term.count (token_of colour.timed term)) terms (terms_held terms are)) tt);
         few = omega (arith, many, flat, few);
         stamped = all_with_items token_cmp is_stamped tokens [] (terms_stamped terms in_range) refl;
       }

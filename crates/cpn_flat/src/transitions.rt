@@ -1,9 +1,8 @@
 //! The transitions of the flat net.
 
-ghost use Rattle.std.specs.Prelude.{◌≡◌, ◌+◌, ◌++◌, ◌<◌, ◌^◌, map, option_map, length, string_bytes, slice_index, IfOk};
+ghost use Rattle.std.specs.Prelude.{◌≡◌, ◌+◌, ◌++◌, ◌<◌, ◌^◌, map, length, string_bytes, slice_index, IfOk};
 ghost use Rattle.std.specs.List.{AllByRecursion};
-ghost use Rattle.cpn_core.specs.Inscriptions.{expr_view};
-ghost use Rattle.cpn_core.specs.Nets.{arc_view, arcs_view, transition_view};
+ghost use Rattle.cpn_core.specs.Nets.{arc_view, arcs_view, delay_view, transition_view};
 ghost use Rattle.cpn_fuse.specs.Answers.{AreFirstPlaces};
 ghost use Rattle.cpn_fuse.specs.Views.{instances_view};
 ghost use Rattle.cpn_module.specs.Views.{hierarchy_view};
@@ -14,21 +13,21 @@ ghost use Rattle.cpn_flat.specs.Items.{AreAtItems, HasItems, HaveItems};
 
 use crate::names::{joined, name_of};
 use cpn_classes::Classes;
-use cpn_copies::{copy_arc_expr, copy_expr, copy_guard};
 use cpn_core::{Expr, Memory, PlaceArc, Transition};
 use cpn_fuse::Instance;
 use cpn_module::Hierarchy;
 use cpn_module_nets::ModuleNet;
 use std::alloc::Global;
+use std::sync::Arc;
 
-/// An arc of an instance, at the compound place of its place.
+/// An arc of an instance, at the compound place of its place. It shares the inscription of the module's arc.
 fn flat_arc(classes: &Classes, first: u32, arc: &PlaceArc) -> Result<PlaceArc, Memory>
     requires item { first + arc.now.place < length classes.now.numbers }
     requires small { length classes.now.numbers < 2 ^ 32 }
     ensures made { IfOk result (λ made. arc_view made ≡ arc_in classes.now first (arc_view arc.now)) }
 {
-    let inscription = copy_arc_expr(&arc.inscription)?;
     let place = classes.number(first + arc.place);
+    let inscription = arc.inscription.clone()?;
     Ok(PlaceArc { place, inscription })
 }
 
@@ -50,17 +49,17 @@ fn flat_arcs(
     Ok(made)
 }
 
-/// A copy of a delay, where there is one.
-fn copied_delay(delay: &Option<Expr>) -> Result<Option<Expr>, Memory>
-    ensures same { IfOk result (λ copied. option_map expr_view copied ≡ option_map expr_view delay.now) }
+/// A delay that is shared, where there is one.
+fn shared_delay(delay: &Option<Arc<Expr>>) -> Result<Option<Arc<Expr>>, Memory>
+    ensures same { IfOk result (λ shared. delay_view shared ≡ delay_view delay.now) }
 {
     match delay {
-        Some(delay) => Ok(Some(copy_expr(delay)?)),
+        Some(delay) => Ok(Some(delay.clone()?)),
         None => Ok(None),
     }
 }
 
-/// A transition of an instance of the name.
+/// A transition of an instance of the name. It shares the inscriptions of the module's transition.
 fn flat_transition(
     alloc: Global,
     classes: &Classes,
@@ -73,8 +72,8 @@ fn flat_transition(
     ensures made { IfOk result (λ made. transition_view made ≡ transition_in classes.now whole.now first (transition_view transition.now)) }
 {
     let name = joined(alloc, whole, transition.name.as_str())?;
-    let guard = copy_guard(&transition.guard)?;
-    let delay = copied_delay(&transition.delay)?;
+    let guard = transition.guard.clone()?;
+    let delay = shared_delay(&transition.delay)?;
     let inputs = flat_arcs(alloc, classes, first, transition.inputs.as_slice())?;
     let outputs = flat_arcs(alloc, classes, first, transition.outputs.as_slice())?;
     let vars = transition.vars.clone()?;

@@ -1,19 +1,16 @@
 -- Values of a `let` around its body, the last one first.
-use Rattle.std.proofs.Common.{◌≡◌, List, [], ◌∷◌, ◌++◌, length, map, refl, sym, ap, ◌∙◌, arith, rules, Box, Global}
+use Rattle.std.proofs.Common.{◌≡◌, List, [], ◌∷◌, ◌++◌, length, map, refl, sym, ap, ◌∙◌, arith, Box, Global}
 use Rattle.cpn_definitions.specs.Inscription.{PlainExpr, bind}
+use Rattle.cpn_definitions.proofs.ListItems.{map_more}
 use Rattle.cpn_core.specs.Inscriptions.{expr_view}
 use Rattle.cpn_core.specs.declared.inscriptions.Expr.{Expr}
 use Rattle.cpn_core.specs.declared.inscriptions.Expr.TheVariants as exprs
-use Rattle.cpn_levels.proofs.InscriptionLevels.{view_let}
+use Rattle.cpn_core.proofs.InscriptionLevels.{view_let}
 use Rattle.cpn_typing.specs.Types.{PlainTy}
 use Rattle.cpn_typing.specs.Names.{Checked, ok}
 use Rattle.cpn_typing.specs.Rules.{Typed}
 use Rattle.cpn_typing.specs.Bindings.{bind_all}
 use Rattle.cpn_typing.proofs.Bindings.{bind_more}
-
-map_more : {A B : Type 0} (f : A → B) (xs : List A) (x : A) → map f (xs ++ x ∷ []) ≡ map f xs ++ f x ∷ []
-map_more f [] x = refl
-map_more f (y ∷ xs) x = ap (λ ys. f y ∷ ys) (map_more f xs x)
 
 -- the last of the values around what has been made
 pub bind_last : (es rest : List Expr) (v e : Expr) (a b : Box Expr Global) (all : PlainExpr) → es ≡ rest ++ v ∷ [] → a.value ≡ v → b.value ≡ e

@@ -1,7 +1,7 @@
-pub mod Bindings
-pub mod Heads
-pub mod Innermost
-pub mod NamesAlone
-pub mod PartTypes
-pub mod PatternFronts
-pub mod TreeLevels
+mod Bindings
+mod Heads
+mod Innermost
+mod NamesAlone
+mod PartTypes
+mod PatternFronts
+mod TreeLevels

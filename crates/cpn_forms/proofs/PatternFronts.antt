@@ -1,5 +1,5 @@
 -- Patterns that are checked already, in front of what the rules say of the rest; and the arguments of a constructor.
-use Rattle.std.proofs.Common.{◌≡◌, ℕ, zero, suc, ◌+◌, ◌<◌, ◌≤◌, min, Bool, true, false, nat_eq, drop_of_length-le, List, [], ◌∷◌, ◌++◌, length, get_or, drop, map, refl, sym, ap, ◌∙◌, arith, rules, add-one, drop-cons, Box, Vec, String, Global, string_bytes, Option, Some, None}
+use Rattle.std.proofs.Common.{◌≡◌, ℕ, zero, suc, ◌+◌, ◌<◌, ◌≤◌, min, true, false, nat_eq, drop_of_length-le, List, [], ◌∷◌, ◌++◌, length, get_or, drop, map, refl, sym, ap, ◌∙◌, arith, rules, add-one, drop-cons, Box, Vec, String, Global, string_bytes, Some}
 use Rattle.cpn_trees.specs.Trees.{pat, pat_call, pats_from}
 use Rattle.cpn_trees.specs.declared.patterns.PatForm as tree_forms
 use Rattle.cpn_trees.specs.declared.patterns.PatForm.TheVariants as forms
@@ -7,11 +7,12 @@ use Rattle.cpn_trees.specs.PatViews.{pat_view}
 use Rattle.cpn_trees.specs.declared.patterns.Pat.{Pat}
 use Rattle.cpn_trees.specs.declared.patterns.Pat as trees
 use Rattle.cpn_definitions.specs.Inscription.{PlainPattern, applied_pattern, PlainPatterns, no_patterns, more_patterns, patterns_from}
+use Rattle.cpn_definitions.proofs.ListItems.{map_more}
 use Rattle.cpn_core.specs.Inscriptions.{pattern_view}
 use Rattle.cpn_core.specs.declared.inscriptions.Pat as core
 use Rattle.cpn_core.specs.declared.inscriptions.Pat.TheVariants as pats
-use Rattle.cpn_typing.specs.Types.{PlainTy, PlainTys}
-use Rattle.cpn_typing.specs.Names.{Scope, found, Refusal, Checked, ok, refused, mismatch, ◌>>=◌}
+use Rattle.cpn_typing.specs.Types.{PlainTy}
+use Rattle.cpn_typing.specs.Names.{Scope, found, Checked, ok, refused, mismatch, ◌>>=◌}
 use Rattle.cpn_typing.specs.PatternRules.{Around, BoundPattern, BoundPatterns, bound_by, bound_by_parts, bound_by_items, tuple_rule, first_at, takes, constructor_named, applied_rule}
 use Rattle.cpn_forms.specs.ScopeViews.{scope_view}
 use Rattle.cpn_declared.specs.TypeViews.{ty_view, tys_view}
@@ -91,10 +92,6 @@ patterns_more (x ∷ xs) p rest = ap (more_patterns x) (patterns_more xs p rest)
 in_front : (xs : List PlainPattern) (p : PlainPattern) (c : Checked BoundPatterns) → before_patterns (xs ++ p ∷ []) c ≡ before_patterns xs (c >>= λ rest. ok (record { patterns = more_patterns p rest.patterns; locals = rest.locals }))
 in_front xs p (ok b) = rw (patterns_more xs p b.patterns) refl
 in_front xs p (refused r) = refl
-
-map_more : {A B : Type 0} (f : A → B) (xs : List A) (x : A) → map f (xs ++ x ∷ []) ≡ map f xs ++ f x ∷ []
-map_more f [] x = refl
-map_more f (y ∷ xs) x = ap (λ ys. f y ∷ ys) (map_more f xs x)
 
 patterns_all : (xs : List PlainPattern) → patterns_before xs no_patterns ≡ patterns_from xs
 patterns_all [] = refl

@@ -1,12 +1,12 @@
-pub mod ComingFirst
-pub mod InstanceLaws
-pub mod SeenHierarchies
-pub mod WaitingParts
-pub mod PlaceCounts
-pub mod PlaceLaws
-pub mod Members
-pub mod JoinedPlaces
-pub mod FewerPairs
-pub mod LoopSteps
-pub mod SeenPlaces
-pub mod Rows
+mod ComingFirst
+mod InstanceLaws
+mod SeenHierarchies
+mod WaitingParts
+mod PlaceCounts
+mod PlaceLaws
+mod Members
+mod JoinedPlaces
+mod FewerPairs
+mod LoopSteps
+mod SeenPlaces
+mod Rows

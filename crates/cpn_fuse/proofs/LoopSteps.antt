@@ -1,19 +1,13 @@
 -- Loops, step by step: pairs that are pushed one after another, marks, picked instances.
 use Rattle.std.proofs.Common.{◌≡◌, ℕ, ◌+◌, ◌<◌, ◌≤◌, Bool, true, false, List, [], ◌∷◌, ◌++◌, length, get_or, map, take, Option, Some, None, refl, sym, ap, subst, ◌∙◌, append_assoc, inl, inr, arith}
-use Rattle.std.specs.Prelude.{◌≢◌, All, Contains, slice_index_or, slice_set, replicate, IsSome}
+use Rattle.std.specs.Prelude.{◌≢◌, All, Contains, slice_index_or, slice_set, IsSome}
 use Rattle.std.specs.List.{flat_map}
-use Rattle.std.proofs.lemmas.Bool.{cases_order, cases_lt}
-use Rattle.std.proofs.lemmas.List.{append-nil, take_all, get_or-replicate, get_or_past, length-replicate, take_more, map_more, get_or-set_same, get_or-set_other}
+use Rattle.std.proofs.lemmas.Bool.{cases_order}
+use Rattle.std.proofs.lemmas.List.{append-nil, take_all, take_more, map_more, get_or-set_same, get_or-set_other}
 use Rattle.std.proofs.lemmas.List.Concat.{flat_map-append}
 use Rattle.std.proofs.lemmas.List.Elements.{All-push, Contains-push, Contains-push_cases, Contains-append_left}
 use Rattle.cpn_fuse.specs.Instances.{PlainInstance, instance_at}
 use Rattle.cpn_fuse.specs.FewerPairs.{ArePicked, AreMarked}
-
--- one more is pushed
-pub mapped_more : {X Y : Type 0} (f : X → Y) (xs : List X) (i : ℕ) (d : X) → i < length xs → (start now next : List Y) → now ≡ start ++ map f (take i xs) → next ≡ now ++ f (get_or xs i d) ∷ [] → next ≡ start ++ map f (take (i + 1) xs)
-mapped_more {X} {Y} f xs i d lt start now next is_now is_next =
-    is_next ∙ ap (λ (ys : List Y). ys ++ f (get_or xs i d) ∷ []) is_now ∙ append_assoc start (map f (take i xs)) (f (get_or xs i d) ∷ [])
-    ∙ ap (λ (ys : List Y). start ++ ys) (sym (map_more f xs i d lt))
 
 -- more are pushed
 pub flat_mapped_more : {X Y : Type 0} (f : X → List Y) (xs : List X) (i : ℕ) (d : X) → i < length xs → (start now next : List Y) → now ≡ start ++ flat_map f (take i xs) → next ≡ now ++ f (get_or xs i d) → next ≡ start ++ flat_map f (take (i + 1) xs)
@@ -102,23 +96,6 @@ module _ (is : List PlainInstance) (picked : List (Option ℕ)) (k m : ℕ) (of_
 
   pub picked_more : ArePickedTo is next_picked (k + 1)
   picked_more = record { instance = its_instance; each = its_each }
-
--- none is picked at first
-nothing_there : (n m : ℕ) → slice_index_or (replicate n None) m None ≡ (let none : Option ℕ = None in none)
-nothing_there n m =
-    elim (cases_lt m n) [
-      | inl less ↦ get_or-replicate n m None None less
-      | inr past ↦ get_or_past (replicate n None) m None (rw (length-replicate {A = Option ℕ} n None) past)
-    ]
-
-pub none_picked : (is : List PlainInstance) (n : ℕ) → ArePickedTo is (replicate n None) 0
-none_picked is n = record {
-  instance = λ m i e. absurd (no_one m i e);
-  each = λ i lt. absurd (omega arith);
-}
-  where
-    no_one : (m i : ℕ) → slice_index_or (replicate n None) m None ≡ Some i → ⊥
-    no_one m i e = let none : slice_index_or (replicate n None) m None ≡ None = nothing_there n m in cc
 
 -- all are looked at
 pub all_picked_from : (is : List PlainInstance) (picked : List (Option ℕ)) (k : ℕ) → length is ≡ k → ArePickedTo is picked k → ArePicked is picked

@@ -1,6 +1,6 @@
 -- The parts that wait.
-use Rattle.std.proofs.Common.{◌≡◌, ℕ, suc, ◌+◌, ◌≤◌, List, [], ◌∷◌, ◌++◌, length, drop, Some, refl, sym, ap, ◌∙◌, append_assoc, arith}
-use Rattle.std.proofs.lemmas.List.{append-nil, drop_more, drop_all}
+use Rattle.std.proofs.Common.{◌≡◌, ℕ, suc, ◌+◌, List, [], ◌∷◌, ◌++◌, drop, Some, sym, ap, ◌∙◌, append_assoc, arith}
+use Rattle.std.proofs.lemmas.List.{append-nil, drop_more}
 use Rattle.cpn_module.specs.Hierarchy.{PlainHierarchy, structure_at, substitution_at, no_substitution}
 use Rattle.cpn_fuse.specs.Instances.{PlainInstance, parts_from}
 use Rattle.cpn_fuse.specs.Views.{part_view}
@@ -12,10 +12,6 @@ module _ (h : PlainHierarchy) where
   pub waiting_more : (ws : List Waiting) (w : Waiting) → waiting_instances h (ws ++ w ∷ []) ≡ parts_from_on h w ++ waiting_instances h ws
   waiting_more [] w = sym (append-nil (parts_from_on h w))
   waiting_more (v ∷ ws) w = ap (λ (xs : List PlainInstance). xs ++ parts_from_on h v) (waiting_more ws w) ∙ append_assoc (parts_from_on h w) (waiting_instances h ws) (parts_from_on h v)
-
-  -- none is left
-  pub none_left : (w : Waiting) → length (structure_at h w.of_module).substitutions ≤ w.part.substitution → parts_from_on h w ≡ []
-  none_left w le = rw (drop_all w.part.substitution (structure_at h w.of_module).substitutions le) refl
 
   -- the parts that wait after the first
   abbrev pub after_first : Waiting → Waiting

@@ -1,4 +1,3 @@
-pub mod AddedTokens
-pub mod ArcsLeft
-pub mod NumberedWork
-pub mod WorkedOutputs
+mod AddedTokens
+mod ArcsLeft
+mod NumberedWork

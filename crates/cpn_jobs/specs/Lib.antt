@@ -4,4 +4,3 @@ pub mod Views
 pub mod SameJobs
 pub mod Gathered
 pub mod Same
-pub mod WorkedJob

@@ -1,7 +1,7 @@
 -- The plain work and jobs that those of the program stand for.
 use Rattle.std.specs.Prelude.{List, map}
-use Rattle.std.specs.Option.{option_map}
-use Rattle.cpn_core.specs.Inscriptions.{expr_view, funs_view}
+use Rattle.cpn_core.specs.Inscriptions.{funs_view}
+use Rattle.cpn_core.specs.Nets.{delay_view}
 use Rattle.cpn_core.specs.Elements.{element_view}
 use Rattle.cpn_same.specs.SameArcs.{arc_expr_view}
 use Rattle.cpn_jobs.specs.declared.work.WorkArc.{WorkArc}
@@ -10,10 +10,10 @@ use Rattle.cpn_jobs.specs.declared.work.Job.{Job}
 use Rattle.cpn_jobs.specs.Work.{PlainWorkArc, PlainWork, PlainJob}
 
 abbrev pub work_arc_view : WorkArc → PlainWorkArc
-work_arc_view arc = record { place = arc.place; timed = arc.timed; inscription = arc_expr_view arc.inscription }
+work_arc_view arc = record { place = arc.place; timed = arc.timed; inscription = arc_expr_view arc.inscription.value }
 
 abbrev pub work_view : Work → PlainWork
-work_view work = record { functions = funs_view work.funs.value; delay = option_map expr_view work.delay; outputs = map work_arc_view work.outputs.items }
+work_view work = record { functions = funs_view work.funs.value; delay = delay_view work.delay; outputs = map work_arc_view work.outputs.items }
 
 abbrev pub job_view : Job → PlainJob
 job_view job = record { element = element_view job.element.value; time = job.time; work = work_view job.work.value }

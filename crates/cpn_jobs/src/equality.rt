@@ -1,8 +1,8 @@
 //! When arcs, work and jobs are the same.
 
-ghost use Rattle.std.specs.Prelude.{◌≡◌, map, option_map};
+ghost use Rattle.std.specs.Prelude.{◌≡◌, map};
 ghost use lib.Pointwise.{pointwise};
-ghost use Rattle.cpn_core.specs.Inscriptions.{expr_view};
+ghost use Rattle.cpn_core.specs.Nets.{delay_view};
 ghost use Rattle.cpn_same.specs.Equality.{same_options};
 ghost use Rattle.cpn_jobs.specs.Same.{are_same_jobs};
 ghost use Rattle.cpn_jobs.specs.SameJobs.{same_work_arc};
@@ -12,6 +12,7 @@ ghost use Rattle.cpn_same.specs.SameInscriptions.{same_expr};
 use crate::work::{Job, Work, WorkArc};
 use cpn_core::Expr;
 use cpn_same::{same_arc_expr, same_element, same_expr, same_funs};
+use std::sync::Arc;
 
 impl PartialEq for WorkArc {
     ghost use Rattle.cpn_jobs.specs.Same.{are_same_arcs, same_arcs_laws};
@@ -90,8 +91,8 @@ fn same_arcs(arcs: &Vec<WorkArc>, others: &Vec<WorkArc>) -> bool
 }
 
 // Whether both delays are the same, or missing.
-fn same_delay(delay: &Option<Expr>, other: &Option<Expr>) -> bool
-    ensures exact { result ≡ same_options same_expr (option_map expr_view delay.now) (option_map expr_view other.now) }
+fn same_delay(delay: &Option<Arc<Expr>>, other: &Option<Arc<Expr>>) -> bool
+    ensures exact { result ≡ same_options same_expr (delay_view delay.now) (delay_view other.now) }
 {
     match delay {
         None => match other {

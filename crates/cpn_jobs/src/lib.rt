@@ -7,8 +7,6 @@
 
 mod equality;
 mod outputs;
-#[cfg(test)]
-mod tests;
 mod work;
 mod works;
 

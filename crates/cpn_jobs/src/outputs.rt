@@ -1,6 +1,6 @@
 //! The tokens that the element of a job makes.
 
-ghost use Rattle.std.specs.Prelude.{◌≡◌, ◌+◌, ◌≤◌, ◌^◌, [], replicate, OnOk, IfOk, option_map, if◌then◌else◌};
+ghost use Rattle.std.specs.Prelude.{◌≡◌, ◌+◌, ◌≤◌, ◌^◌, [], replicate, OnOk, IfOk, if◌then◌else◌};
 ghost use Rattle.cpn_definitions.specs.Net.{PlainNet};
 ghost use Rattle.cpn_definitions.specs.Lists.{with_items};
 ghost use Rattle.cpn_definitions.specs.Outcome.{HasMeaning};
@@ -8,7 +8,8 @@ ghost use Rattle.cpn_definitions.specs.Terms.{delay_of};
 ghost use Rattle.cpn_definitions.specs.Occurrence.{made_cmp, outputs_of, transition_delay};
 ghost use Rattle.cpn_definitions.specs.Times.{last_time};
 ghost use Rattle.cpn_core.specs.Elements.{element_view};
-ghost use Rattle.cpn_core.specs.Inscriptions.{expr_view, funs_view};
+ghost use Rattle.cpn_core.specs.Inscriptions.{funs_view};
+ghost use Rattle.cpn_core.specs.Nets.{delay_view};
 ghost use Rattle.cpn_core.specs.Views.{value_view};
 ghost use Rattle.cpn_eval.specs.Answers.{Answers};
 ghost use Rattle.cpn_eval.specs.Terms.{term_view};
@@ -20,6 +21,7 @@ use crate::work::{Job, Work, WorkArc};
 use cpn_core::{Binding, EvalFault, Expr, Funs, Made, Memory, Outputs, Value};
 use cpn_eval::{Refused, Term, eval, eval_mset};
 use std::alloc::Global;
+use std::sync::Arc;
 
 impl Job {
     /// The tokens that the element makes when it occurs at the time, summed over the output arcs; `Refused::Fault` with the
@@ -51,13 +53,13 @@ fn outputs_by(alloc: Global, work: &Work, binding: &Binding, time: u64) -> Resul
 fn transition_delay(
     alloc: Global,
     funs: &Funs,
-    delay: &Option<Expr>,
+    delay: &Option<Arc<Expr>>,
     binding: &Binding,
     time: u64,
 ) -> Result<u64, Refused>
     requires time { time ≤ last_time }
-    requires meaning { HasMeaning (transition_delay (funs_view funs.now) (option_map expr_view delay.now) binding.now time) }
-    ensures delay { Answers (λ delay. delay) result (transition_delay (funs_view funs.now) (option_map expr_view delay.now) binding.now time) }
+    requires meaning { HasMeaning (transition_delay (funs_view funs.now) (delay_view delay.now) binding.now time) }
+    ensures delay { Answers (λ delay. delay) result (transition_delay (funs_view funs.now) (delay_view delay.now) binding.now time) }
     ensures bound { IfOk result (λ delay. delay ≤ last_time) }
 {
     match delay {

@@ -11,10 +11,10 @@ pub struct WorkArc {
     /// Whether the place keeps time stamps.
     pub timed: bool,
     /// The arc's inscription.
-    pub inscription: ArcExpr,
+    pub inscription: Arc<ArcExpr>,
 }
 
-/// What is left to do of a transition once an element of it is claimed.
+/// What is left to do of a transition once an element of it is claimed. Its inscriptions are shared with the net.
 ///
 /// Source: own choice.
 #[derive(Drop)]
@@ -22,7 +22,7 @@ pub struct Work {
     /// The functions that the inscriptions may call.
     pub funs: Arc<Funs>,
     /// The delay of the transition, where one is written.
-    pub delay: Option<Expr>,
+    pub delay: Option<Arc<Expr>>,
     /// The output arcs, in document order.
     pub outputs: Vec<WorkArc>,
 }

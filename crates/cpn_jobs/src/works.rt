@@ -1,19 +1,17 @@
 //! The work of the transitions of a net.
 
-ghost use Rattle.std.specs.Prelude.{◌≡◌, ℕ, length, map, slice_get, IfOk, IfSome, option_map};
-ghost use Rattle.cpn_core.specs.Inscriptions.{expr_view};
-ghost use Rattle.cpn_core.specs.Nets.{arc_view, net_view, transition_view};
+ghost use Rattle.std.specs.Prelude.{◌≡◌, ℕ, length, map, slice_get, IfOk, IfSome};
+ghost use Rattle.cpn_core.specs.Nets.{arc_view, delay_view, net_view, transition_view};
 ghost use Rattle.cpn_definitions.specs.Net.{is_timed};
 ghost use Rattle.cpn_jobs.specs.Views.{work_arc_view, work_view};
 ghost use Rattle.cpn_jobs.specs.Work.{work_arc, work_by, work_of};
 
 use crate::work::{Work, WorkArc};
-use cpn_copies::{copy_arc_expr, copy_expr};
 use cpn_core::{Expr, Memory, Net, PlaceArc, Transition};
 use std::alloc::Global;
 use std::sync::Arc;
 
-/// The work of each transition of the net, in their order. The inscriptions are copies; the functions are the net's own.
+/// The work of each transition of the net, in their order. Inscriptions and functions are the net's own, and shared with it.
 ///
 /// Source: own choice.
 ///
@@ -34,7 +32,7 @@ pub fn works_of(alloc: Global, net: &Net) -> Result<Vec<Arc<Work>>, Memory>
 fn work_of(alloc: Global, net: &Net, transition: &Transition) -> Result<Arc<Work>, Memory>
     ensures work { IfOk result (λ work. work_view work.value ≡ work_by (net_view net.now) (transition_view transition.now)) }
 {
-    let delay = copy_delay(&transition.delay)?;
+    let delay = shared_delay(&transition.delay)?;
     let outputs = work_arcs(alloc, net, &transition.outputs)?;
     let funs = net.funs.clone()?;
     let work = Work {
@@ -45,12 +43,12 @@ fn work_of(alloc: Global, net: &Net, transition: &Transition) -> Result<Arc<Work
     Ok(Arc::new(alloc, work)?)
 }
 
-fn copy_delay(delay: &Option<Expr>) -> Result<Option<Expr>, Memory>
-    ensures same { IfOk result (λ copied. option_map expr_view copied ≡ option_map expr_view delay.now) }
+fn shared_delay(delay: &Option<Arc<Expr>>) -> Result<Option<Arc<Expr>>, Memory>
+    ensures same { IfOk result (λ shared. delay_view shared ≡ delay_view delay.now) }
 {
     match delay {
         None => Ok(None),
-        Some(expr) => Ok(Some(copy_expr(expr)?)),
+        Some(expr) => Ok(Some(expr.clone()?)),
     }
 }
 
@@ -67,7 +65,7 @@ fn work_arcs(alloc: Global, net: &Net, arcs: &[PlaceArc]) -> Result<Vec<WorkArc>
 fn work_arc(net: &Net, arc: &PlaceArc) -> Result<WorkArc, Memory>
     ensures arc { IfOk result (λ found. work_arc_view found ≡ work_arc (net_view net.now) (arc_view arc.now)) }
 {
-    let inscription = copy_arc_expr(&arc.inscription)?;
+    let inscription = arc.inscription.clone()?;
     Ok(WorkArc {
         place: arc.place,
         timed: is_timed(net, arc.place),

@@ -1,11 +1,12 @@
 -- The longest run of bytes of one kind at the front of a text: names and numbers.
-use Rattle.std.proofs.Common.{◌≡◌, ℕ, ◌+◌, pos, neg_ℤ, Bool, true, false, ◌&&◌, cond, List, [], ◌∷◌, ◌++◌, length, drop, Option, Some, None, refl, sym, ap, ◌∙◌, arith, add-zero, zero-add, get_or}
+use Rattle.std.proofs.Common.{◌≡◌, ℕ, ◌+◌, pos, neg_ℤ, Bool, true, false, ◌&&◌, cond, List, [], ◌∷◌, ◌++◌, length, drop, Option, Some, None, refl, sym, ap, ◌∙◌, arith, add-zero, zero-add, get_or, true≢false}
 use Rattle.std.proofs.lemmas.Bool.Decides.{nat_tests}
 use Rattle.std.proofs.lemmas.List.Folds.{list_all-append, length-prefix_len}
 use Rattle.std.proofs.lemmas.List.Sums.{take_while-cons, prefix_len_stops}
 use Rattle.std.proofs.lemmas.List.{length-drop, length-append, get_or-drop, take-append-drop, take_at, drop_at}
 use Rattle.std.specs.List.{list_all, prefix_len, take_while}
 use Rattle.std.specs.Str.Parse.{digits_value}
+use Rattle.std.proofs.lemmas.Bool.{and_parts}
 use Rattle.cpn_lex.specs.declared.symbols.Symbol.{Symbol}
 use Rattle.cpn_lex.specs.Symbols.{spelling, words}
 use Rattle.cpn_lex.specs.Lookup.{symbol_in}
@@ -29,22 +30,14 @@ run_stops p xs byte more e =
     let here : byte ≡ get_or xs (prefix_len p xs) byte = ap (λ ys. get_or ys 0 byte) (sym e) ∙ get_or-drop (prefix_len p xs) xs 0 byte ∙ ap (λ i. get_or xs i byte) (add-zero (prefix_len p xs)) in
     ap p here ∙ prefix_len_stops p xs byte (omega (arith, length-drop (prefix_len p xs) xs))
 
-true_not_false : (b : Bool) → b ≡ true → b ≡ false → ⊥
-true_not_false b t f = absurd cc
-
-pub and_true : (a b : Bool) → (a && b) ≡ true → (a ≡ true) × (b ≡ true)
-and_true true true e = (refl, refl)
-and_true true false e = absurd cc
-and_true false b e = absurd cc
-
 -- A run is longest where tokens go on by bytes that pass.
 pub run_is_longest : (p : ℕ → Bool) (first : ℕ) (run rest : List ℕ) → ((more : List ℕ) (kind : PlainKind) → Spells (first ∷ more) kind → list_all p more ≡ true) → ((byte : ℕ) (more : List ℕ) → rest ≡ byte ∷ more → p byte ≡ false) → IsLongest (first ∷ run) rest
 run_is_longest p first run rest goes stops = λ byte more after kind e spelled.
     let passes = goes (run ++ byte ∷ more) kind spelled in
     let both = rw (list_all-append p run (byte ∷ more)) at passes in
-    let here = and_true (list_all p run) (p byte && list_all p more) both in
-    let last = and_true (p byte) (list_all p more) here.1 in
-    absurd (true_not_false (p byte) last.0 (stops byte (more ++ after) e))
+    let here = and_parts (list_all p run) (p byte && list_all p more) both in
+    let last = and_parts (p byte) (list_all p more) here.1 in
+    absurd (true≢false (sym last.0 ∙ stops byte (more ++ after) e))
 
 -- ---- the front of a text
 

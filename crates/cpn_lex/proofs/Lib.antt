@@ -1,9 +1,9 @@
-pub mod StringEnds
-pub mod FrontTokens
-pub mod Goes
-pub mod StringPieces
-pub mod LongestSigns
-pub mod OneLexing
+mod StringEnds
+mod FrontTokens
+mod Goes
+mod StringPieces
+mod LongestSigns
+mod OneLexing
 mod Rows
-pub mod ByteRuns
-pub mod FirstBytes
+mod ByteRuns
+mod FirstBytes

@@ -1,10 +1,10 @@
 -- The order of places with values: it is total, those of needs and of outputs stand in it, and so does what is sorted by it.
-use Rattle.std.proofs.Common.{rules, ◌≡◌, ℕ, suc, ◌+◌, ◌==◌, Bool, true, false, ◌&&◌, List, [], ◌∷◌, map, get_or, refl, sym, ap, subst, ◌∙◌, eqb-true, arith, Ordering, Less, Equal, Greater, nat_cmp, is_lt, is_gt}
+use Rattle.std.proofs.Common.{◌≡◌, ℕ, suc, ◌+◌, ◌==◌, Bool, true, false, ◌&&◌, List, [], ◌∷◌, map, get_or, refl, sym, ap, subst, ◌∙◌, eqb-true, arith, Ordering, Less, Equal, Greater, nat_cmp, is_lt, is_gt}
 use Rattle.std.proofs.Math.Path.{ap₂}
 use Rattle.std.specs.Cmp.{IsTotalOrder}
 use Rattle.std.specs.List.{AllByRecursion}
 use Rattle.std.specs.List.Sorted.{IsSortedBy}
-use Rattle.std.specs.Ordering.{ordering_then, ordering_reverse}
+use Rattle.std.specs.Ordering.{ordering_reverse}
 use Rattle.std.proofs.lemmas.Bool.{and_parts}
 use Rattle.std.proofs.lemmas.Cmp.{ranked, on_total, nat_cmp_total, then_total, alike_right}
 use Rattle.std.proofs.lemmas.List.Sorted.{ranks_by, sorted_far}
@@ -13,6 +13,8 @@ use Rattle.cpn_definitions.specs.ValueOrder.{value_cmp_total, value_same, same_v
 use Rattle.cpn_definitions.specs.Lists.{IsInOrder}
 use Rattle.cpn_definitions.specs.Occurrence.{Needed, Made, needed_cmp, made_cmp}
 use Rattle.cpn_definitions.proofs.RisingLists.{each_in, contains_from_in}
+use Rattle.cpn_definitions.proofs.NumberTests.{equals_itself}
+use Rattle.cpn_definitions.proofs.InsertPlaces.{not_after}
 use Rattle.cpn_log.specs.Changed.{PlainChange, change_cmp, same_change, need_change, made_change}
 
 pub change_cmp_total : IsTotalOrder change_cmp
@@ -32,11 +34,8 @@ same_change_true x y h =
     let values : x.value ≡ y.value = same_value_true x.value y.value parts.1 in
     let e : record { place = x.place; value = x.value } ≡ y = ap₂ (λ p v. record { place = p; value = v }) places values in e
 
-same_number : (n : ℕ) → (n == n) ≡ true
-same_number n = search (rules)
-
 pub same_change_refl : (x : PlainChange) → same_change x x ≡ true
-same_change_refl x = ap₂ (λ a b. a && b) (same_number x.place) (same_value_refl x.value)
+same_change_refl x = ap₂ (λ a b. a && b) (equals_itself x.place) (same_value_refl x.value)
 
 -- it is symmetric
 pub same_change_sym : (x y : PlainChange) → same_change x y ≡ same_change y x
@@ -76,14 +75,6 @@ mapped_each C D f keeps x (y ∷ ys) all = (keeps x y all.0, mapped_each C D f k
 mapped_in_order : {X Y : Type 0} (C : X → X → Ordering) (D : Y → Y → Ordering) (f : X → Y) → ((x y : X) → is_gt (C x y) ≡ false → is_gt (D (f x) (f y)) ≡ false) → (xs : List X) → IsInOrder C xs → IsInOrder D (map f xs)
 mapped_in_order C D f keeps [] ordered = tt
 mapped_in_order C D f keeps (x ∷ xs) ordered = (mapped_each C D f keeps x xs ordered.0, mapped_in_order C D f keeps xs ordered.1)
-
--- without the last of three parts, what isn't after stays so
-not_after : (a b c : Ordering) → is_gt (ordering_then a (ordering_then b c)) ≡ false → is_gt (ordering_then a b) ≡ false
-not_after Less b c h = refl
-not_after Equal Less c h = refl
-not_after Equal Equal c h = refl
-not_after Equal Greater c h = cc
-not_after Greater b c h = cc
 
 pub needs_stand_in_order : (needs : List Needed) → IsInOrder needed_cmp needs → IsInOrder change_cmp (map need_change needs)
 needs_stand_in_order needs ordered = mapped_in_order needed_cmp change_cmp need_change (λ x y h. not_after (nat_cmp x.place y.place) (value_cmp x.value y.value) (nat_cmp x.offset y.offset) h) needs ordered

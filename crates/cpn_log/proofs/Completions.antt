@@ -7,9 +7,9 @@ use Rattle.cpn_definitions.specs.Bounds.{most_made}
 use Rattle.cpn_definitions.specs.Lists.{IsInOrder}
 use Rattle.cpn_definitions.specs.Marking.{Marking}
 use Rattle.cpn_definitions.specs.Occurrence.{Made, made_cmp, add_made}
+use Rattle.cpn_definitions.proofs.ListItems.{all_parts}
 use Rattle.cpn_tmset.specs.Limits.{HaveRoomFor}
 use Rattle.cpn_runs.specs.HoleRun.{PlainClaim, Status, done_with, added}
-use Rattle.cpn_runs.proofs.Items.{all_parts}
 use Rattle.cpn_log.specs.Logs.{PlainLog, claims_made, with_status}
 use Rattle.cpn_log.specs.Kept.{IsInRange, IsKept}
 use Rattle.cpn_log.specs.Changed.{each_once, differs, made_change, AreChanges}

@@ -1,20 +1,16 @@
 -- Items that are gone through one after another: tokens that are put in, claims that happen; and the room that is left.
 use Rattle.std.proofs.Common.{◌≡◌, ℕ, ◌+◌, ◌-◌, ◌<◌, ◌^◌, List, ◌∷◌, map, drop, length, get_or, sym, ap, subst, ◌∙◌, arith}
 use Rattle.std.specs.List.{AllByRecursion}
-use Rattle.std.proofs.lemmas.List.{drop_more}
 use Rattle.cpn_definitions.specs.Marking.{Tokens, Marking, tokens_at, token_at, on_place, add_token}
 use Rattle.cpn_definitions.specs.Occurrence.{Needed, Made, threshold, subtract, add_made}
 use Rattle.cpn_definitions.proofs.ChangedPlaces.{tokens_on_place}
 use Rattle.cpn_definitions.proofs.PlaceCounts.{length-add_token, taken_up_to}
+use Rattle.cpn_definitions.proofs.ListItems.{next_left}
 use Rattle.cpn_tmset.specs.Limits.{HaveRoomFor}
 use Rattle.cpn_runs.specs.HoleRun.{PlainClaim, after_claim}
 use Rattle.cpn_log.specs.Kept.{IsInRange}
 use Rattle.cpn_log.specs.Exchanges.{after_claims, number_added}
 use Rattle.cpn_log.proofs.LeftMarkings.{room_behind}
-
--- what is left of a list at an item, each seen by another
-left_at : {X Y : Type 0} (f : X → Y) (xs : List X) (i : ℕ) (x : X) → i < length xs → x ≡ get_or xs i x → map f (drop i xs) ≡ f x ∷ map f (drop (i + 1) xs)
-left_at f xs i x within is = ap (map f) (drop_more xs i x within ∙ ap (λ y. y ∷ drop (i + 1) xs) (sym is))
 
 -- ---- tokens that are put in
 
@@ -30,7 +26,7 @@ pub record AreLeft (outputs : List Made) (m last : Marking) : Type 0 where
 
 pub one_put : {X : Type 0} (f : X → Made) (xs : List X) (i : ℕ) (x : X) (m next last : Marking) → i < length xs → x ≡ get_or xs i x → AreLeft (map f (drop i xs)) m last → next ≡ on_place (f x).place (add_token (token_at (f x).value (f x).stamp)) m → AreLeft (map f (drop (i + 1) xs)) next last
 one_put f xs i x m next last within is left now =
-    let here : AreLeft (f x ∷ map f (drop (i + 1) xs)) m last = subst (λ outputs. AreLeft outputs m last) (left_at f xs i x within is) left in
+    let here : AreLeft (f x ∷ map f (drop (i + 1) xs)) m last = subst (λ outputs. AreLeft outputs m last) (next_left f xs i x within is) left in
     record {
       room = subst (HaveRoomFor (length (map f (drop (i + 1) xs)))) (sym now) (room_after_one (length (map f (drop (i + 1) xs))) (f x) m (λ p. (let all = here.room p in omega (arith, all))));
       added = ap (add_made (map f (drop (i + 1) xs))) now ∙ here.added;
@@ -46,7 +42,7 @@ pub record HaveLeft (claims : List PlainClaim) (m last : Marking) : Type 0 where
 
 pub one_happened : {X : Type 0} (f : X → PlainClaim) (xs : List X) (i : ℕ) (x : X) (m next last : Marking) → i < length xs → x ≡ get_or xs i x → HaveLeft (map f (drop i xs)) m last → next ≡ after_claim (f x) m → HaveLeft (map f (drop (i + 1) xs)) next last
 one_happened f xs i x m next last within is left now =
-    let here : HaveLeft (f x ∷ map f (drop (i + 1) xs)) m last = subst (λ claims. HaveLeft claims m last) (left_at f xs i x within is) left in
+    let here : HaveLeft (f x ∷ map f (drop (i + 1) xs)) m last = subst (λ claims. HaveLeft claims m last) (next_left f xs i x within is) left in
     record {
       in_range = here.in_range.1;
       room = subst (HaveRoomFor (number_added (map f (drop (i + 1) xs)))) (sym now) (room_behind (f x) (map f (drop (i + 1) xs)) m here.room);
@@ -55,7 +51,7 @@ one_happened f xs i x m next last within is left now =
 
 -- the first of them
 pub first_left : {X : Type 0} (f : X → PlainClaim) (xs : List X) (i : ℕ) (x : X) (m last : Marking) → i < length xs → x ≡ get_or xs i x → HaveLeft (map f (drop i xs)) m last → HaveLeft (f x ∷ map f (drop (i + 1) xs)) m last
-first_left f xs i x m last within is left = subst (λ claims. HaveLeft claims m last) (left_at f xs i x within is) left
+first_left f xs i x m last within is left = subst (λ claims. HaveLeft claims m last) (next_left f xs i x within is) left
 
 -- ---- the room that is left
 

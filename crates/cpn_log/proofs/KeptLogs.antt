@@ -11,20 +11,20 @@ use Rattle.cpn_definitions.specs.Occurrence.{PlainElement, Needed, Made, needed_
 use Rattle.cpn_definitions.specs.Times.{last_time}
 use Rattle.cpn_definitions.proofs.PlaceCounts.{HasUpTo, taken_up_to}
 use Rattle.cpn_definitions.proofs.Subtraction.{AllAreSorted}
-use Rattle.cpn_definitions.proofs.RisingLists.{each_implied}
+use Rattle.cpn_definitions.proofs.RisingLists.{each_implied, each_appended}
 use Rattle.cpn_definitions.proofs.Addition.{places_added, sorted_added}
 use Rattle.cpn_definitions.proofs.RicherMarkings.{sorted_subtracted}
+use Rattle.cpn_definitions.proofs.ListItems.{split_at, all_parts}
 use Rattle.cpn_tmset.specs.Limits.{HaveRoomFor}
 use Rattle.cpn_runs.specs.Bounds.{most_steps, most_after}
 use Rattle.cpn_runs.specs.HoleRun.{PlainClaim, Status, open_claim, done_with, added, after_claim, marking_left, is_done}
-use Rattle.cpn_runs.proofs.Items.{split_at, all_joined, all_parts}
 use Rattle.cpn_runs.proofs.Sequences.{left_parts, left_split, marking_left_more}
-use Rattle.cpn_runs.proofs.FilledRuns.{filled_leaves, completed}
+use Rattle.cpn_runs.proofs.FilledRuns.{filled_leaves, completed, sorted_after}
 use Rattle.cpn_log.specs.Logs.{PlainLog, claims_made, head_of, with_status, changed_to, opened, with_committed, with_occurred, next_committed_of, next_committed}
 use Rattle.cpn_log.specs.Kept.{IsInRange, IsKept}
 use Rattle.cpn_log.specs.Changed.{is_told, made_change, touched}
 use Rattle.cpn_log.specs.Exchanges.{after_claims, number_added}
-use Rattle.cpn_log.proofs.TouchedStamps.{sorted_after, untouched_after, alike_after, untouched_added}
+use Rattle.cpn_log.proofs.TouchedStamps.{untouched_after, alike_after, untouched_added}
 use Rattle.cpn_log.proofs.LeftMarkings.{left_is_after, left_sorted, after_joined, left_up_to, few_added, room_for}
 
 -- ---- what the claims leave
@@ -53,7 +53,7 @@ kept_with_one_more log seat element time needs kept room early ordered all = rec
   sorted = kept.sorted;
   few = kept.few;
   number = (let longer = length-append log.claims (opened seat element time needs ∷ []) in omega (arith, longer, room));
-  each = all_joined IsInRange log.claims (opened seat element time needs ∷ []) kept.each (record { in_time = early; in_order = ordered; few = omega arith }, tt);
+  each = each_appended IsInRange log.claims (opened seat element time needs ∷ []) kept.each (record { in_time = early; in_order = ordered; few = omega arith }, tt);
 }
 
 -- ---- a claim is completed
@@ -76,7 +76,7 @@ completed_in_range : (before : List PlainClaim) (claim : PlainClaim) (later : Li
 completed_in_range before claim later status few each =
     let parts = all_parts IsInRange before (claim ∷ later) each in
     let own = parts.1.0 in
-    all_joined IsInRange before (completed status claim ∷ later) parts.0 (record { in_time = own.in_time; in_order = own.in_order; few = few }, parts.1.1)
+    each_appended IsInRange before (completed status claim ∷ later) parts.0 (record { in_time = own.in_time; in_order = own.in_order; few = few }, parts.1.1)
 
 have_order : (claims : List PlainClaim) → AllByRecursion IsInRange claims → AllByRecursion (λ (claim : PlainClaim). IsInOrder needed_cmp claim.needs) claims
 have_order claims each = each_implied IsInRange (λ (claim : PlainClaim). IsInOrder needed_cmp claim.needs) claims (λ claim own. own.in_order) each

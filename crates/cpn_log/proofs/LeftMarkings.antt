@@ -9,10 +9,10 @@ use Rattle.cpn_definitions.proofs.PlaceCounts.{HasUpTo, taken_up_to, added_up_to
 use Rattle.cpn_definitions.proofs.Subtraction.{AllAreSorted}
 use Rattle.cpn_runs.specs.HoleRun.{PlainClaim, added, after_claim, marking_left}
 use Rattle.cpn_runs.proofs.Sequences.{left_parts}
+use Rattle.cpn_runs.proofs.FilledRuns.{sorted_after}
 use Rattle.cpn_tmset.specs.Limits.{HaveRoomFor}
 use Rattle.cpn_log.specs.Kept.{IsInRange}
 use Rattle.cpn_log.specs.Exchanges.{after_claims, number_added}
-use Rattle.cpn_log.proofs.TouchedStamps.{sorted_after}
 
 -- ---- claim by claim
 

@@ -1,12 +1,12 @@
-pub mod ChangeOrder
-pub mod EachOnce
-pub mod ToldItems
-pub mod StampLists
-pub mod TouchedStamps
-pub mod LeftMarkings
-pub mod CopiedTokens
-pub mod KeptLogs
-pub mod LogParts
-pub mod LogSteps
-pub mod Completions
-pub mod CutClaims
+mod ChangeOrder
+mod EachOnce
+mod ToldItems
+mod StampLists
+mod TouchedStamps
+mod LeftMarkings
+mod CopiedTokens
+mod KeptLogs
+mod LogParts
+mod LogSteps
+mod Completions
+mod CutClaims

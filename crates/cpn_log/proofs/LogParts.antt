@@ -164,19 +164,7 @@ behind_with_course course (suc k) (suc p) (c ∷ cs) le =
     let e : suc p - suc k ≡ p - k = omega arith in
     ap (λ xs. map claim_view (drop (suc k) xs)) (course_behind course p c cs) ∙ rw e (behind_with_course course k p cs (omega arith))
 
--- what a claim says does not change by that
-pub heads_with_course : (course : Course) (k p : ℕ) (cs : List Claim) → map head_view (take k (with_course course p cs)) ≡ map head_view (take k cs)
-heads_with_course course k p [] = refl
-heads_with_course course zero p (c ∷ cs) = refl
-heads_with_course course (suc k) zero (c ∷ cs) = refl
-heads_with_course course (suc k) (suc p) (c ∷ cs) = ap (λ xs. map head_view (take (suc k) xs)) (course_behind course p c cs) ∙ ap (λ hs. head_view c ∷ hs) (heads_with_course course k p cs)
-
 pub jobs_with_course : (course : Course) (p : ℕ) (cs : List Claim) → map (λ (c : Claim). c.job.value) (with_course course p cs) ≡ map (λ (c : Claim). c.job.value) cs
 jobs_with_course course p [] = refl
 jobs_with_course course zero (c ∷ cs) = refl
 jobs_with_course course (suc p) (c ∷ cs) = ap (map (λ (d : Claim). d.job.value)) (course_behind course p c cs) ∙ ap (λ (js : List Job). c.job.value ∷ js) (jobs_with_course course p cs)
-
-pub length_with_course : (course : Course) (p : ℕ) (cs : List Claim) → length (with_course course p cs) ≡ length cs
-length_with_course course p [] = refl
-length_with_course course zero (c ∷ cs) = refl
-length_with_course course (suc p) (c ∷ cs) = ap (λ (xs : List Claim). length xs) (course_behind course p c cs) ∙ ap (λ (n : ℕ). suc n) (length_with_course course p cs)

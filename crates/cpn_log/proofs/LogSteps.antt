@@ -9,10 +9,10 @@ use Rattle.cpn_definitions.specs.Marking.{Marking}
 use Rattle.cpn_definitions.specs.Lists.{IsInOrder}
 use Rattle.cpn_definitions.specs.Occurrence.{Needed, Made, needed_cmp, threshold, are_covered, subtract}
 use Rattle.cpn_definitions.specs.Times.{last_time}
+use Rattle.cpn_definitions.proofs.ListItems.{map_more}
 use Rattle.cpn_core.specs.Elements.{element_view}
 use Rattle.cpn_runs.specs.Bounds.{most_steps}
 use Rattle.cpn_runs.specs.HoleRun.{PlainClaim, done_with, added, after_claim, is_done}
-use Rattle.cpn_runs.proofs.Items.{map_more}
 use Rattle.cpn_log.specs.Logs.{PlainHead, PlainLog, claims_made, head_of, opened, with_committed, with_occurred, next_committed, next_committed_of}
 use Rattle.cpn_log.specs.Kept.{IsKept}
 use Rattle.cpn_log.specs.Exchanges.{exchanged, after_claims}

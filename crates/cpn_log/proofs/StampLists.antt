@@ -1,5 +1,5 @@
 -- Lists of stamps that are the same rank by rank, and stamps that grow fewer or more.
-use Rattle.std.proofs.Common.{rules, ◌≡◌, ℕ, zero, suc, ◌+◌, ◌<◌, ◌≤◌, ◌==◌, Bool, true, false, ◌&&◌, not, cond, nat_le, List, [], ◌∷◌, length, Option, Some, None, refl, sym, ap, subst, ◌∙◌, slice_get, arith, eqb-true, eq-eqb}
+use Rattle.std.proofs.Common.{◌≡◌, ℕ, zero, suc, ◌+◌, ◌<◌, ◌≤◌, ◌==◌, Bool, true, false, ◌&&◌, not, cond, nat_le, List, [], ◌∷◌, length, Option, Some, None, refl, sym, ap, subst, ◌∙◌, slice_get, arith, eqb-true, eq-eqb}
 use Rattle.std.proofs.Math.Path.{ap₂}
 use Rattle.std.specs.Option.{is_some, option_eq}
 use Rattle.std.proofs.lemmas.Bool.{and_parts}
@@ -8,6 +8,7 @@ use Rattle.cpn_definitions.specs.Order.{same_value}
 use Rattle.cpn_definitions.specs.Marking.{Tokens, stamps, covers, begins_by, without_latest, less}
 use Rattle.cpn_definitions.proofs.Stamps.{AreRising}
 use Rattle.cpn_definitions.proofs.RicherMarkings.{covers_first, without_rising}
+use Rattle.cpn_definitions.proofs.NumberTests.{equals_itself}
 use Rattle.cpn_log.specs.Changed.{same_stamps}
 
 -- ---- the same
@@ -18,12 +19,9 @@ same_stamps_true [] (t ∷ ts) h = cc
 same_stamps_true (s ∷ ss) [] h = cc
 same_stamps_true (s ∷ ss) (t ∷ ts) h = let parts = and_parts (s == t) (same_stamps ss ts) h in ap₂ (λ (a : ℕ) (xs : List ℕ). a ∷ xs) (eqb-true s t parts.0) (same_stamps_true ss ts parts.1)
 
-same_number : (n : ℕ) → (n == n) ≡ true
-same_number n = search (rules)
-
 pub same_stamps_refl : (ss : List ℕ) → same_stamps ss ss ≡ true
 same_stamps_refl [] = refl
-same_stamps_refl (s ∷ ss) = ap₂ (λ a b. a && b) (same_number s) (same_stamps_refl ss)
+same_stamps_refl (s ∷ ss) = ap₂ (λ a b. a && b) (equals_itself s) (same_stamps_refl ss)
 
 -- lists that are the same at each rank up to one at which both have ended
 pub same_by_ranks : (ss ts : List ℕ) (r : ℕ) → ((k : ℕ) → k < r → slice_get ss k ≡ slice_get ts k) → slice_get ss r ≡ None → slice_get ts r ≡ None → same_stamps ss ts ≡ true
@@ -35,7 +33,7 @@ same_by_ranks (s ∷ ss) [] (suc r) each end other = let first = each 0 (omega a
 same_by_ranks (s ∷ ss) (t ∷ ts) (suc r) each end other =
     let first : s ≡ t = (let is = each 0 (omega arith) in cc) in
     let rest = same_by_ranks ss ts r (λ k lt. each (suc k) (omega arith)) end other in
-    ap₂ (λ a b. a && b) (subst (λ (n : ℕ). (s == n) ≡ true) first (same_number s)) rest
+    ap₂ (λ a b. a && b) (subst (λ (n : ℕ). (s == n) ≡ true) first (equals_itself s)) rest
 
 -- lists that differ at a rank
 pub differ_at_rank : (ss ts : List ℕ) (r : ℕ) → (slice_get ss r ≡ slice_get ts r → ⊥) → same_stamps ss ts ≡ false

@@ -3,10 +3,10 @@ use Rattle.std.proofs.Common.{◌≡◌, ℕ, zero, suc, ◌+◌, ◌-◌, ◌<�
 use Rattle.std.specs.List.{filter}
 use Rattle.std.proofs.lemmas.List.{take_more}
 use Rattle.std.proofs.lemmas.Option.{slice_get_within}
-use Rattle.cpn_runs.proofs.Items.{map_more}
 use Rattle.cpn_runs.specs.HoleRun.{PlainClaim}
 use Rattle.cpn_log.specs.Changed.{PlainChange, and_then, each_once, same_change, ends_with, touched_by, touched}
 use Rattle.cpn_log.proofs.EachOnce.{each_once_more}
+use Rattle.cpn_definitions.proofs.ListItems.{map_more}
 
 -- the items up to one more, each seen by another
 seen_more : {X Y : Type 0} (f : X → Y) (xs : List X) (i : ℕ) (x : X) → i < length xs → x ≡ get_or xs i x → map f (take (i + 1) xs) ≡ map f (take i xs) ++ f x ∷ []

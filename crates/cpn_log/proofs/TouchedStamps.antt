@@ -1,7 +1,7 @@
 -- The stamps of a value on a place change only by needs and outputs for it.
-use Rattle.std.proofs.Common.{◌≡◌, ℕ, zero, suc, ◌+◌, ◌<◌, ◌≤◌, ◌==◌, Bool, true, false, ◌||◌, cond, not, List, [], ◌∷◌, ◌++◌, map, length, refl, sym, ap, subst, ◌∙◌, ⊎_elim, arith, eqb-true, nat_cmp}
+use Rattle.std.proofs.Common.{◌≡◌, ℕ, ◌+◌, ◌<◌, ◌≤◌, ◌==◌, Bool, true, false, ◌||◌, cond, not, List, [], ◌∷◌, ◌++◌, map, length, refl, sym, ap, subst, ◌∙◌, ⊎_elim, arith, eqb-true, nat_cmp}
 use Rattle.std.specs.List.{AllByRecursion, filter}
-use Rattle.std.proofs.lemmas.Bool.{and_parts, cases_lt}
+use Rattle.std.proofs.lemmas.Bool.{and_parts, cases_lt, or_parts}
 use Rattle.cpn_definitions.specs.Value.{PlainValue}
 use Rattle.cpn_definitions.specs.Order.{same_value}
 use Rattle.cpn_definitions.specs.ValueOrder.{same_value_true}
@@ -12,9 +12,10 @@ use Rattle.cpn_definitions.proofs.Stamps.{stamps_rise}
 use Rattle.cpn_definitions.proofs.PlaceCounts.{length-with_items}
 use Rattle.cpn_definitions.proofs.RisingLists.{IsIn, in_filter, in_filter_from, some_passes, one_that_passes}
 use Rattle.cpn_definitions.proofs.Subtraction.{AllAreSorted, is_for, thresholds_for, subtract_is_less}
-use Rattle.cpn_definitions.proofs.Addition.{is_made_for, stamps_for, with_stamps, places_added, sorted_added, add_made_is_more}
-use Rattle.cpn_definitions.proofs.RicherMarkings.{covered_in_turn, places_subtracted, sorted_subtracted}
+use Rattle.cpn_definitions.proofs.Addition.{is_made_for, stamps_for, with_stamps, places_added, add_made_is_more}
+use Rattle.cpn_definitions.proofs.RicherMarkings.{covered_in_turn, places_subtracted, sorted_subtracted, past_the_last}
 use Rattle.cpn_runs.specs.HoleRun.{PlainClaim, added, after_claim}
+use Rattle.cpn_runs.proofs.FilledRuns.{sorted_after}
 use Rattle.cpn_log.specs.Changed.{PlainChange, change_cmp, is_change, is_told, each_once, same_stamps, differs, need_change, made_change, touched_by, touched, AreChanges}
 use Rattle.cpn_log.specs.Exchanges.{after_claims}
 use Rattle.cpn_log.proofs.ChangeOrder.{needs_stand_in_order, outputs_stand_in_order}
@@ -22,11 +23,6 @@ use Rattle.cpn_log.proofs.EachOnce.{told_once, rises_once, filtered_in_order}
 use Rattle.cpn_log.proofs.StampLists.{same_stamps_true, same_stamps_refl, fewer_by}
 
 -- ---- what is needed and made for a value on a place
-
-neither : (a b : Bool) → (a || b) ≡ false → (a ≡ false) × (b ≡ false)
-neither true b h = cc
-neither false true h = cc
-neither false false h = (refl, refl)
 
 pub told_joined : (p : ℕ) (v : PlainValue) (cs ds : List PlainChange) → is_told p v (cs ++ ds) ≡ (is_told p v cs || is_told p v ds)
 told_joined p v [] ds = refl
@@ -39,7 +35,7 @@ told_joined p v (c ∷ cs) ds = split (is_change p v c) (told_joined p v cs ds)
 none_needed : (latest : Needed → ℕ) (p : ℕ) (v : PlainValue) (needs : List Needed) → is_told p v (map need_change needs) ≡ false → thresholds_for latest p v needs ≡ []
 none_needed latest p v [] h = refl
 none_needed latest p v (need ∷ needs) h =
-    let parts = neither (is_for p v need) (is_told p v (map need_change needs)) h in
+    let parts = or_parts (is_for p v need) (is_told p v (map need_change needs)) h in
     ap (λ b. map latest (cond b (need ∷ filter (is_for p v) needs) (filter (is_for p v) needs))) parts.0 ∙ none_needed latest p v needs parts.1
 
 some_needed : (latest : Needed → ℕ) (p : ℕ) (v : PlainValue) (needs : List Needed) → is_told p v (map need_change needs) ≡ true → 0 < length (thresholds_for latest p v needs)
@@ -53,7 +49,7 @@ some_needed latest p v (need ∷ needs) h = split (λ g. some_needed latest p v 
 none_made : (p : ℕ) (v : PlainValue) (outputs : List Made) → is_told p v (map made_change outputs) ≡ false → stamps_for p v outputs ≡ []
 none_made p v [] h = refl
 none_made p v (made ∷ outputs) h =
-    let parts = neither (is_made_for p v made) (is_told p v (map made_change outputs)) h in
+    let parts = or_parts (is_made_for p v made) (is_told p v (map made_change outputs)) h in
     ap (λ b. map (λ (k : Made). k.stamp) (cond b (made ∷ filter (is_made_for p v) outputs) (filter (is_made_for p v) outputs))) parts.0 ∙ none_made p v outputs parts.1
 
 some_made : (p : ℕ) (v : PlainValue) (outputs : List Made) → is_told p v (map made_change outputs) ≡ true → 0 < length (stamps_for p v outputs)
@@ -75,11 +71,6 @@ made_within p v (made ∷ outputs) number each h = split (λ g. made_within p v 
 
 -- ---- markings that are alike in a value on a place
 
-past_the_last : (m : Marking) (p : ℕ) → length m ≤ p → tokens_at m p ≡ []
-past_the_last [] p past = refl
-past_the_last (ks ∷ m) zero past = absurd (omega arith)
-past_the_last (ks ∷ m) (suc p) past = past_the_last m p (omega arith)
-
 -- what was taken for it, and what was put in
 added_stamps : (outputs : List Made) (m : Marking) (p : ℕ) (v : PlainValue) → AllAreSorted m → (p < length m → with_stamps (stamps_for p v outputs) (stamps v (tokens_at m p)) ≡ stamps v (tokens_at m p)) → stamps v (tokens_at (add_made outputs m) p) ≡ stamps v (tokens_at m p)
 added_stamps outputs m p v sorted same = ⊎_elim (λ lt. add_made_is_more outputs m p v sorted lt ∙ same lt) (λ ge. past ge) (cases_lt p (length m))
@@ -94,14 +85,11 @@ untouched_subtracted time needs m p v sorted none = subtract_is_less (threshold 
 pub untouched_added : (outputs : List Made) (m : Marking) (p : ℕ) (v : PlainValue) → AllAreSorted m → is_told p v (map made_change outputs) ≡ false → stamps v (tokens_at (add_made outputs m) p) ≡ stamps v (tokens_at m p)
 untouched_added outputs m p v sorted none = added_stamps outputs m p v sorted (λ _. ap (λ ss. with_stamps ss (stamps v (tokens_at m p))) (none_made p v outputs none))
 
-pub sorted_after : (claim : PlainClaim) (m : Marking) → AllAreSorted m → AllAreSorted (after_claim claim m)
-sorted_after claim m sorted = sorted_added (added claim.status) (subtract (threshold claim.time) claim.needs m) (sorted_subtracted (threshold claim.time) claim.needs m sorted)
-
 pub untouched_after : (claims : List PlainClaim) (m : Marking) (p : ℕ) (v : PlainValue) → AllAreSorted m → is_told p v (touched claims) ≡ false → stamps v (tokens_at (after_claims claims m) p) ≡ stamps v (tokens_at m p)
 untouched_after [] m p v sorted none = refl
 untouched_after (claim ∷ claims) m p v sorted none =
-    let parts = neither (is_told p v (touched_by claim)) (is_told p v (touched claims)) (sym (told_joined p v (touched_by claim) (touched claims)) ∙ none) in
-    let own = neither (is_told p v (map need_change claim.needs)) (is_told p v (map made_change (added claim.status))) (sym (told_joined p v (map need_change claim.needs) (map made_change (added claim.status))) ∙ parts.0) in
+    let parts = or_parts (is_told p v (touched_by claim)) (is_told p v (touched claims)) (sym (told_joined p v (touched_by claim) (touched claims)) ∙ none) in
+    let own = or_parts (is_told p v (map need_change claim.needs)) (is_told p v (map made_change (added claim.status))) (sym (told_joined p v (map need_change claim.needs) (map made_change (added claim.status))) ∙ parts.0) in
     let left = subtract (threshold claim.time) claim.needs m in
     untouched_after claims (after_claim claim m) p v (sorted_after claim m sorted) parts.1
     ∙ untouched_added (added claim.status) left p v (sorted_subtracted (threshold claim.time) claim.needs m sorted) own.1

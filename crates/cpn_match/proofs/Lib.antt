@@ -1,5 +1,4 @@
-pub mod PairPlaces
-pub mod Levels
-pub mod Rows
-pub mod ForgottenValues
-pub mod Matched
+mod PairPlaces
+mod Rows
+mod ForgottenValues
+mod Matched

@@ -124,7 +124,7 @@ fn is_bare(position: u32, value: &Value) -> bool
 
 /// The same of the constructor of that position and its argument.
 #[cycle(fitting)]
-#[tactic(auto, using(crate::proofs::Levels::view_applied, cpn_stages::proofs::Partials::extends_itself))]
+#[tactic(auto, using(cpn_core::proofs::ValueLevels::view_con_some, cpn_stages::proofs::Partials::extends_itself))]
 fn fit_argument(
     position: u32,
     pattern: &Pat,

@@ -1,15 +1,15 @@
-pub mod NameNumbers
-pub mod NamedHierarchy
-pub mod NumberedRules
-pub mod NumbersThere
-pub mod CheckedItems
-pub mod NumberLists
-pub mod PartsOfModules
-pub mod ColourRules
-pub mod OneRule
-pub mod FusionRules
-pub mod PortRules
-pub mod PairSets
-pub mod SocketRules
-pub mod OneHierarchy
+mod NameNumbers
+mod NamedHierarchy
+mod NumberedRules
+mod NumbersThere
+mod CheckedItems
+mod NumberLists
+mod PartsOfModules
+mod ColourRules
+mod OneRule
+mod FusionRules
+mod PortRules
+mod PairSets
+mod SocketRules
+mod OneHierarchy
 mod Rows

@@ -4,16 +4,13 @@ use Rattle.std.proofs.lemmas.Bool.{eqb-true, eq-eqb}
 use Rattle.std.proofs.lemmas.List.{length-append, get_or_append_left, get_or_default}
 use Rattle.std.proofs.lemmas.Bool.Decides.{eqb_tells}
 use Rattle.std.proofs.lemmas.List.Folds.{list_any-append, list_any_at, Any-from_list_any}
+use Rattle.std.proofs.Math.Bool.{or-true}
 use Rattle.indexmap.specs.IndexSet.{insert_key, insert_all}
 use Rattle.cpn_module.specs.Submodules.{is_among, each_once}
 
 or_false : (b : Bool) → (b || false) ≡ b
 or_false true = refl
 or_false false = refl
-
-or_true : (b : Bool) → (b || true) ≡ true
-or_true true = refl
-or_true false = refl
 
 or_or : (a b c : Bool) → ((a || b) || c) ≡ (a || (b || c))
 or_or true b c = refl
@@ -25,7 +22,7 @@ among-insert_key q xs y = by (is_among y xs) refl
   where
     old : is_among y xs ≡ true → is_among q xs ≡ (is_among q xs || nat_eq q y)
     old there = ⊎_elim
-        (λ (e : (nat_eq q y ≡ true) × (q ≡ y)). let has : is_among q xs ≡ true = subst (λ (z : ℕ). is_among z xs ≡ true) (sym e.1) there in has ∙ sym (ap (λ (b : Bool). is_among q xs || b) e.0 ∙ or_true (is_among q xs)))
+        (λ (e : (nat_eq q y ≡ true) × (q ≡ y)). let has : is_among q xs ≡ true = subst (λ (z : ℕ). is_among z xs ≡ true) (sym e.1) there in has ∙ sym (ap (λ (b : Bool). is_among q xs || b) e.0 ∙ or-true (is_among q xs)))
         (λ (e : (nat_eq q y ≡ false) × ((q ≡ y) → ⊥)). sym (ap (λ (b : Bool). is_among q xs || b) e.0 ∙ or_false (is_among q xs)))
         (eqb_tells q y)
 

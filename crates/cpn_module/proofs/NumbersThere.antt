@@ -1,22 +1,19 @@
 -- A hierarchy that keeps the rules of its numbers: each is that of something.
-use Rattle.std.proofs.Common.{◌≡◌, ℕ, zero, suc, ◌<◌, Bool, true, false, nat_lt, List, [], ◌∷◌, ◌++◌, length, refl, sym, ap, ◌∙◌, All, arith}
+use Rattle.std.proofs.Common.{◌≡◌, ℕ, zero, suc, ◌<◌, Bool, true, false, nat_lt, List, [], ◌∷◌, ◌++◌, length, refl, sym, ◌∙◌, All, arith}
 use Rattle.std.specs.Prelude.{Option, Some, None, is_some, slice_index_or}
 use Rattle.std.specs.Option.{option_or}
 use Rattle.std.proofs.lemmas.Bool.{ltb-true}
 use Rattle.std.proofs.lemmas.List.Elements.{All-nil, All-cons, All-head, All-tail, All-weaker}
 use Rattle.cpn_readings.specs.Rules.{first_broken, each_item}
 use Rattle.cpn_readings.proofs.BrokenRules.{broken_append}
-use Rattle.cpn_document.specs.Document.{RawDocument}
 use Rattle.cpn_document.specs.declared.document.PortType.{PortType}
 use Rattle.cpn_module.specs.Refusals.{ModuleRefusal}
 use Rattle.cpn_module.specs.Hierarchy.{PlainEnds, PlainSubstitution, PlainStructure, PlainMember, PlainHierarchy, structure_at, places_in}
-use Rattle.cpn_module.specs.Named.{hierarchy_in}
-use Rattle.cpn_module.specs.ModuleRules.{Rule, rule, name_rules}
+use Rattle.cpn_module.specs.ModuleRules.{Rule, rule}
 use Rattle.cpn_module.specs.NumberRules.{submodule_rule, submodule_rules, member_module_rule, member_module_rules, module_number_rules, arc_place_rule, arc_place_rules, assigned_rule, assigned_rules, places_of_module_rules, member_place_rule, member_place_rules, place_number_rules, is_node, node_rule, node_rules, node_number_rules, number_rules}
 use Rattle.cpn_module.specs.Ranges.{IsNode, AreEnds, IsAssignment, IsSubstitution, IsStructure, IsMember, HasItsNumbers}
 use Rattle.cpn_module.specs.declared.hierarchy.Node.{Node}
 use Rattle.cpn_module.specs.declared.hierarchy.Node.TheVariants as nodes
-use Rattle.cpn_module.proofs.NumberedRules.{rules_same}
 
 -- ---- rules that are kept
 
@@ -161,7 +158,3 @@ module _ (h : PlainHierarchy) where
       let both = both_kept (module_number_rules h ++ place_number_rules h) (node_number_rules h) kept in
       let front = both_kept (module_number_rules h) (place_number_rules h) both.0 in
       all_there (modules_there front.0) (all_places_there front.1) (all_nodes_there both.1)
-
--- a document that keeps the rules of names names a hierarchy in which each number is that of something
-pub names_there : (d : RawDocument) → AreKept (name_rules d) → HasItsNumbers (hierarchy_in d)
-names_there d kept = numbers_there (hierarchy_in d) (sym (ap first_broken (rules_same d)) ∙ kept)

@@ -1,7 +1,8 @@
 -- What was accepted, where something was read.
-use Rattle.std.proofs.Common.{◌≡◌, ◌∙◌, ◌+◌, ◌<◌, ℕ, zero, suc, List, [], ◌∷◌, length, slice_index_or, refl, sym, ap, subst, arith}
+use Rattle.std.proofs.Common.{◌≡◌, ◌∙◌, ◌+◌, ◌<◌, ℕ, zero, suc, List, [], ◌∷◌, length, slice_index_or, refl, sym, ap, subst, arith, add-zero}
 use Rattle.std.specs.Prelude.{Option, Some, None}
 use Rattle.std.specs.List.{AllByRecursion}
+use Rattle.std.proofs.Math.Nat.{zero-add}
 use Rattle.cpn_definitions.specs.Colour.{PlainColour}
 use Rattle.cpn_definitions.specs.Net.{Coloured}
 use Rattle.cpn_trees.specs.DeclTrees.{PlainDecl}
@@ -41,9 +42,6 @@ each_from_long f i (x ∷ xs) ys h =
     let rest = steps _ (each_from f (suc i) xs) ys first.2 in
     ap length (sym (same_read (first.0 ∷ rest.0) ys rest.2)) ∙ ap suc (each_from_long f (suc i) xs rest.0 rest.1)
 
-no_more : (i : ℕ) → i + 0 ≡ i
-no_more i = omega arith
-
 one_more : (i k : ℕ) → suc i + k ≡ i + suc k
 one_more i k = omega arith
 
@@ -54,7 +52,7 @@ each_from_at f i [] ys k d e h lt = absurd (omega arith)
 each_from_at f i (x ∷ xs) ys zero d e h lt =
     let first = steps _ (f i x) ys h in
     let rest = steps _ (each_from f (suc i) xs) ys first.2 in
-    let here : f (i + 0) x ≡ read first.0 = subst (λ j. f j x ≡ read first.0) (sym (no_more i)) first.1 in
+    let here : f (i + 0) x ≡ read first.0 = subst (λ j. f j x ≡ read first.0) (sym (add-zero i)) first.1 in
     subst (λ zs. f (i + 0) x ≡ read (slice_index_or zs 0 e)) (same_read (first.0 ∷ rest.0) ys rest.2) here
 each_from_at f i (x ∷ xs) ys (suc k) d e h lt =
     let first = steps _ (f i x) ys h in
@@ -111,11 +109,8 @@ initial_coloured ds colour pointer (Some text) initial h =
 pub no_place_trees : PlaceTrees
 no_place_trees = record { name = []; colour = []; initial = None }
 
-pub from_zero : (k : ℕ) → 0 + k ≡ k
-from_zero k = omega arith
-
 -- and is for the colour set of its place
 pub initials_coloured : (ds : Declared) (places : List Coloured) (m : ℕ) (trees : List PlaceTrees) (initials : List (Option Initial)) → each_from (initial_of ds places m) 0 trees ≡ read initials → (p : ℕ) → p < length trees → IsOfColour (colour_at places p) (slice_index_or initials p None)
 initials_coloured ds places m trees initials h p lt =
     let at : initial_of ds places m (0 + p) (slice_index_or trees p no_place_trees) ≡ read (slice_index_or initials p None) = each_from_at (initial_of ds places m) 0 trees initials p no_place_trees None h lt in
-    subst (λ k. IsOfColour (colour_at places k) (slice_index_or initials p None)) (from_zero p) (initial_coloured ds (colour_at places (0 + p)) (initial_pointer m (0 + p)) (slice_index_or trees p no_place_trees).initial (slice_index_or initials p None) at)
+    subst (λ k. IsOfColour (colour_at places k) (slice_index_or initials p None)) (zero-add p) (initial_coloured ds (colour_at places (0 + p)) (initial_pointer m (0 + p)) (slice_index_or trees p no_place_trees).initial (slice_index_or initials p None) at)

@@ -4,7 +4,7 @@ use Rattle.std.specs.Prelude.{Option, Some, None}
 use Rattle.std.specs.List.{AllByRecursion}
 use Rattle.cpn_definitions.specs.Inscription.{PlainExpr}
 use Rattle.cpn_definitions.specs.Net.{PlainArc, PlainTransition, Coloured}
-use Rattle.cpn_definitions.proofs.RisingLists.{each_appended}
+use Rattle.cpn_definitions.proofs.RisingLists.{each_appended, each_implied}
 use Rattle.cpn_trees.specs.Trees.{PlainAst, PlainAsts, no_ast}
 use Rattle.cpn_typing.specs.Names.{Declared, ok}
 use Rattle.cpn_typing.specs.Multisets.{input, output}
@@ -23,7 +23,7 @@ use Rattle.cpn_module_nets.specs.Accepted.{tree_at, accepted_at, guard_at, delay
 use Rattle.cpn_module_nets.specs.Transitions.{with_variables, IsCompleted, HasItsTerms}
 use Rattle.cpn_module_nets.proofs.AcceptedTexts.{accepted_is, each_from_all}
 use Rattle.cpn_module_nets.proofs.AcceptedArcs.{IsGoodArc, IsGoodInput, IfThere, AreGoodSides, arc_good, inputs_all, outputs_all}
-use Rattle.cpn_module_nets.proofs.ListFacts.{all_weaker, all_below}
+use Rattle.cpn_module_nets.proofs.ListFacts.{all_below}
 
 -- ---- arcs
 
@@ -91,7 +91,7 @@ joined_good ds places t (x ∷ xs) arcs good all = (
 )
 
 good_terms : (ds : Declared) (places : List Coloured) (t : PlainTransition) → IsGoodTransition ds places t → HasItsTerms t
-good_terms ds places t good = all_weaker (IsGoodInput ds places) _ (λ arc is. is.terms) t.inputs good.inputs
+good_terms ds places t good = each_implied (IsGoodInput ds places) _ t.inputs (λ arc is. is.terms) good.inputs
 
 -- with its variables listed it is as good
 good_completed : (ds : Declared) (places : List Coloured) (bare : PlainTransition) (vars : List ℕ) → IsGoodTransition ds places bare → IsGoodTransition ds places (with_variables bare vars)
@@ -105,13 +105,13 @@ completed_good ds places (bare ∷ bares) (t ∷ ts) is all = (subst (IsGoodTran
 
 -- the input arcs of transitions that are good carry their terms
 pub good_have_terms : (ds : Declared) (places : List Coloured) (ts : List PlainTransition) → AllByRecursion (IsGoodTransition ds places) ts → AllByRecursion HasItsTerms ts
-good_have_terms ds places ts all = all_weaker (IsGoodTransition ds places) HasItsTerms (good_terms ds places) ts all
+good_have_terms ds places ts all = each_implied (IsGoodTransition ds places) HasItsTerms ts (good_terms ds places) all
 
 inputs_accepted : (ds : Declared) (places : List Coloured) (arcs : List PlainArc) → AllByRecursion (IsGoodInput ds places) arcs → AllByRecursion (IsAcceptedArc ds input) arcs
-inputs_accepted ds places arcs all = all_weaker (IsGoodInput ds places) (IsAcceptedArc ds input) (λ arc is. is.good.accepted) arcs all
+inputs_accepted ds places arcs all = each_implied (IsGoodInput ds places) (IsAcceptedArc ds input) arcs (λ arc is. is.good.accepted) all
 
 outputs_accepted : (ds : Declared) (places : List Coloured) (arcs : List PlainArc) → AllByRecursion (IsGoodArc ds places output) arcs → AllByRecursion (IsAcceptedArc ds output) arcs
-outputs_accepted ds places arcs all = all_weaker (IsGoodArc ds places output) (IsAcceptedArc ds output) (λ arc is. is.accepted) arcs all
+outputs_accepted ds places arcs all = each_implied (IsGoodArc ds places output) (IsAcceptedArc ds output) arcs (λ arc is. is.accepted) all
 
 -- with its variables listed it is an accepted transition
 pub good_accepted : (ds : Declared) (places : List Coloured) (t : PlainTransition) → IsGoodTransition ds places t → HasItsVariables t → IsAcceptedTransition ds t

@@ -6,6 +6,7 @@ use Rattle.std.specs.Str.{bytes_eq}
 use Rattle.std.proofs.lemmas.List.{get_or-map}
 use Rattle.std.proofs.lemmas.List.Sums.{sum_by-cons}
 use Rattle.std.proofs.lemmas.Slice.Eq.{bytes_eq-Decides}
+use Rattle.std.proofs.Math.Nat.{zero-add}
 use Rattle.cpn_definitions.specs.Colour.{PlainColour}
 use Rattle.cpn_definitions.specs.Net.{PlainArc, PlainTransition, Coloured}
 use Rattle.cpn_trees.specs.Trees.{PlainAst}
@@ -94,10 +95,7 @@ module _ (ds : Declared) (places : List Coloured) (m : ℕ) (s : PlainStructure)
       no_more a = omega arith
 
   arcs_counted : (texts : List (Parsing PlainAst)) (sides : List Sides) → length texts ≡ length s.arcs → each_from (arc_of ds places m s) 0 texts ≡ read sides → EachIs AreCounted s.arcs sides
-  arcs_counted texts sides long h = counted_from 0 texts sides s.arcs (λ k. ap (ends_at s) (from_zero k)) long h
-    where
-      from_zero : (k : ℕ) → 0 + k ≡ k
-      from_zero k = omega arith
+  arcs_counted texts sides long h = counted_from 0 texts sides s.arcs (λ k. ap (ends_at s) (zero-add k)) long h
 
 first_many : (o : Option PlainArc) (arcs : List PlainArc) → length (with_first o arcs) ≡ on_side o + length arcs
 first_many None arcs = omega arith

@@ -4,7 +4,7 @@ use Rattle.std.specs.Prelude.{Option, Some, None, Result, Ok, Err, IfOk}
 use Rattle.std.proofs.lemmas.List.{append-nil, get_or-map, map-set, length-map}
 use Rattle.cpn_core.specs.Nets.{transition_view}
 use Rattle.cpn_core.specs.declared.nets.Transition.{Transition}
-use Rattle.cpn_definitions.specs.Net.{PlainArc, PlainTransition, no_transition}
+use Rattle.cpn_definitions.specs.Net.{PlainTransition, no_transition}
 use Rattle.cpn_module_nets.specs.Accepted.{Sides, is_at, with_first, inputs_of, outputs_of, joined_from}
 use Rattle.cpn_module_nets.specs.Joining.{joined_with}
 use Rattle.cpn_module.specs.declared.hierarchy.Node.TheVariants as nodes
@@ -28,10 +28,6 @@ outputs_more t [] more = refl
 outputs_more t (arc ∷ arcs) more = rw (outputs_more t arcs more) (more_case (is_at t arc.node) arc.output (outputs_of t arcs) (outputs_of t more))
 
 -- ---- transitions
-
--- a transition with these arcs behind those that it has
-with_arcs : PlainTransition → List PlainArc → List PlainArc → PlainTransition
-with_arcs x ins outs = record { name = x.name; guard = x.guard; delay = x.delay; inputs = x.inputs ++ ins; outputs = x.outputs ++ outs; vars = x.vars }
 
 -- arcs in two parts
 pub joined_twice : (t : ℕ) (xs : List PlainTransition) (arcs more : List Sides) → joined_from t (joined_from t xs arcs) more ≡ joined_from t xs (arcs ++ more)

@@ -5,9 +5,10 @@ use Rattle.std.specs.List.{AllByRecursion}
 use Rattle.std.specs.Str.{bytes_eq}
 use Rattle.std.proofs.lemmas.List.{length-map}
 use Rattle.std.proofs.lemmas.Slice.Eq.{bytes_eq-Decides}
+use Rattle.std.proofs.Math.Nat.{zero-add}
 use Rattle.cpn_definitions.specs.Colour.{PlainColour}
 use Rattle.cpn_definitions.specs.Net.{Coloured, nothing}
-use Rattle.cpn_definitions.proofs.RisingLists.{IsIn, in_from_contains, of_one_in}
+use Rattle.cpn_definitions.proofs.RisingLists.{IsIn, in_from_contains, of_one_in, each_implied}
 use Rattle.cpn_document.specs.Document.{RawPlace, RawDocument, at_assignment, at_member}
 use Rattle.cpn_document.specs.declared.pointers.AssignmentPart.TheVariants as of_assignment
 use Rattle.cpn_document.specs.declared.pointers.MemberPart.TheVariants as of_member
@@ -30,10 +31,10 @@ use Rattle.cpn_module_nets.specs.Accepted.{accepted_at, net_place, places_of}
 use Rattle.cpn_module_nets.specs.Fitting.{trees_at}
 use Rattle.cpn_module_nets.specs.Nets.{PlainAccepted, places_at, module_net_at, colour_at, colour_of_place, AgreeInColour}
 use Rattle.cpn_module_nets.specs.Pointers.{colour_pointer}
-use Rattle.cpn_module_nets.proofs.AcceptedTexts.{accepted_is, each_from_at, no_place_trees, from_zero}
+use Rattle.cpn_module_nets.proofs.AcceptedTexts.{accepted_is, each_from_at, no_place_trees}
 use Rattle.cpn_module_nets.proofs.CheckedModules.{IsKept}
 use Rattle.cpn_module_nets.proofs.KeptRules.{AreKept, both_kept, test_kept, each_with, kept_at}
-use Rattle.cpn_module_nets.proofs.ListFacts.{all_weaker, all_below}
+use Rattle.cpn_module_nets.proofs.ListFacts.{all_below}
 use Rattle.cpn_module_nets.proofs.ModuleParts.{each_is_at, each_is_long, all_recursive, raw_at, structure_is, trees_are, as_many_trees, places_read}
 
 -- ---- colour sets by their names
@@ -121,7 +122,7 @@ module _ (ds : Declared) (d : RawDocument) (trees : DocumentTrees) (are : AreTre
     sockets : (m i : ℕ) → m < length h.modules → i < length (structure_at h m).substitutions → (a : PlainAssignment) → Contains (substitution_at h m i).assignments a → IsAlike m (substitution_at h m i).submodule a
     unfolding colour_rules each_assigned
     sockets m i within lt a is =
-        let kept = subst (λ k. AreKept (each_item (assignment_rules k) 0 (structure_at h m).substitutions)) (from_zero m) (kept_at _ 0 h.modules m no_structure (both_kept _ _ rules_kept).0 within) in
+        let kept = subst (λ k. AreKept (each_item (assignment_rules k) 0 (structure_at h m).substitutions)) (zero-add m) (kept_at _ 0 h.modules m no_structure (both_kept _ _ rules_kept).0 within) in
         let subs = all_recursive (IsSubstitution h (structure_at h m)) (structure_at h m).substitutions (numbers.modules m no_structure within).substitutions in
         let alike = all_below (HasAlike m) no_substitution (structure_at h m).substitutions i lt (module_alike m (structure_at h m) within refl subs kept) in
         of_one_in (IsAlike m (substitution_at h m i).submodule) (substitution_at h m i).assignments a alike (in_from_contains (substitution_at h m i).assignments a is)
@@ -144,7 +145,7 @@ module _ (ds : Declared) (d : RawDocument) (trees : DocumentTrees) (are : AreTre
     unfolding colour_rules each_fused
     fused =
         each_with _ (λ members. AllByRecursion (IsMember h) members) AllOne (λ f members known kept. members_alike f members known kept) 0 h.fusions
-        (all_weaker (All (IsMember h)) (λ members. AllByRecursion (IsMember h) members) (λ members all. all_recursive (IsMember h) members all) h.fusions (all_recursive (All (IsMember h)) h.fusions numbers.fusions))
+        (each_implied (All (IsMember h)) (λ members. AllByRecursion (IsMember h) members) h.fusions (λ members all. all_recursive (IsMember h) members all) (all_recursive (All (IsMember h)) h.fusions numbers.fusions))
         (both_kept _ _ rules_kept).1
 
     -- Joined places have one colour set.

@@ -1,13 +1,10 @@
 -- What follows of the items of a list from rules that are kept.
-use Rattle.std.proofs.Common.{◌≡◌, ℕ, zero, suc, ◌+◌, ◌<◌, Bool, true, false, List, [], ◌∷◌, ◌++◌, length, slice_index_or, refl, sym, ◌∙◌, subst, arith}
+use Rattle.std.proofs.Common.{◌≡◌, ℕ, zero, suc, ◌+◌, ◌<◌, Bool, true, false, List, [], ◌∷◌, ◌++◌, length, slice_index_or, refl, sym, ◌∙◌, subst, arith, add-zero}
 use Rattle.std.specs.Prelude.{Option, Some, None}
 use Rattle.std.specs.List.{AllByRecursion}
 use Rattle.std.specs.Option.{option_or}
 use Rattle.cpn_readings.specs.Rules.{Rule, first_broken, each_item}
 use Rattle.cpn_readings.proofs.BrokenRules.{broken_append}
-
-no_more : (i : ℕ) → i ≡ i + 0
-no_more i = omega arith
 
 one_more : (i k : ℕ) → suc i + k ≡ i + suc k
 one_more i k = omega arith
@@ -41,5 +38,5 @@ module _ {R : Type 0} where
   pub kept_at : {A : Type 0} (rules : ℕ → A → List (Rule R)) (i : ℕ) (xs : List A) (k : ℕ) (d : A) → AreKept (each_item rules i xs) → k < length xs → AreKept (rules (i + k) (slice_index_or xs k d))
   unfolding each_item
   kept_at rules i [] k d h lt = absurd (omega arith)
-  kept_at rules i (x ∷ xs) zero d h lt = subst (λ j. AreKept (rules j x)) (no_more i) (both_kept (rules i x) (each_item rules (suc i) xs) h).0
+  kept_at rules i (x ∷ xs) zero d h lt = subst (λ j. AreKept (rules j x)) (sym (add-zero i)) (both_kept (rules i x) (each_item rules (suc i) xs) h).0
   kept_at rules i (x ∷ xs) (suc k) d h lt = subst (λ j. AreKept (rules j (slice_index_or xs k d))) (one_more i k) (kept_at rules (suc i) xs k d (both_kept (rules i x) (each_item rules (suc i) xs) h).1 (omega arith))

@@ -1,25 +1,25 @@
-pub mod ListFacts
-pub mod CheckedTexts
-pub mod DeclaredLists
-pub mod PlaceColours
-pub mod Bindables
-pub mod ArcEnds
-pub mod JoinedArcs
-pub mod AcceptedTexts
-pub mod AcceptedArcs
-pub mod AcceptedTransitions
-pub mod ReadNets
-pub mod NumberedModules
-pub mod CheckedModules
-pub mod ModuleParts
-pub mod ReadDocuments
-pub mod OneReading
-pub mod ClosedFunctions
-pub mod NamedNets
-pub mod FewArcs
-pub mod SoundNets
-pub mod KeptRules
-pub mod JoinedColours
-pub mod WellNets
-pub mod WellAccepted
-pub mod OneTree
+mod ListFacts
+mod CheckedTexts
+mod DeclaredLists
+mod PlaceColours
+mod Bindables
+mod ArcEnds
+mod JoinedArcs
+mod AcceptedTexts
+mod AcceptedArcs
+mod AcceptedTransitions
+mod ReadNets
+mod NumberedModules
+mod CheckedModules
+mod ModuleParts
+mod ReadDocuments
+mod OneReading
+mod ClosedFunctions
+mod NamedNets
+mod FewArcs
+mod SoundNets
+mod KeptRules
+mod JoinedColours
+mod WellNets
+mod WellAccepted
+mod OneTree

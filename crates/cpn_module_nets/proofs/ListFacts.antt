@@ -1,14 +1,7 @@
 -- Facts that hold of each item of a list, and of each number of an item.
-use Rattle.std.proofs.Common.{◌≡◌, ℕ, Bool, true, ◌&&◌, ◌<◌, List, [], ◌∷◌, length, refl, arith, slice_index_or, zero, suc, drop, get_or}
+use Rattle.std.proofs.Common.{◌≡◌, ℕ, Bool, true, ◌<◌, List, [], ◌∷◌, length, refl, arith, slice_index_or, zero, suc, drop, get_or}
 use Rattle.std.specs.List.{list_all, AllByRecursion}
-
-pub both : (a b : Bool) → a ≡ true → b ≡ true → (a && b) ≡ true
-both a b h k = rw (h, k) refl
-
--- a weaker fact
-pub all_weaker : {X : Type 0} (P Q : X → Type 0) → ((x : X) → P x → Q x) → (xs : List X) → AllByRecursion P xs → AllByRecursion Q xs
-all_weaker P Q f [] all = tt
-all_weaker P Q f (x ∷ xs) all = (f x all.0, all_weaker P Q f xs all.1)
+use Rattle.std.proofs.lemmas.Bool.{and_from}
 
 -- what holds of each item holds at each position in range
 pub all_below : {X : Type 0} (P : X → Type 0) (past : X) (xs : List X) (i : ℕ) → i < length xs → AllByRecursion P xs → P (slice_index_or xs i past)
@@ -23,7 +16,7 @@ all_numbered P past (x ∷ xs) h = (h 0 (omega arith), all_numbered P past xs (�
 
 pub passes_all : {X : Type 0} (P : X → Type 0) (p : X → Bool) → ((x : X) → P x → p x ≡ true) → (xs : List X) → AllByRecursion P xs → list_all p xs ≡ true
 passes_all P p f [] all = refl
-passes_all P p f (x ∷ xs) all = both (p x) (list_all p xs) (f x all.0) (passes_all P p f xs all.1)
+passes_all P p f (x ∷ xs) all = and_from (p x) (list_all p xs) (f x all.0) (passes_all P p f xs all.1)
 
 -- ---- what is left of a list
 

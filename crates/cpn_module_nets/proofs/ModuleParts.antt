@@ -3,6 +3,7 @@ use Rattle.std.proofs.Common.{◌≡◌, ℕ, zero, suc, ◌+◌, ◌<◌, List,
 use Rattle.std.specs.Prelude.{All}
 use Rattle.std.specs.List.{AllByRecursion}
 use Rattle.std.proofs.lemmas.List.{length-map, get_or-map}
+use Rattle.std.proofs.Math.Nat.{zero-add}
 use Rattle.cpn_definitions.specs.Net.{Coloured}
 use Rattle.cpn_document.specs.Document.{RawPlace, RawModule, RawDocument}
 use Rattle.cpn_module.specs.Hierarchy.{PlainEnds, PlainStructure, PlainHierarchy, no_structure, structure_at}
@@ -15,7 +16,7 @@ use Rattle.cpn_module_nets.specs.Reading.{read, each_from}
 use Rattle.cpn_module_nets.specs.Accepted.{net_place, places_of}
 use Rattle.cpn_module_nets.specs.Fitting.{GoTogether, no_trees, trees_at}
 use Rattle.cpn_module_nets.specs.Nets.{places_at}
-use Rattle.cpn_module_nets.proofs.AcceptedTexts.{each_from_long, each_from_at, from_zero}
+use Rattle.cpn_module_nets.proofs.AcceptedTexts.{each_from_long, each_from_at}
 use Rattle.cpn_module_nets.proofs.CheckedModules.{IsKept}
 
 -- ---- lists
@@ -62,7 +63,7 @@ module _ (ds : Declared) (d : RawDocument) (trees : DocumentTrees) (are : AreTre
     unfolding places_of
     places_read m lt =
         let at : places_of ds (0 + m) (trees_at trees.modules m) ≡ read (places_at places m) = each_from_at (places_of ds) 0 trees.modules places m no_trees [] places_are lt in
-        subst (λ k. places_of ds k (trees_at trees.modules m) ≡ read (places_at places m)) (from_zero m) at
+        subst (λ k. places_of ds k (trees_at trees.modules m) ≡ read (places_at places m)) (zero-add m) at
 
     pub as_many_places : (m : ℕ) → m < length trees.modules → length (places_at places m) ≡ length (trees_at trees.modules m).places
     as_many_places m lt = each_from_long (net_place ds m) 0 (trees_at trees.modules m).places (places_at places m) (places_read m lt)

@@ -1,7 +1,7 @@
 -- A net of what is declared names the constants and the constructors of the colour sets of its places and its variables.
 use Rattle.std.proofs.Common.{◌≡◌, ℕ, zero, suc, ◌≤◌, true, nat_le, List, [], ◌∷◌, length, map, slice_get, slice_index_or, option_map, refl, sym, subst, arith}
 use Rattle.std.specs.List.{list_all, AllByRecursion}
-use Rattle.std.proofs.lemmas.Bool.{le-leb}
+use Rattle.std.proofs.lemmas.Bool.{le-leb, and_from}
 use Rattle.std.proofs.lemmas.List.{length-map}
 use Rattle.cpn_definitions.specs.Colour.{PlainShape, PlainShapes, Constructors, unit_shape, boolean_shape, int_shape, text_shape, constant_shape, tuple_shape, union_shape, list_shape, no_shapes, more_shapes, no_constructors, without, taking, constructor_at}
 use Rattle.cpn_definitions.specs.Named.{count_of, has_names, have_names, arguments_have_names, is_named, IsNamed}
@@ -17,7 +17,7 @@ use Rattle.cpn_module_trees.specs.Trees.{PlaceTrees}
 use Rattle.cpn_module_nets.specs.Accepted.{accepted_at, net_place}
 use Rattle.cpn_module_nets.specs.Nets.{constructor_names, net_from}
 use Rattle.cpn_module_nets.proofs.AcceptedTexts.{each_from_all, accepted_is}
-use Rattle.cpn_module_nets.proofs.ListFacts.{both, all_numbered, passes_all}
+use Rattle.cpn_module_nets.proofs.ListFacts.{all_numbered, passes_all}
 use Rattle.cpn_readings.proofs.Readings.{same_read, steps}
 use Rattle.cpn_module_nets.specs.Pointers.{colour_pointer}
 
@@ -57,17 +57,17 @@ module _ (ds : Declared) (places : List Coloured) (ts : List PlainTransition) wh
     shape_named text_shape h = refl
     shape_named (constant_shape id count) h = constants_named id count h
     shape_named (tuple_shape ss) h = shapes_named ss h
-    shape_named (union_shape id cs) h = both (nat_le (count_of cs) (length (slice_index_or (map constructor_names ds.unions) id []))) (arguments_have_names its_net cs) (constructors_named id cs h.0) (arguments_named cs h.1)
+    shape_named (union_shape id cs) h = and_from (nat_le (count_of cs) (length (slice_index_or (map constructor_names ds.unions) id []))) (arguments_have_names its_net cs) (constructors_named id cs h.0) (arguments_named cs h.1)
     shape_named (list_shape s) h = shape_named s h
 
     shapes_named : (ss : PlainShapes) → HasSetsOfEach (sets_of ds) ss → have_names its_net ss ≡ true
     shapes_named no_shapes h = refl
-    shapes_named (more_shapes s ss) h = both (has_names its_net s) (have_names its_net ss) (shape_named s h.0) (shapes_named ss h.1)
+    shapes_named (more_shapes s ss) h = and_from (has_names its_net s) (have_names its_net ss) (shape_named s h.0) (shapes_named ss h.1)
 
     arguments_named : (cs : Constructors) → HasSetsOfArguments (sets_of ds) cs → arguments_have_names its_net cs ≡ true
     arguments_named no_constructors h = refl
     arguments_named (without cs) h = arguments_named cs h
-    arguments_named (taking s cs) h = both (has_names its_net s) (arguments_have_names its_net cs) (shape_named s h.0) (arguments_named cs h.1)
+    arguments_named (taking s cs) h = and_from (has_names its_net s) (arguments_have_names its_net cs) (shape_named s h.0) (arguments_named cs h.1)
 
 abbrev pub IsOfDeclared : Declared → Coloured → Type 0
 IsOfDeclared ds coloured = HasSetsOf (sets_of ds) coloured.colour.shape

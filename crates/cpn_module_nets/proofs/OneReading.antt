@@ -1,13 +1,13 @@
 -- A document is accepted as one thing: each step of its reading has at most one outcome.
-use Rattle.std.proofs.Common.{◌≡◌, ◌==◌, ◌<◌, nat_lt, true, false, inl, inr, arith, ℕ, suc, Bool, List, [], ◌∷◌, refl, sym, ap, ◌∙◌, subst}
+use Rattle.std.proofs.Common.{◌≡◌, ◌<◌, inl, inr, arith, ℕ, suc, List, [], ◌∷◌, refl, sym, ap, ◌∙◌, subst}
 use Rattle.std.specs.Prelude.{Contains}
 use Rattle.std.specs.Ordering.{nat_cmp}
 use Rattle.std.specs.List.{AllByRecursion}
-use Rattle.std.specs.declared.cmp.Ordering.TheVariants.{Less, Equal, Greater}
-use Rattle.std.proofs.lemmas.Bool.{ltb-true}
+use Rattle.std.specs.declared.cmp.Ordering.TheVariants.{Less}
 use Rattle.cpn_definitions.specs.Lists.{Rises}
 use Rattle.cpn_definitions.specs.Net.{PlainTransition, Coloured, PlainNet}
 use Rattle.cpn_definitions.proofs.RisingLists.{IsIn, of_one_in, in_from_contains, contains_from_in}
+use Rattle.cpn_definitions.proofs.NumberTests.{less_number}
 use Rattle.cpn_typing.specs.Names.{Declared, ok, nothing_declared}
 use Rattle.cpn_typing.specs.Names as checks
 use Rattle.cpn_typing.specs.AcceptedTransitions.{transition_variables}
@@ -29,17 +29,8 @@ use Rattle.cpn_module_nets.proofs.CheckedModules.{checks_one}
 
 -- ---- variables
 
--- what one number is below another by comparing, it is
-below : (x y : ℕ) → nat_cmp x y ≡ Less → x < y
-below x y h = by (nat_lt x y) refl (x == y) refl
-  where
-    by : (b : Bool) → nat_lt x y ≡ b → (c : Bool) → (x == y) ≡ c → x < y
-    by true e c f = ltb-true x y e
-    by false e true f = let g : nat_cmp x y ≡ Equal = rw (e, f) refl in absurd (let bad : Less ≡ Equal = sym h ∙ g in cc)
-    by false e false f = let g : nat_cmp x y ≡ Greater = rw (e, f) refl in absurd (let bad : Less ≡ Greater = sym h ∙ g in cc)
-
 above_all : (x y : ℕ) (xs : List ℕ) → AllByRecursion (λ z. nat_cmp x z ≡ Less) xs → IsIn y xs → x < y
-above_all x y xs all is = below x y (of_one_in (λ z. nat_cmp x z ≡ Less) xs y all is)
+above_all x y xs all is = less_number x y (of_one_in (λ z. nat_cmp x z ≡ Less) xs y all is)
 
 -- lists that rise, with the same items, are one
 same_head : (x y : ℕ) (xs ys : List ℕ) → Rises nat_cmp (x ∷ xs) → Rises nat_cmp (y ∷ ys) → IsIn x (y ∷ ys) → IsIn y (x ∷ xs) → x ≡ y

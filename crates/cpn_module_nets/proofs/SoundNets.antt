@@ -11,7 +11,7 @@ use Rattle.cpn_typing.specs.Consistency.{IsConsistent}
 use Rattle.cpn_typing.specs.Multisets.{output}
 use Rattle.cpn_typing.specs.Names.{Declared, Checked, ok}
 use Rattle.cpn_typing.proofs.MeaningfulTransitions.{accepted_is_meaningful}
-use Rattle.cpn_solvable.proofs.SolvableTransitions.{accepted_is_solvable}
+use Rattle.cpn_typing.proofs.SolvableTransitions.{accepted_is_solvable}
 use Rattle.cpn_readings.specs.ItemByItem.{EachIs}
 use Rattle.cpn_module_nets.specs.Reading.{Reading, read}
 use Rattle.cpn_module_nets.specs.Nets.{net_from}

@@ -1,6 +1,7 @@
 -- All that is accepted of a document is well.
-use Rattle.std.proofs.Common.{◌≡◌, ℕ, zero, suc, ◌+◌, ◌<◌, List, [], ◌∷◌, length, slice_index_or, sym, ap, ◌∙◌, subst, arith}
+use Rattle.std.proofs.Common.{◌≡◌, ℕ, zero, suc, ◌+◌, ◌<◌, List, [], ◌∷◌, length, slice_index_or, sym, ap, ◌∙◌, subst, arith, add-zero}
 use Rattle.std.specs.Prelude.{Result, Ok, Err, IfOk}
+use Rattle.std.proofs.Math.Nat.{zero-add}
 use Rattle.cpn_definitions.specs.Net.{Coloured}
 use Rattle.cpn_document.specs.Document.{RawDocument}
 use Rattle.cpn_document.specs.FewArcs.{HasFewArcs, HaveFewArcs}
@@ -21,7 +22,7 @@ use Rattle.cpn_module_nets.specs.Documents.{net_so, nets_so, accepted_in}
 use Rattle.cpn_module_nets.specs.Fitting.{no_trees, trees_at}
 use Rattle.cpn_module_nets.specs.Answers.{LoadsBy}
 use Rattle.cpn_module_nets.specs.declared.refusals.NetError.{NetError}
-use Rattle.cpn_module_nets.proofs.AcceptedTexts.{declared_good, from_zero}
+use Rattle.cpn_module_nets.proofs.AcceptedTexts.{declared_good}
 use Rattle.cpn_module_nets.proofs.CheckedModules.{IsKept, kept}
 use Rattle.cpn_module_nets.proofs.ClosedFunctions.{functions_closed}
 use Rattle.cpn_module_nets.proofs.JoinedColours.{agree_in_colour}
@@ -30,9 +31,6 @@ use Rattle.cpn_module_nets.proofs.ModuleParts.{raw_at, structure_is, as_many_tre
 use Rattle.cpn_module_nets.proofs.WellNets.{IsNetOf, net_is}
 
 -- ---- a list whose items are read one after another
-
-no_more : (i : ℕ) → i ≡ i + 0
-no_more i = omega arith
 
 one_more : (i k : ℕ) → suc i + k ≡ i + suc k
 one_more i k = omega arith
@@ -52,7 +50,7 @@ so_at Reads i [] ys k d e h lt = absurd (omega arith)
 so_at Reads i (x ∷ xs) ys zero d e h lt =
     let first = step_parts (Reads i x) _ ys h in
     let rest = step_parts (each_so Reads (suc i) xs) _ ys first.2 in
-    subst (λ zs. Reads (i + 0) x (read (slice_index_or zs 0 e))) (sym (same_read ys (first.0 ∷ rest.0) rest.2)) (subst (λ j. Reads j x (read first.0)) (no_more i) first.1)
+    subst (λ zs. Reads (i + 0) x (read (slice_index_or zs 0 e))) (sym (same_read ys (first.0 ∷ rest.0) rest.2)) (subst (λ j. Reads j x (read first.0)) (sym (add-zero i)) first.1)
 so_at Reads i (x ∷ xs) ys (suc k) d e h lt =
     let first = step_parts (Reads i x) _ ys h in
     let rest = step_parts (each_so Reads (suc i) xs) _ ys first.2 in
@@ -81,7 +79,7 @@ module _ (ds : Declared) (d : RawDocument) (few : HaveFewArcs d) (trees : Docume
     unfolding nets_so
     net_read m lt =
         let at = so_at (λ m. net_so ds (places_at places m) m (structure_at h m)) 0 trees.modules nets m no_trees no_module_net nets_are lt in
-        subst (λ k. net_so ds (places_at places k) k (structure_at h k) (trees_at trees.modules m) (read (slice_index_or nets m no_module_net))) (from_zero m) at
+        subst (λ k. net_so ds (places_at places k) k (structure_at h k) (trees_at trees.modules m) (read (slice_index_or nets m no_module_net))) (zero-add m) at
 
     -- the net of the module of a number
     net_at_is : (m : ℕ) → m < length trees.modules → IsNetOf ds (places_at places m) (structure_at h m) (slice_index_or nets m no_module_net)

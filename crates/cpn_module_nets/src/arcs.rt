@@ -23,6 +23,7 @@ use cpn_module_trees::Parsing;
 use cpn_syntax::Inscription;
 use cpn_types::{Decls, Side, check_arc};
 use std::alloc::Global;
+use std::sync::Arc;
 
 /// An arc of a module as it is accepted: what it joins a place to, and the input arc and the output arc that it stands for.
 #[derive(Drop)]
@@ -52,7 +53,7 @@ fn side_of(
     match check_arc(alloc, decls, colour, side, tree) {
         Ok(inscription) => Ok(PlaceArc {
             place: number as u32,
-            inscription,
+            inscription: Arc::new(alloc, inscription)?,
         }),
         Err(error) => Err(not_accepted(place, error)),
     }

@@ -2,7 +2,7 @@
 
 ghost use Rattle.std.specs.Prelude.{map, option_map, Some};
 ghost use Rattle.cpn_core.specs.Inscriptions.{expr_view};
-ghost use Rattle.cpn_core.specs.Nets.{transition_view};
+ghost use Rattle.cpn_core.specs.Nets.{delay_view, transition_view};
 ghost use Rattle.cpn_declared.specs.DeclsViews.{decls_view};
 ghost use Rattle.cpn_module_nets.specs.Reading.{each_from};
 ghost use Rattle.cpn_module_nets.specs.Accepted.{guard_at, delay_at, bare_transition as bare_transition_in};
@@ -16,6 +16,7 @@ use cpn_module_trees::{Parsing, TransitionTrees};
 use cpn_syntax::Inscription;
 use cpn_types::{Decls, check_delay, check_guard};
 use std::alloc::Global;
+use std::sync::Arc;
 
 /// The guard that is written.
 #[tactic(auto, unfolding(crate::specs::Accepted::guard_at))]
@@ -80,13 +81,13 @@ fn delay_of(
     decls: &Decls,
     place: Pointer,
     text: &Option<Parsing<Inscription>>,
-) -> Result<Option<Expr>, NetError>
-    ensures reads { Loads (λ delay. option_map expr_view delay) result (delay_at (decls_view decls.now) place (option_map tree_view text.now)) }
+) -> Result<Option<Arc<Expr>>, NetError>
+    ensures reads { Loads delay_view result (delay_at (decls_view decls.now) place (option_map tree_view text.now)) }
 {
     match text {
         Some(text) => {
             let delay = written_delay(alloc, decls, place, text)?;
-            Ok(Some(delay))
+            Ok(Some(Arc::new(alloc, delay)?))
         }
         None => Ok(None),
     }
@@ -116,7 +117,7 @@ fn bare_transition(
     let delay = delay_of(alloc, decls, delay_at, &transition.delay)?;
     Ok(Transition {
         name,
-        guard,
+        guard: Arc::new(alloc, guard)?,
         delay,
         inputs: Vec::new(alloc),
         outputs: Vec::new(alloc),

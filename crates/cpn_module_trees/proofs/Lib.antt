@@ -1,2 +1,2 @@
-pub mod Parsings
-pub mod NextTrees
+mod Parsings
+mod NextTrees

@@ -1,3 +1,3 @@
-pub mod Appearances
-pub mod CoveredMSets
-pub mod Rows
+mod Appearances
+mod CoveredMSets
+mod Rows

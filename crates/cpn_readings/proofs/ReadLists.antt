@@ -49,10 +49,6 @@ module _ {R V A B : Type 0} (seen : V → A) (f : A → Reading R B) where
   unfolding each
   each_done vs i front past inv = sym inv ∙ rw (drop_all i vs past) (ap read (append-nil front))
 
--- an error that is the refusal of a reading refuses it
-pub refuses_same : {R A : Type 0} (o : Option R) (refusal : R) (reading : Reading R A) → o ≡ Some refusal → reading ≡ refused refusal → Refuses o reading
-refuses_same o refusal reading e h = rw e h
-
 -- where a part is refused, so is the whole
 pub refuses_through : {R A B : Type 0} (o : Option R) (part : Reading R A) (whole : Reading R B) → ((refusal : R) → part ≡ refused refusal → whole ≡ refused refusal) → Refuses o part → Refuses o whole
 refuses_through None part whole through h = tt

@@ -1,8 +1,7 @@
 -- Readings: what was read before, where the whole was read.
 use Rattle.std.proofs.Common.{◌≡◌, Bool, true, false, List, [], ◌∷◌, refl, ap}
-use Rattle.std.specs.Prelude.{Option, Some, None}
 use Rattle.std.specs.List.{AllByRecursion}
-use Rattle.cpn_readings.specs.Reading.{Reading, read, refused, ◌>>=◌, or_refusal, check, each}
+use Rattle.cpn_readings.specs.Reading.{Reading, read, refused, ◌>>=◌, check, each}
 
 module _ {R : Type 0} where
   -- a value that was read, or another one in place of a refusal
@@ -26,11 +25,6 @@ module _ {R : Type 0} where
   pub checked : (test x : Bool) (refusal : R) → check test refusal ≡ read x → test ≡ true
   checked true x refusal h = refl
   checked false x refusal h = cc
-
-  -- a value that is read was there
-  pub was_there : {A : Type 0} (o : Option A) (refusal : R) (x : A) → or_refusal o refusal ≡ read x → o ≡ Some x
-  was_there (Some y) refusal x h = ap Some (same_read y x h)
-  was_there None refusal x h = cc
 
   -- what holds of each reading of an item holds of each item of what a list is read as
   pub each_all : {A B : Type 0} (f : A → Reading R B) (P : B → Type 0) → ((x : A) (y : B) → f x ≡ read y → P y) → (xs : List A) (ys : List B) → each f xs ≡ read ys → AllByRecursion P ys

@@ -1,7 +1,7 @@
-pub mod GroupedTokens
-pub mod JoinedTexts
-pub mod PrintableNets
-pub mod PrintableRuns
-pub mod ScheduleLines
-pub mod ShapedText
-pub mod Rows
+mod GroupedTokens
+mod JoinedTexts
+mod PrintableNets
+mod PrintableRuns
+mod ScheduleLines
+mod ShapedText
+mod Rows

@@ -59,10 +59,3 @@ held_at [] m i d held lt = absurd (omega arith)
 held_at (place ∷ places) [] i d held lt = absurd held
 held_at (place ∷ places) (tokens ∷ m) zero d held lt = held.1
 held_at (place ∷ places) (tokens ∷ m) (suc i) d held lt = held_at places m i d held.2 (omega arith)
-
--- and there are as many entries as places
-pub entries_count : (places : List Coloured) (m : Marking) → IsMarking places m → length m ≡ length places
-entries_count [] [] held = refl
-entries_count [] (tokens ∷ m) held = absurd held
-entries_count (place ∷ places) [] held = absurd held
-entries_count (place ∷ places) (tokens ∷ m) held = omega (arith, entries_count places m held.2)

@@ -6,7 +6,7 @@ use Rattle.std.proofs.lemmas.Bool.{and_parts, leb-true}
 use Rattle.std.proofs.lemmas.Bool.Decides.{nat_tests}
 use Rattle.cpn_definitions.specs.Value.{applied}
 use Rattle.cpn_definitions.specs.Net.{PlainNet}
-use Rattle.cpn_definitions.specs.Colour.{PlainShape, has_shape, have_shapes, all_have_shape, no_shapes, list_shape, union_shape, constructor_at, takes}
+use Rattle.cpn_definitions.specs.Colour.{PlainShape, has_shape, have_shapes, all_have_shape, no_shapes, union_shape, takes}
 use Rattle.cpn_definitions.specs.Named.{constructors_of, count_of, has_names, have_names, arguments_have_names}
 use Rattle.cpn_core.specs.declared.values.Value.{Value}
 use Rattle.cpn_core.specs.declared.values.Value as values
@@ -16,6 +16,8 @@ use Rattle.cpn_core.specs.declared.values.Value.TheViews as value_views
 use Rattle.cpn_core.specs.declared.colours.Shape.TheViews as shape_views
 use Rattle.cpn_core.specs.Views.{value_view, values_view, constructor_view}
 use Rattle.cpn_core.specs.Colours.{shape_view, shapes_view, constructors_view}
+use Rattle.cpn_core.proofs.ShapeLevels.{shape_union}
+use Rattle.cpn_core.proofs.Shapes.{declared_at}
 use Rattle.cpn_report.specs.ValueText.{joined, argument_text, constructor_name, shaped_text, tuple_texts, list_texts}
 use Rattle.cpn_report.proofs.JoinedTexts.{rest_is, joined_step}
 
@@ -30,23 +32,7 @@ pub view_con : (k : ℕ) (argument : Option (Box Value Global)) → value_view (
 view_con k None = search (rules, values.the_lemmas)
 view_con k (Some b) = view_con_some k b
 
--- a list's shape, by its items'
-pub view_list : (b : Box Shape Global) → shape_view (shape_views.List b) ≡ list_shape (shape_view b.value)
-view_list b = search (rules, shapes.the_lemmas)
-
--- a union's shape, by its constructors'
-pub view_union : (number : ℕ) (cs : Vec (Option Shape) Global) → shape_view (shape_views.Union number cs) ≡ union_shape number (constructors_view cs.items)
-view_union number cs = search (rules, shapes.the_lemmas)
-
 -- ---- constructors
-
--- the constructor at a position among the declared ones
-pub declared_at : (cs : List (Option Shape)) (k : ℕ) (d : Option Shape) → k < length cs → d ≡ get_or cs k d → constructor_at (constructors_view cs) k ≡ Some (option_map shape_view d)
-declared_at [] k d lt is = absurd (omega arith)
-declared_at (None ∷ cs) zero d lt is = ap (λ o. Some (option_map shape_view o)) (sym is)
-declared_at (Some s ∷ cs) zero d lt is = ap (λ o. Some (option_map shape_view o)) (sym is)
-declared_at (None ∷ cs) (suc k) d lt is = declared_at cs k d (omega arith) is
-declared_at (Some s ∷ cs) (suc k) d lt is = declared_at cs k d (omega arith) is
 
 -- a constructor that a union declares, without or with an argument, is one of its constructors
 pub is_counted : (cs : List (Option Shape)) (k : ℕ) (argument : Option (Box Value Global)) (number : ℕ) → has_shape (constructor_view k argument) (union_shape number (constructors_view cs)) ≡ true → k < length cs
@@ -108,10 +94,10 @@ module _ (n : PlainNet) (cs : List (Option Shape)) (k : ℕ) (argument : Option 
 -- a constructor as the value and the union that it was read from
 module _ (n : PlainNet) (v : Value) (s : Shape) (k : ℕ) (argument : Option (Box Value Global)) (number : ℕ) (cs : Vec (Option Shape) Global) (value_is : v ≡ value_views.Con k argument) (shape_is : s ≡ shape_views.Union number cs) where
   pub constructed_has : has_shape (value_view v) (shape_view s) ≡ true → has_shape (constructor_view k argument) (union_shape number (constructors_view cs.items)) ≡ true
-  constructed_has has = sym (ap₂ has_shape (ap value_view value_is ∙ view_con k argument) (ap shape_view shape_is ∙ view_union number cs)) ∙ has
+  constructed_has has = sym (ap₂ has_shape (ap value_view value_is ∙ view_con k argument) (ap shape_view shape_is ∙ shape_union number cs)) ∙ has
 
   pub constructed_named : has_names n (shape_view s) ≡ true → has_names n (union_shape number (constructors_view cs.items)) ≡ true
-  constructed_named named = sym (ap (has_names n) (ap shape_view shape_is ∙ view_union number cs)) ∙ named
+  constructed_named named = sym (ap (has_names n) (ap shape_view shape_is ∙ shape_union number cs)) ∙ named
 
 -- ---- the items of a tuple
 

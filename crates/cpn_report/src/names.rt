@@ -14,7 +14,7 @@ pub fn has_names(net: &Net, colour: &Colour) -> bool
 }
 
 #[cycle(names)]
-#[tactic(auto, using(crate::proofs::ShapedText::view_list, crate::proofs::ShapedText::view_union, crate::proofs::ShapedText::counted))]
+#[tactic(auto, using(cpn_core::proofs::ShapeLevels::shape_list, cpn_core::proofs::ShapeLevels::shape_union, crate::proofs::ShapedText::counted))]
 fn is_named(net: &Net, shape: &Shape) -> bool
     ensures { result ≡ net_has_names (net_view net.now) (shape_view shape.now) }
 {

@@ -6,7 +6,7 @@ use Rattle.std.proofs.lemmas.Bool.{and_parts}
 use Rattle.std.proofs.lemmas.List.{take-append-drop, length-take}
 use Rattle.std.proofs.lemmas.Option.{same_Some}
 use Rattle.cpn_definitions.specs.Bounds.{most_made, IsBounded}
-use Rattle.cpn_definitions.specs.Lists.{with_item, with_items, in_order}
+use Rattle.cpn_definitions.specs.Lists.{in_order}
 use Rattle.cpn_definitions.specs.Marking.{Marking}
 use Rattle.cpn_definitions.specs.Meaning.{PlainBinding}
 use Rattle.cpn_definitions.specs.Net.{PlainArc, PlainTransition, PlainNet, transition_at}
@@ -18,16 +18,16 @@ use Rattle.cpn_definitions.specs.Times.{last_time}
 use Rattle.cpn_definitions.proofs.BoundedMarkings.{bounded_by, taken_bounded, made_bounded}
 use Rattle.cpn_definitions.proofs.LegalSequences.{covered_is_bound}
 use Rattle.cpn_definitions.proofs.Markings.{MayBeHeld, subtracted_marking, outputs_sound_at, outputs_held, occurred_marking}
-use Rattle.cpn_definitions.proofs.OrderedLists.{all_with_item}
+use Rattle.cpn_definitions.proofs.OrderedLists.{each_with_items}
 use Rattle.cpn_definitions.proofs.Outcomes.{bound_parts, same_given}
 use Rattle.cpn_definitions.proofs.PlaceCounts.{outputs_are_few}
 use Rattle.cpn_definitions.proofs.RisingLists.{each_in, each_implied, each_appended, each_flat}
 use Rattle.cpn_definitions.proofs.SoundElements.{sound_transition}
+use Rattle.cpn_definitions.proofs.ListItems.{split_at, all_parts}
 use Rattle.cpn_runs.specs.Bounds.{most_after}
 use Rattle.cpn_runs.specs.HoleRun.{PlainClaim, Status, open_claim, done_with, faulted_with, added, after_claim, marking_left}
 use Rattle.cpn_runs.specs.Playable.{IsPlayable}
 use Rattle.cpn_runs.specs.State.{PlainSetup, PlainEvent, claim_made, claim_completed, clock_moved, cut_made, PlainState, first_state, unclaimed_in, new_claim, MayClaim, MayComplete, MayMove, MayCut, Happens, Leads, IsState}
-use Rattle.cpn_runs.proofs.Items.{split_at, all_joined, all_parts}
 use Rattle.cpn_runs.proofs.Journals.{outputs_are}
 use Rattle.cpn_runs.proofs.Sequences.{left_parts}
 use Rattle.cpn_runs.proofs.States.{IsClaimOf, every_state}
@@ -57,10 +57,6 @@ arcs_on_places n t b time delay (arc ∷ arcs) made sound is =
     subst (AllByRecursion (IsOnPlace n)) (same_given (first.0 ++ rest.0) made rest.2)
     (each_appended (IsOnPlace n) first.0 rest.0 (arc_on_place n b time delay arc first.0 sound.0.place_known first.1) (arcs_on_places n t b time delay arcs rest.0 sound.1 rest.1))
 
-all_with_items : (n : PlainNet) (xs ys : List Made) → AllByRecursion (IsOnPlace n) xs → AllByRecursion (IsOnPlace n) ys → AllByRecursion (IsOnPlace n) (with_items made_cmp xs ys)
-all_with_items n [] ys first second = second
-all_with_items n (x ∷ xs) ys first second = all_with_items n xs (with_item made_cmp x ys) first.1 (all_with_item made_cmp (IsOnPlace n) x ys first.0 second)
-
 -- the outputs of an element of a sound net are on places of the net
 pub outputs_on_places : (n : PlainNet) (e : PlainElement) (time : ℕ) (outputs : List Made) → IsSound n → outputs_of n e time ≡ gives outputs → AllByRecursion (IsOnPlace n) outputs
 unfolding outputs_of
@@ -69,7 +65,7 @@ outputs_on_places n e time outputs sound is =
     let delay = bound_parts (transition_delay n.functions t.delay e.binding time) _ outputs is in
     let made = bound_parts (gather (made_by n e.binding time delay.0) t.outputs) _ outputs delay.2 in
     subst (AllByRecursion (IsOnPlace n)) (same_given (in_order made_cmp made.0) outputs made.2)
-    (all_with_items n made.0 [] (arcs_on_places n t e.binding time delay.0 t.outputs made.0 (outputs_sound_at n n.transitions e.transition sound.transitions_sound) made.1) tt)
+    (each_with_items made_cmp (IsOnPlace n) made.0 [] (arcs_on_places n t e.binding time delay.0 t.outputs made.0 (outputs_sound_at n n.transitions e.transition sound.transitions_sound) made.1) tt)
 
 -- ---- the outputs of a claim
 
@@ -157,7 +153,7 @@ claim_within setup old seat number new within c =
     let below = c.below_limit in
     subst (IsWithin setup) (sym c.new_is) (record {
       few_claims = omega (arith, longer, number_is, below);
-      in_time = all_joined (λ k. k.time ≤ old.clock) old.claims (claim ∷ []) within.in_time (same, tt);
+      in_time = each_appended (λ k. k.time ≤ old.clock) old.claims (claim ∷ []) within.in_time (same, tt);
     })
 
 completion_within : (setup : PlainSetup) (old : PlainState) (seat number : ℕ) (new : PlainState) → IsWithin setup old → MayComplete setup old seat number new → IsWithin setup new
@@ -171,7 +167,7 @@ completion_within setup old seat number new within c =
     let each = all_parts (λ k. k.time ≤ old.clock) parts.before (claim ∷ parts.later) (subst (AllByRecursion (λ k. k.time ≤ old.clock)) parts.is within.in_time) in
     subst (IsWithin setup) (sym (c.new_is ∙ ap (λ cs. record old { claims = cs }) (parts.changed completed))) (record {
       few_claims = omega (arith, before, after, few);
-      in_time = all_joined (λ k. k.time ≤ old.clock) parts.before (completed ∷ parts.later) each.0 (each.1.0, each.1.1);
+      in_time = each_appended (λ k. k.time ≤ old.clock) parts.before (completed ∷ parts.later) each.0 (each.1.0, each.1.1);
     })
 
 move_within : (setup : PlainSetup) (old : PlainState) (time : ℕ) (new : PlainState) → IsWithin setup old → MayMove setup old time new → IsWithin setup new

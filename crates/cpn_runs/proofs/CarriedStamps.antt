@@ -2,29 +2,23 @@
 -- taken, and not above the threshold, it is taken in its place, and that one is left; else it is left itself.
 use Rattle.std.proofs.Common.{◌≡◌, ℕ, ◌<◌, ◌≤◌, Bool, true, false, cond, ◌&&◌, nat_lt, nat_le, List, [], ◌∷◌, refl, sym, ap, arith, nat_cmp, is_lt}
 use Rattle.std.proofs.lemmas.Bool.{cond_both, cond-false, leb-true, leb-false, le-leb, lt-leb, ltb-false, le-ltb, and_right}
-use Rattle.std.proofs.lemmas.Bool.Decides.{nat_tests}
 use Rattle.cpn_definitions.specs.Marking.{begins_by, without_latest}
 use Rattle.cpn_definitions.proofs.Stamps.{AreRising}
 use Rattle.cpn_definitions.proofs.Addition.{with_stamp}
+use Rattle.cpn_definitions.proofs.NumberTests.{not_earlier, earlier, is_behind}
 use Rattle.cpn_runs.specs.HoleRun.{latest_stamp}
-use Rattle.cpn_runs.proofs.Picks.{latest_at_least, is_behind, ahead_of}
+use Rattle.cpn_runs.proofs.Picks.{latest_at_least, ahead_of}
 
 -- whether a threshold prefers a stamp to one that it takes
 abbrev pub is_preferred : ℕ → ℕ → ℕ → Bool
 is_preferred t r s = nat_lt r s && nat_le s t
-
-ahead : (s r : ℕ) → is_lt (nat_cmp s r) ≡ true → s < r
-ahead s r h = grind (arith, nat_tests)
-
-not_ahead : (s r : ℕ) → is_lt (nat_cmp s r) ≡ false → r ≤ s
-not_ahead s r h = grind (arith, nat_tests)
 
 -- a threshold that finds a stamp finds one among more stamps too
 still_found : (t s : ℕ) (ss : List ℕ) → begins_by t ss ≡ true → begins_by t (with_stamp s ss) ≡ true
 still_found t s [] found = absurd cc
 still_found t s (r ∷ rs) found =
     cond_both (is_lt (nat_cmp s r)) (s ∷ r ∷ rs) (r ∷ with_stamp s rs) (λ xs. begins_by t xs ≡ true)
-    (λ h. let lt = ahead s r h in le-leb s t (omega (arith, lt, leb-true r t found))) (λ _. found)
+    (λ h. let lt = earlier s r h in le-leb s t (omega (arith, lt, leb-true r t found))) (λ _. found)
 
 -- among stamps that are all above it, it finds none with one more that is above it
 still_none : (t s : ℕ) (ss : List ℕ) → begins_by t ss ≡ false → t < s → begins_by t (with_stamp s ss) ≡ false
@@ -58,21 +52,21 @@ step s t (r ∷ rs) rising found = cases (begins_by t rs) (is_lt (nat_cmp s r)) 
     -- the one that is taken stands behind r, and the stamp ahead of it: the same is taken
     cases true true d e rest more before by above =
         let at_least : r ≤ latest_stamp t rs = latest_at_least t r rs rising.0 more in
-        let lt = ahead s r before in
+        let lt = earlier s r before in
         let stays : nat_lt (latest_stamp t rs) s ≡ false = le-ltb (latest_stamp t rs) s (omega arith) in
         record { takes = simp (more, before, found, stays); leaves = simp (more, before, found, stays) }
     -- both stand behind r
     cases true false d e rest more before by above =
         let ih = rest more in
         let at_least : r ≤ latest_stamp t rs = latest_at_least t r rs rising.0 more in
-        let le = not_ahead s r before in
+        let le = not_earlier s r before in
         let on : ℕ = cond (is_preferred t (latest_stamp t rs) s) (latest_stamp t rs) s in
         let behind : r ≤ on = cond_both (is_preferred t (latest_stamp t rs) s) (latest_stamp t rs) s (λ k. r ≤ k) (λ _. at_least) (λ _. le) in
         let found_more = still_found t s rs more in
         record { takes = simp (more, before, found_more, ih.takes); leaves = simp (more, before, found_more, ih.leaves) (sym (with_later on r (without_latest t rs) behind)) }
     -- r is taken, and the stamp stands ahead of it: r is taken still
     cases false true d e rest more before by above =
-        let lt = ahead s r before in
+        let lt = earlier s r before in
         let stays : nat_lt r s ≡ false = le-ltb r s (omega arith) in
         let first = ahead_of t s rs (omega (arith, low)) more in
         record { takes = simp (more, before, found, stays); leaves = simp (more, before, found, stays, first) }
@@ -84,7 +78,7 @@ step s t (r ∷ rs) rising found = cases (begins_by t rs) (is_lt (nat_cmp s r)) 
     -- r is taken, and the stamp is the same
     cases false false true false rest more before by above =
         let first = ahead_of t s rs (leb-true s t by) more in
-        let le = not_ahead s r before in
+        let le = not_earlier s r before in
         let same : s ≡ r = omega (arith, ltb-false r s above) in
         record { takes = simp (more, before, by, above, first) same; leaves = simp (more, before, by, above, found, first) (ap (λ x. x ∷ rs) (sym same)) }
     -- r is taken, and the stamp is above the threshold

@@ -2,7 +2,7 @@
 -- it leaves one token more, the one that is carried on.
 use Rattle.std.proofs.Common.{◌≡◌, ℕ, suc, zero, ◌<◌, ◌==◌, Bool, true, false, cond, ◌&&◌, List, [], ◌∷◌, map, length, refl, sym, ap, ap₂, subst, ◌∙◌, eqb-true, eq-eqb, arith}
 use Rattle.std.specs.List.{filter}
-use Rattle.std.proofs.lemmas.Bool.{cond_both, and_from}
+use Rattle.std.proofs.lemmas.Bool.{and_from}
 use Rattle.cpn_definitions.specs.Value.{PlainValue}
 use Rattle.cpn_definitions.specs.Order.{same_value}
 use Rattle.cpn_definitions.specs.ValueOrder.{same_value_true, same_value_refl, token_cmp_total, token_same}
@@ -11,23 +11,17 @@ use Rattle.cpn_definitions.specs.Marking.{PlainToken, token_at, Tokens, Marking,
 use Rattle.cpn_definitions.specs.Occurrence.{Needed, Made, threshold, subtract}
 use Rattle.cpn_definitions.proofs.OrderedLists.{added_either_way}
 use Rattle.cpn_definitions.proofs.SortedTokens.{add_token_sorted, without_token_sorted, added_as_item}
-use Rattle.cpn_definitions.proofs.Stamps.{stamps_rise, stamps_without, stamps_without_other}
+use Rattle.cpn_definitions.proofs.Stamps.{stamps_rise}
 use Rattle.cpn_definitions.proofs.Subtraction.{AllAreSorted, is_for, thresholds_for, sorted_without, taken}
 use Rattle.cpn_definitions.proofs.Addition.{with_stamp, with_stamps, stamps_with, is_made_for, with_made, add_made_is_more}
 use Rattle.cpn_definitions.proofs.RicherMarkings.{covers_first}
+use Rattle.cpn_definitions.proofs.SameTokens.{same_tokens, stamps_of_without}
 use Rattle.cpn_runs.specs.HoleRun.{latest_stamp, pick_of, picks_of}
 use Rattle.cpn_runs.specs.Filling.{pick_after, past_pick, claim_after, past_claim}
 use Rattle.cpn_runs.proofs.CarriedStamps.{is_preferred, step}
-use Rattle.cpn_runs.proofs.KnownTokens.{same_tokens}
 use Rattle.cpn_runs.proofs.TwoPlaces.{different_places, one_place}
 
 -- ---- the tokens of one place
-
--- the stamps of each value after a token was taken
-stamps_left : (w v : PlainValue) (t : ℕ) (ks : Tokens) → AreSorted ks → stamps w (without_token v t ks) ≡ cond (same_value w v) (without_latest t (stamps w ks)) (stamps w ks)
-stamps_left w v t ks sorted =
-    cond_both (same_value w v) (without_latest t (stamps w ks)) (stamps w ks) (λ ss. stamps w (without_token v t ks) ≡ ss)
-    (λ h. subst (λ u. stamps w (without_token u t ks) ≡ without_latest t (stamps w ks)) (same_value_true w v h) (stamps_without w t ks sorted)) (λ h. stamps_without_other w v t ks h)
 
 -- the stamp that is carried on past the token that is taken of a value, where it is of that value
 abbrev pub carried_on : PlainValue → ℕ → PlainValue → ℕ → Tokens → ℕ
@@ -40,10 +34,10 @@ take_among v t u s ks sorted found =
     let more = add_token_sorted (token_at u s) ks sorted in
     let fewer = without_token_sorted v t ks sorted in
     same_tokens (without_token v t (add_token (token_at u s) ks)) (add_token (token_at u on) (without_token v t ks)) (without_token_sorted v t (add_token (token_at u s) ks) more) (add_token_sorted (token_at u on) (without_token v t ks) fewer)
-    (λ w. stamps_left w v t (add_token (token_at u s) ks) more
+    (λ w. stamps_of_without w v t (add_token (token_at u s) ks) more
     ∙ ap (λ ss. cond (same_value w v) (without_latest t ss) ss) (stamps_with w u s ks sorted)
     ∙ cases w (same_value w v) (same_value w u) (same_value v u) refl refl refl
-    ∙ sym (stamps_with w u on (without_token v t ks) fewer ∙ ap (λ ss. cond (same_value w u) (with_stamp on ss) ss) (stamps_left w v t ks sorted)))
+    ∙ sym (stamps_with w u on (without_token v t ks) fewer ∙ ap (λ ss. cond (same_value w u) (with_stamp on ss) ss) (stamps_of_without w v t ks sorted)))
   where
     on : ℕ
     on = carried_on v t u s ks

@@ -9,9 +9,10 @@ use Rattle.cpn_definitions.specs.Occurrence.{Made, needed_cmp, threshold, subtra
 use Rattle.cpn_definitions.proofs.Subtraction.{AllAreSorted}
 use Rattle.cpn_definitions.proofs.Addition.{with_made, sorted_with, sorted_added}
 use Rattle.cpn_definitions.proofs.RicherMarkings.{covered_in_turn, richer_covers, richer_with_more, sorted_subtracted}
+use Rattle.cpn_definitions.proofs.ListItems.{made_of}
 use Rattle.cpn_runs.specs.HoleRun.{PlainClaim, Status, PlainHoleRun, added, picks_of, begun_with, after_claim, hole_run, marking_left}
 use Rattle.cpn_runs.specs.Filling.{past_claim, past_claims, claims_after, carried_past, picks_after, filled_run}
-use Rattle.cpn_runs.proofs.Sequences.{made_of, run_on, run_from}
+use Rattle.cpn_runs.proofs.Sequences.{run_on, run_from}
 use Rattle.cpn_runs.proofs.CarriedTokens.{with_either_way, token_taking}
 
 -- the needs of a claim stand in their order
@@ -22,7 +23,7 @@ HasOrder claim = IsInOrder needed_cmp claim.needs
 abbrev pub completed : Status → PlainClaim → PlainClaim
 completed status claim = record claim { status = status }
 
-sorted_after : (claim : PlainClaim) (m : Marking) → AllAreSorted m → AllAreSorted (after_claim claim m)
+pub sorted_after : (claim : PlainClaim) (m : Marking) → AllAreSorted m → AllAreSorted (after_claim claim m)
 sorted_after claim m sorted = sorted_added (added claim.status) (subtract (threshold claim.time) claim.needs m) (sorted_subtracted (threshold claim.time) claim.needs m sorted)
 
 -- ---- one token more ahead of a run of claims

@@ -7,11 +7,10 @@ use Rattle.std.proofs.lemmas.Bool.{and_parts}
 use Rattle.std.proofs.lemmas.Option.{same_Some}
 use Rattle.cpn_definitions.specs.Outcome.{Outcome, gives, faults, no_meaning}
 use Rattle.cpn_definitions.specs.Occurrence.{Made, outputs_of}
+use Rattle.cpn_definitions.proofs.ListItems.{split_at, all_parts, made_of}
 use Rattle.cpn_runs.specs.HoleRun.{Status, done_with, faulted_with, added, PlainHoleRun, hole_run, is_open}
 use Rattle.cpn_runs.specs.State.{PlainSetup, PlainState, PlainEvent, claim_completed, given_outputs, status_after, Happens, IsState}
 use Rattle.cpn_runs.specs.Filling.{filled_run, IsFilled}
-use Rattle.cpn_runs.proofs.Items.{split_at, all_parts}
-use Rattle.cpn_runs.proofs.Sequences.{made_of}
 use Rattle.cpn_runs.proofs.States.{every_state}
 use Rattle.cpn_runs.proofs.FilledRuns.{HasOrder, completed, filling_run}
 use Rattle.cpn_runs.proofs.KeptPicks.{each_is_left, picks_kept}

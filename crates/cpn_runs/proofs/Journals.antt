@@ -19,10 +19,11 @@ use Rattle.cpn_definitions.proofs.UntimedPlaces.{MadeStamped, stamped_subtracted
 use Rattle.cpn_definitions.proofs.Markings.{held_at}
 use Rattle.cpn_definitions.proofs.Needs.{needs_in_order}
 use Rattle.cpn_definitions.proofs.Subtraction.{AllAreSorted}
+use Rattle.cpn_definitions.proofs.ListItems.{split_at, all_parts}
+use Rattle.cpn_definitions.proofs.RisingLists.{each_appended}
 use Rattle.cpn_runs.specs.HoleRun.{PlainClaim, Status, open_claim, done_with, faulted_with, added, after_claim, marking_left, is_open, is_done, done_prefix}
 use Rattle.cpn_runs.specs.State.{PlainSetup, PlainState, PlainEvent, claim_made, claim_completed, clock_moved, cut_made, PlainEnd, dead, steps_made, until_passed, fault_end, PlainCut, first_state, unclaimed_in, settled_in, committed, owed_cut, cut_at, cut_by, given_needs, new_claim, status_after, MayClaim, MayComplete, MayMove, MayCut, Happens, Leads, IsState, timed, numbered, committed_occurrences, HasCause, EndsBy}
 use Rattle.cpn_runs.specs.Run.{Outlook, HasOutlook, IsTrueFault, IsRun}
-use Rattle.cpn_runs.proofs.Items.{split_at, all_joined, all_parts}
 use Rattle.cpn_runs.proofs.Sequences.{legal_joined, legal_moved, left_parts, left_from, left_split, marking_left_more}
 use Rattle.cpn_runs.proofs.CoveredElements.{covered_needs, covered_too, after_is, least_now}
 use Rattle.cpn_runs.proofs.FilledRuns.{HasOrder, completed, filled_leaves}
@@ -150,7 +151,7 @@ claim_leaves setup old seat number new c stamped moved =
         mid = moved.mid;
         mid_is = moved.mid_is;
         legal = moved.legal;
-        made_now = all_joined (λ k. k.time ≡ old.clock) moved.since (claim ∷ []) moved.made_now (refl, tt);
+        made_now = each_appended (λ k. k.time ≡ old.clock) moved.since (claim ∷ []) moved.made_now (refl, tt);
       };
       true_cut = λ cut stands. absurd (not_none old.cut cut stands c.no_cut);
     })
@@ -177,7 +178,7 @@ completion_leaves setup journal old seat number new sorted reached leaves c =
         mid = moved.mid;
         mid_is = moved.mid_is;
         legal = moved.legal;
-        made_now = all_joined (λ k. k.time ≡ old.clock) behind.ahead (completed c.status claim ∷ parts.later) now.0 (now.1.0, now.1.1);
+        made_now = each_appended (λ k. k.time ≡ old.clock) behind.ahead (completed c.status claim ∷ parts.later) now.0 (now.1.0, now.1.1);
       };
       true_cut = λ cut stands. absurd (no_completion_after_a_cut setup journal old seat number new cut reached stands c);
     })

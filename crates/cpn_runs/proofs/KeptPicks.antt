@@ -6,7 +6,7 @@ use Rattle.std.proofs.lemmas.List.{take-append-drop}
 use Rattle.cpn_definitions.specs.Occurrence.{Made}
 use Rattle.cpn_runs.specs.HoleRun.{PlainPick, PlainHoleRun}
 use Rattle.cpn_runs.specs.Filling.{is_of_token, prefers, takes, pick_after, past_pick, claim_after, past_claim, claims_after, past_claims, picks_after, carried_past, IsLeftFor, IsLaterPick, EachTwo, filled_run}
-use Rattle.cpn_runs.proofs.Items.{each_itself, each_through, each_joined}
+use Rattle.cpn_runs.proofs.EachTwoItems.{each_itself, each_through, each_joined}
 
 -- a pick takes a token that is later than its own
 later_than_own : (made : Made) (pick : PlainPick) → takes pick made ≡ true → pick.stamp ≤ made.stamp

@@ -1,23 +1,22 @@
-pub mod Items
+mod EachTwoItems
 pub mod Sequences
-pub mod CoveredElements
+mod CoveredElements
 pub mod Cuts
 pub mod States
-pub mod OneJournal
+mod OneJournal
 pub mod OneRun
 pub mod Journals
 pub mod BoundedStates
-pub mod Picks
-pub mod CarriedStamps
-pub mod KnownTokens
-pub mod TwoPlaces
-pub mod CarriedTokens
+mod Picks
+mod CarriedStamps
+mod TwoPlaces
+mod CarriedTokens
 pub mod FilledRuns
-pub mod KeptPicks
+mod KeptPicks
 pub mod FilledStates
-pub mod Rows
-pub mod FilledRows
-pub mod WorkedNet
-pub mod TwoSeats
-pub mod FaultyRuns
-pub mod MovedRows
+mod Rows
+mod FilledRows
+mod WorkedNet
+mod TwoSeats
+mod FaultyRuns
+mod MovedRows

@@ -4,12 +4,13 @@ use Rattle.std.proofs.Common.{◌≡◌, ℕ, ◌≤◌, ◌<◌, true, false, L
 use Rattle.cpn_definitions.specs.Marking.{Marking}
 use Rattle.cpn_definitions.specs.Occurrence.{Made, covered, needs_of, outputs_of, after}
 use Rattle.cpn_definitions.specs.Legal.{LeastTime}
+use Rattle.cpn_definitions.proofs.TruthValues.{not_both}
 use Rattle.cpn_runs.specs.HoleRun.{PlainClaim, done_with}
 use Rattle.cpn_runs.specs.State.{PlainSetup, claim_made, claim_completed, clock_moved, dead, steps_made, until_passed, PlainState, first_state, new_claim, MayClaim, MayComplete, MayMove, EndsBy}
 use Rattle.cpn_runs.specs.Run.{IsRun}
 use Rattle.cpn_runs.proofs.States.{least_is_unique}
 use Rattle.cpn_runs.proofs.TwoSeats.{drawn_alone, enabled_now}
-use Rattle.cpn_runs.proofs.WorkedNet.{seven, worked, move, seven_at_three, moved, entry, clash, covered_at_three, covered_no_earlier, after_three, least_is_three, one_is_enabled, no_other, moved_is_dead, none_is_enabled}
+use Rattle.cpn_runs.proofs.WorkedNet.{seven, worked, move, seven_at_three, moved, entry, covered_at_three, covered_no_earlier, after_three, least_is_three, one_is_enabled, no_other, moved_is_dead, none_is_enabled}
 
 -- runs that may make so many claims up to a last time
 abbrev setup : ℕ → ℕ → PlainSetup
@@ -54,7 +55,7 @@ not_with_something_ready : (time : ℕ) (new : PlainState) → MayMove (setup 2 
 not_with_something_ready time new m =
     let same : seven_at_three ≡ m.marking = (let e : Some seven_at_three ≡ Some m.marking = m.marking_is in cc) in
     let P : Marking → Type 0 = λ k. covered worked k 3 move ≡ false in
-    clash (covered worked seven_at_three 3 move) covered_at_three (subst P (sym same) (m.none_ready move))
+    not_both (covered worked seven_at_three 3 move) covered_at_three (subst P (sym same) (m.none_ready move))
 
 not_with_an_open_claim : (time : ℕ) (new : PlainState) → MayMove (setup 2 9) (state 3 (new_claim worked 0 3 move ∷ [])) time new → ⊥
 not_with_an_open_claim time new m = let e : true ≡ false = m.none_open in cc
@@ -127,7 +128,7 @@ not_dead_yet : EndsBy (setup 2 2) (first_state (setup 2 2)) dead → ⊥
 not_dead_yet ends =
     let same : seven_at_three ≡ ends.has_cause.1.0 = (let e : Some seven_at_three ≡ Some ends.has_cause.1.0 = ends.has_cause.1.1 in cc) in
     let P : Marking → Type 0 = λ k. covered worked k 3 move ≡ false in
-    clash (covered worked seven_at_three 3 move) covered_at_three (subst P (sym same) (ends.has_cause.1.2 3 move))
+    not_both (covered worked seven_at_three 3 move) covered_at_three (subst P (sym same) (ends.has_cause.1.2 3 move))
 
 until_no_other_time : (time : ℕ) → EndsBy (setup 2 2) (first_state (setup 2 2)) (until_passed time) → time ≡ 3
 until_no_other_time time ends =

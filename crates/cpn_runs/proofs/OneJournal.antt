@@ -3,14 +3,15 @@ use Rattle.std.proofs.Common.{◌≡◌, ℕ, zero, suc, ◌<◌, ◌≤◌, ◌
 use Rattle.std.specs.List.{list_any}
 use Rattle.std.specs.Option.{MatchOption}
 use Rattle.std.proofs.Math.Path.{ap₂}
-use Rattle.std.proofs.lemmas.Bool.{and_parts}
+use Rattle.std.proofs.lemmas.Bool.{and_parts, or_parts}
 use Rattle.std.proofs.lemmas.Option.{same_Some}
 use Rattle.cpn_definitions.specs.Marking.{Marking}
 use Rattle.cpn_definitions.specs.Occurrence.{covered}
 use Rattle.cpn_definitions.specs.Legal.{LeastTime}
+use Rattle.cpn_definitions.proofs.TruthValues.{not_both}
+use Rattle.cpn_definitions.proofs.ListItems.{last_changed}
 use Rattle.cpn_runs.specs.HoleRun.{PlainClaim, is_open, done_prefix}
 use Rattle.cpn_runs.specs.State.{PlainSetup, PlainEvent, claim_made, claim_completed, clock_moved, cut_made, PlainEnd, dead, steps_made, until_passed, fault_end, PlainState, unclaimed_in, owed_cut, is_held_by, new_claim, PlainCut, MayClaim, MayComplete, MayMove, MayCut, Happens, Leads, HasCause, EndsBy}
-use Rattle.cpn_runs.proofs.Items.{last_changed}
 use Rattle.cpn_runs.proofs.Cuts.{AreDone, committed_are_done, done_owe_none, done_is_not_open, done_at, owed_is}
 use Rattle.cpn_runs.proofs.States.{claim_is_unique, completion_is_unique, least_is_unique, move_is_unique, cut_is_unique, closed_status, drawn_now}
 
@@ -45,13 +46,6 @@ pub record IsCut (state : PlainState) : Type 0 where
 abbrev pub IsPhase : PlainSetup → PlainState → Type 0
 IsPhase setup state = IsCalm setup state ⊎ (IsBusy setup state ⊎ IsCut state)
 
-clash : (b : Bool) → b ≡ true → b ≡ false → ⊥
-clash b is_true is_false = cc
-
-or_false : (a b : Bool) → (a || b) ≡ false → (a ≡ false) × (b ≡ false)
-or_false true b is = cc
-or_false false b is = (refl, is)
-
 -- a claim among closed ones is not open
 closed_at : (claims : List PlainClaim) (i : ℕ) (claim : PlainClaim) → AreClosed claims → slice_get claims i ≡ Some claim → is_open claim.status ≡ false
 closed_at [] zero claim closed is = cc
@@ -59,8 +53,8 @@ closed_at [] (suc i) claim closed is = cc
 closed_at (k ∷ ks) zero claim closed is =
     let same : k ≡ claim = cc in
     let P : PlainClaim → Type 0 = λ c. is_open c.status ≡ false in
-    subst P same (or_false (is_open k.status) _ closed).0
-closed_at (k ∷ ks) (suc i) claim closed is = closed_at ks i claim (or_false (is_open k.status) _ closed).1 is
+    subst P same (or_parts (is_open k.status) _ closed).0
+closed_at (k ∷ ks) (suc i) claim closed is = closed_at ks i claim (or_parts (is_open k.status) _ closed).1 is
 
 -- an open claim behind closed ones is the last
 open_is_last : (before : List PlainClaim) (last claim : PlainClaim) (i : ℕ) → AreClosed before → slice_get (before ++ last ∷ []) i ≡ Some claim → is_open claim.status ≡ true → (i ≡ length before) × (claim ≡ last)
@@ -70,9 +64,9 @@ open_is_last [] last claim (suc (suc i)) closed is opened = cc
 open_is_last (k ∷ ks) last claim zero closed is opened =
     let same : k ≡ claim = cc in
     let P : PlainClaim → Type 0 = λ c. is_open c.status ≡ false in
-    absurd (clash (is_open claim.status) opened (subst P same (or_false (is_open k.status) _ closed).0))
+    absurd (not_both (is_open claim.status) opened (subst P same (or_parts (is_open k.status) _ closed).0))
 open_is_last (k ∷ ks) last claim (suc i) closed is opened =
-    let rest = open_is_last ks last claim i (or_false (is_open k.status) _ closed).1 is opened in
+    let rest = open_is_last ks last claim i (or_parts (is_open k.status) _ closed).1 is opened in
     (ap (λ (n : ℕ). suc n) rest.0, rest.1)
 
 -- the last claim is held by seat 0
@@ -107,14 +101,14 @@ held_is_open seat claim held =
 
 pub none_completes_calmly : (setup : PlainSetup) (old : PlainState) (seat number : ℕ) (new : PlainState) → IsCalm setup old → MayComplete setup old seat number new → ⊥
 none_completes_calmly setup old seat number new calm c =
-    clash (is_open c.held_claim.status) (held_is_open seat c.held_claim c.held).0 (closed_at old.claims number c.held_claim calm.closed c.claim_is)
+    not_both (is_open c.held_claim.status) (held_is_open seat c.held_claim c.held).0 (closed_at old.claims number c.held_claim calm.closed c.claim_is)
 
 pub none_claims_busily : (setup : PlainSetup) (old : PlainState) (seat number : ℕ) (new : PlainState) → setup.limits.seats ≡ 1 → IsBusy setup old → MayClaim setup old seat number new → ⊥
 none_claims_busily setup old seat number new one busy c =
     let zero_seat : seat ≡ 0 = (let known = c.seat_known in omega arith) in
     let P : ℕ → Type 0 = λ s. list_any (is_held_by s) old.claims ≡ false in
     let Q : List PlainClaim → Type 0 = λ cs. list_any (is_held_by 0) cs ≡ false in
-    clash (list_any (is_held_by 0) (busy.before ++ busy.last ∷ [])) (last_is_held busy.before busy.last busy.last_open busy.seat) (subst Q busy.claims_are (subst P zero_seat c.seat_free))
+    not_both (list_any (is_held_by 0) (busy.before ++ busy.last ∷ [])) (last_is_held busy.before busy.last busy.last_open busy.seat) (subst Q busy.claims_are (subst P zero_seat c.seat_free))
 
 -- ---- what they lead to
 
@@ -136,7 +130,7 @@ claim_makes_busy setup old seat number new one calm c =
 closed_more : (claims : List PlainClaim) (claim : PlainClaim) → AreClosed claims → is_open claim.status ≡ false → AreClosed (claims ++ claim ∷ [])
 closed_more [] claim closed is = rw is refl
 closed_more (k ∷ ks) claim closed is =
-    let parts = or_false (is_open k.status) _ closed in
+    let parts = or_parts (is_open k.status) _ closed in
     rw parts.0 (closed_more ks claim parts.1 is)
 
 -- what a completion completes, in a busy state
@@ -200,7 +194,7 @@ claim_or_move : (setup : PlainSetup) (old : PlainState) (seat number time : ℕ)
 claim_or_move setup old seat number time new new' a b =
     let same : a.marking ≡ b.marking = same_Some a.marking b.marking (sym a.marking_is ∙ b.marking_is) in
     let P : Marking → Type 0 = λ m. covered setup.net m old.clock a.drawn.element ≡ true in
-    clash (covered setup.net b.marking old.clock a.drawn.element) (subst P same (drawn_now setup old seat number new a)) (b.none_ready a.drawn.element)
+    not_both (covered setup.net b.marking old.clock a.drawn.element) (subst P same (drawn_now setup old seat number new a)) (b.none_ready a.drawn.element)
 
 calm_same : (setup : PlainSetup) (old : PlainState) (event event' : PlainEvent) (new new' : PlainState) → setup.limits.seats ≡ 1 → IsCalm setup old → Happens setup old event new → Happens setup old event' new' → IsSameEvent event event' new new' × IsPhase setup new
 calm_same setup old (claim_made seat number) (claim_made seat' number') new new' one calm a b =
@@ -234,7 +228,7 @@ busy_is_open : (setup : PlainSetup) (state : PlainState) → IsBusy setup state 
 busy_is_open setup state busy = subst (λ cs. list_any (λ claim. is_open claim.status) cs ≡ true) (sym busy.claims_are) (open_is_found busy.before busy.last busy.last_open)
 
 none_moves_busily : (setup : PlainSetup) (old : PlainState) (time : ℕ) (new : PlainState) → IsBusy setup old → MayMove setup old time new → ⊥
-none_moves_busily setup old time new busy c = clash (list_any (λ claim. is_open claim.status) old.claims) (busy_is_open setup old busy) c.none_open
+none_moves_busily setup old time new busy c = not_both (list_any (λ claim. is_open claim.status) old.claims) (busy_is_open setup old busy) c.none_open
 
 busy_same : (setup : PlainSetup) (old : PlainState) (event event' : PlainEvent) (new new' : PlainState) → setup.limits.seats ≡ 1 → IsBusy setup old → Happens setup old event new → Happens setup old event' new' → IsSameEvent event event' new new' × IsPhase setup new
 busy_same setup old (claim_completed seat number) (claim_completed seat' number') new new' one busy a b =
@@ -254,7 +248,7 @@ busy_same setup old (cut_made number) (cut_made number') new new' one busy a b =
 none_after_cut : (setup : PlainSetup) (old : PlainState) (event : PlainEvent) (new : PlainState) → IsCut old → Happens setup old event new → ⊥
 none_after_cut setup old (claim_made seat number) new over a = not_owed_and_owed old.cut over.cut a.no_cut over.stands
 none_after_cut setup old (claim_completed seat number) new over a =
-    clash (is_open a.held_claim.status) (held_is_open seat a.held_claim a.held).0 (done_is_not_open a.held_claim.status (done_at old.claims number a.held_claim over.all_done a.claim_is))
+    not_both (is_open a.held_claim.status) (held_is_open seat a.held_claim a.held).0 (done_is_not_open a.held_claim.status (done_at old.claims number a.held_claim over.all_done a.claim_is))
 none_after_cut setup old (clock_moved time) new over a = not_owed_and_owed old.cut over.cut a.no_cut over.stands
 none_after_cut setup old (cut_made number) new over a = not_owed_and_owed (owed_cut setup old) a.cut (done_owe_none old.claims over.all_done) a.owed
 
@@ -265,7 +259,7 @@ one_event setup old event event' new new' one (inr (inr over)) a b = absurd (non
 
 -- a busy state has no end
 pub busy_has_no_end : (setup : PlainSetup) (state : PlainState) (cause : PlainEnd) → IsBusy setup state → EndsBy setup state cause → ⊥
-busy_has_no_end setup state cause busy ends = clash (list_any (λ claim. is_open claim.status) state.claims) (busy_is_open setup state busy) ends.none_open
+busy_has_no_end setup state cause busy ends = not_both (list_any (λ claim. is_open claim.status) state.claims) (busy_is_open setup state busy) ends.none_open
 
 -- the cause of the end of a calm state
 calm_cause : (setup : PlainSetup) (state : PlainState) (cause : PlainEnd) → IsCalm setup state → EndsBy setup state cause → HasCause setup state cause
@@ -285,11 +279,11 @@ no_claim_at_end setup state steps_made seat number new in_time has c =
     absurd (omega arith)
 no_claim_at_end setup state dead seat number new in_time has c =
     let P : Marking → Type 0 = λ m. covered setup.net m state.clock c.drawn.element ≡ true in
-    clash (covered setup.net has.1.0 state.clock c.drawn.element) (subst P (one_unclaimed setup state c.marking has.1.0 c.marking_is has.1.1) (drawn_now setup state seat number new c)) (has.1.2 state.clock c.drawn.element)
+    not_both (covered setup.net has.1.0 state.clock c.drawn.element) (subst P (one_unclaimed setup state c.marking has.1.0 c.marking_is has.1.1) (drawn_now setup state seat number new c)) (has.1.2 state.clock c.drawn.element)
 no_claim_at_end setup state (until_passed time) seat number new in_time has c =
     let past : setup.limits.until < time = has.1 in
     let P : Marking → Type 0 = λ m. covered setup.net m state.clock c.drawn.element ≡ true in
-    clash (covered setup.net has.2.0 state.clock c.drawn.element) (subst P (one_unclaimed setup state c.marking has.2.0 c.marking_is has.2.1) (drawn_now setup state seat number new c))
+    not_both (covered setup.net has.2.0 state.clock c.drawn.element) (subst P (one_unclaimed setup state c.marking has.2.0 c.marking_is has.2.1) (drawn_now setup state seat number new c))
     (has.2.2.none_earlier state.clock c.drawn.element (omega arith) (omega arith))
 no_claim_at_end setup state (fault_end e fault) seat number new in_time has c = has
 
@@ -300,7 +294,7 @@ no_move_at_end setup state steps_made time new has c =
     absurd (omega arith)
 no_move_at_end setup state dead time new has c =
     let P : Marking → Type 0 = λ m. covered setup.net m time c.least.some.0 ≡ true in
-    clash (covered setup.net has.1.0 time c.least.some.0) (subst P (one_unclaimed setup state c.marking has.1.0 c.marking_is has.1.1) c.least.some.1) (has.1.2 time c.least.some.0)
+    not_both (covered setup.net has.1.0 time c.least.some.0) (subst P (one_unclaimed setup state c.marking has.1.0 c.marking_is has.1.1) c.least.some.1) (has.1.2 time c.least.some.0)
 no_move_at_end setup state (until_passed other) time new has c =
     let P : Marking → Type 0 = λ m. LeastTime setup.net m state.clock time in
     let same : time ≡ other = least_is_unique setup.net has.2.0 state.clock time other (subst P (one_unclaimed setup state c.marking has.2.0 c.marking_is has.2.1) c.least) has.2.2 in

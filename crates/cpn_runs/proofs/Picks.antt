@@ -3,10 +3,8 @@
 use Rattle.std.proofs.Common.{◌≡◌, ℕ, suc, ◌<◌, ◌≤◌, ◌==◌, Bool, true, false, ◌&&◌, cond, nat_le, List, [], ◌∷◌, map, length, Some, refl, sym, ap, ap₂, ◌∙◌, eqb-true, arith, nat_cmp, is_lt, leb-true, leb-false}
 use Rattle.std.specs.List.{filter}
 use Rattle.std.proofs.lemmas.Bool.{cond-true, cond-false, cond_both, and_parts}
-use Rattle.std.proofs.lemmas.Bool.Decides.{nat_tests}
-use Rattle.std.proofs.lemmas.Cmp.{ranked, nat_cmp_total}
+use Rattle.std.proofs.lemmas.Cmp.{nat_cmp_total}
 use Rattle.std.proofs.lemmas.Option.{same_Some}
-use Rattle.std.specs.declared.cmp.Ordering.TheVariants.{Equal}
 use Rattle.cpn_definitions.specs.Value.{PlainValue}
 use Rattle.cpn_definitions.specs.Order.{same_value}
 use Rattle.cpn_definitions.specs.ValueOrder.{same_value_true}
@@ -18,6 +16,7 @@ use Rattle.cpn_definitions.proofs.Stamps.{IsAtMostEach, AreRising, stamps_rise}
 use Rattle.cpn_definitions.proofs.Subtraction.{AllAreSorted, is_for, thresholds_for, sorted_without, taken, subtract_is_less}
 use Rattle.cpn_definitions.proofs.Addition.{with_stamp, with_stamps}
 use Rattle.cpn_definitions.proofs.RicherMarkings.{without_rising, covers_first, covered_in_turn}
+use Rattle.cpn_definitions.proofs.NumberTests.{same_number, is_behind, is_ahead}
 use Rattle.cpn_runs.specs.HoleRun.{PlainClaim, PlainPick, PlainHoleRun, latest_stamp, pick_of, picks_of, after_claim, hole_run}
 use Rattle.cpn_runs.proofs.Sequences.{run_on}
 
@@ -31,17 +30,6 @@ taken_by (t ∷ ts) ss = latest_stamp t ss ∷ taken_by ts (without_latest t ss)
 pub latest_at_least : (t s : ℕ) (ss : List ℕ) → IsAtMostEach s ss → begins_by t ss ≡ true → s ≤ latest_stamp t ss
 latest_at_least t s [] below found = absurd cc
 latest_at_least t s (r ∷ rs) below found = cond_both (begins_by t rs) (latest_stamp t rs) r (λ x. s ≤ x) (λ h. latest_at_least t s rs below.1 h) (λ _. below.0)
-
--- the stamp that is taken is not above the threshold
-latest_by : (t : ℕ) (ss : List ℕ) → begins_by t ss ≡ true → latest_stamp t ss ≤ t
-latest_by t [] found = absurd cc
-latest_by t (s ∷ ss) found = cond_both (begins_by t ss) (latest_stamp t ss) s (λ r. r ≤ t) (λ h. latest_by t ss h) (λ _. leb-true s t found)
-
-pub is_behind : (l s : ℕ) → s ≤ l → is_lt (nat_cmp l s) ≡ false
-is_behind l s le = grind (arith, nat_tests)
-
-pub is_ahead : (s r : ℕ) → s < r → is_lt (nat_cmp s r) ≡ true
-is_ahead s r lt = grind (arith, nat_tests)
 
 -- a stamp stands ahead of those that are all above a threshold that it is not above
 pub ahead_of : (t s : ℕ) (rs : List ℕ) → s ≤ t → begins_by t rs ≡ false → with_stamp s rs ≡ s ∷ rs
@@ -61,9 +49,6 @@ taken_back t (s ∷ ss) rising found = split (begins_by t ss) refl (λ h. taken_
         cond-false (is_lt (nat_cmp (latest_stamp t ss) s)) (latest_stamp t ss ∷ s ∷ without_latest t ss) (s ∷ with_stamp (latest_stamp t ss) (without_latest t ss)) (is_behind (latest_stamp t ss) s (latest_at_least t s ss rising.0 deeper))
         ∙ ap (λ rs. s ∷ rs) (rest deeper)
     split false stops rest = ap (with_stamp s) (cond-true (nat_le s t) ss (s ∷ ss) found) ∙ ahead_of t s ss (leb-true s t found) stops
-
-same_number : (i j : ℕ) → nat_cmp i j ≡ Equal → i ≡ j
-same_number i j h = ranked i j Equal (sym h)
 
 with_stamps_swap : (xs : List ℕ) (x : ℕ) (rs : List ℕ) → with_stamps xs (with_stamp x rs) ≡ with_stamp x (with_stamps xs rs)
 with_stamps_swap [] x rs = refl

@@ -6,6 +6,7 @@ use Rattle.cpn_definitions.specs.Marking.{Marking}
 use Rattle.cpn_definitions.specs.Net.{PlainNet}
 use Rattle.cpn_definitions.specs.Occurrence.{threshold, are_covered}
 use Rattle.cpn_definitions.specs.Legal.{LeastTime, TimedElement, Legal}
+use Rattle.cpn_definitions.proofs.ListItems.{made_of}
 use Rattle.cpn_runs.specs.HoleRun.{PlainClaim, PlainHoleRun, picks_of, begun_with, after_claim, hole_run, marking_left}
 
 -- ---- legal sequences
@@ -65,11 +66,6 @@ legal_goes_on n m clock (o ∷ os) last end legal = (legal.0.not_before, legal_g
 pub passed : {A : Type 0} (b : Bool) (o : Option A) (y : A) → cond b o None ≡ Some y → (b ≡ true) × (o ≡ Some y)
 passed true o y is = (refl, is)
 passed false o y is = cc
-
--- a value that is made of another comes from one
-pub made_of : {A B : Type 0} (f : A → B) (o : Option A) (y : B) → option_map f o ≡ Some y → (x : A) × (o ≡ Some x) × (f x ≡ y)
-made_of f None y is = cc
-made_of f (Some x) y is = (x, refl, (let same : f x ≡ y = cc in same))
 
 -- A run of claims is there where the first finds its needs, and the rest goes on from there.
 pub record RunsOn (m : Marking) (claim : PlainClaim) (claims : List PlainClaim) (run : PlainHoleRun) : Type 0 where

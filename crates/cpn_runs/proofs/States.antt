@@ -1,6 +1,6 @@
 -- The states of a run, for any number of seats: a journal leads to one state; what holds in each state that a journal allows;
 -- and where nothing happens and nothing ends.
-use Rattle.std.proofs.Common.{◌≡◌, ℕ, suc, ◌+◌, ◌<◌, ◌≤◌, ◌==◌, ◌⊎◌, Bool, true, false, ◌&&◌, ◌||◌, cond, List, [], ◌∷◌, ◌++◌, length, map, take, drop, append_assoc, length-append, Some, None, Option, refl, sym, ap, ◌∙◌, subst, inl, inr, arith, slice_set, eqb-true, count_by}
+use Rattle.std.proofs.Common.{◌≡◌, ℕ, suc, ◌+◌, ◌<◌, ◌≤◌, ◌==◌, ◌⊎◌, Bool, true, false, ◌&&◌, ◌||◌, cond, List, [], ◌∷◌, ◌++◌, length, map, take, drop, append_assoc, length-append, Some, None, Option, refl, sym, ap, ◌∙◌, subst, inl, inr, arith, slice_set, eqb-true, count_by, add-zero}
 use Rattle.std.specs.List.{list_any, AllByRecursion}
 use Rattle.std.specs.Option.{MatchOption}
 use Rattle.std.proofs.Math.Path.{ap₂}
@@ -14,11 +14,11 @@ use Rattle.cpn_definitions.specs.Net.{PlainNet}
 use Rattle.cpn_definitions.specs.Occurrence.{PlainElement, Made, covered, needs_of, outputs_of}
 use Rattle.cpn_definitions.specs.Legal.{LeastTime}
 use Rattle.cpn_definitions.specs.Enabled.{PlainEntry, Enabled, ready}
-use Rattle.cpn_definitions.proofs.RisingLists.{in_filter_from, contains_from_in}
+use Rattle.cpn_definitions.proofs.RisingLists.{in_filter_from, contains_from_in, each_appended}
 use Rattle.cpn_definitions.proofs.OneEnabledList.{enabled_is_unique}
+use Rattle.cpn_definitions.proofs.ListItems.{IsSplit, split_at, in_from_get, map_more, all_parts}
 use Rattle.cpn_runs.specs.HoleRun.{PlainClaim, Status, done_with, faulted_with, is_open, done_prefix}
 use Rattle.cpn_runs.specs.State.{PlainSetup, PlainEvent, claim_made, claim_completed, clock_moved, cut_made, PlainEnd, fault_end, PlainCut, PlainState, first_state, owed_cut, is_held_by, given_needs, new_claim, status_after, IsDrawn, MayClaim, MayComplete, MayMove, MayCut, Happens, Leads, IsState, HasCause, EndsBy}
-use Rattle.cpn_runs.proofs.Items.{IsSplit, split_at, in_from_get, map_more, all_joined, all_parts}
 use Rattle.cpn_runs.proofs.Cuts.{AreDone, committed_are_done, as_many_are_committed, done_owe_none, done_is_not_open, done_at, fewer_first, IsOwed, owed_is}
 
 -- ---- one state
@@ -206,10 +206,7 @@ pub record IsReached (setup : PlainSetup) (journal : List PlainEvent) (state : P
 -- ---- counting
 
 count_one : {A : Type 0} (p : A → Bool) (x : A) → count_by p (x ∷ []) ≡ cond (p x) 1 0
-count_one p x = sum_by-cons (λ y. cond (p y) 1 0) x [] ∙ plus_none (cond (p x) 1 0)
-  where
-    plus_none : (k : ℕ) → k + 0 ≡ k
-    plus_none k = omega arith
+count_one p x = sum_by-cons (λ y. cond (p y) 1 0) x [] ∙ add-zero (cond (p x) 1 0)
 
 count_last : {A : Type 0} (p : A → Bool) (xs : List A) (x : A) → count_by p (xs ++ x ∷ []) ≡ count_by p xs + cond (p x) 1 0
 count_last p xs x = sum_by-append (λ y. cond (p y) 1 0) xs (x ∷ []) ∙ ap (λ (k : ℕ). count_by p xs + k) (count_one p x)
@@ -288,7 +285,7 @@ claim_reaches setup journal old seat number new r c =
       clock_in_time = r.clock_in_time;
       few_claims = few_more _ (length (claim_numbers journal)) (length old.claims) number setup.limits.steps made before.as_many c.next_number c.below_limit;
       numbers = subst (AreCounted 0) (sym numbers_are) (counted_more 0 (claim_numbers journal) number r.numbers (next c.next_number before.as_many));
-      claims_are = all_joined (IsClaimOf setup) old.claims (claim ∷ []) r.claims_are (claim_of setup old seat number new c, tt);
+      claims_are = each_appended (IsClaimOf setup) old.claims (claim ∷ []) r.claims_are (claim_of setup old seat number new c, tt);
       one_each = λ s. one s (seat == s) refl;
       uncut = λ none. record {
         as_many = made ∙ ap (λ (k : ℕ). k + 1) before.as_many ∙ sym joined;
@@ -354,7 +351,7 @@ completion_reaches setup journal old seat number new r c =
       clock_in_time = r.clock_in_time;
       few_claims = subst (λ (xs : List ℕ). length xs ≤ setup.limits.steps) (sym numbers_are) r.few_claims;
       numbers = subst (AreCounted 0) (sym numbers_are) r.numbers;
-      claims_are = all_joined (IsClaimOf setup) parts.before (completed ∷ parts.later) each.0 (now, each.1.1);
+      claims_are = each_appended (IsClaimOf setup) parts.before (completed ∷ parts.later) each.0 (now, each.1.1);
       one_each = λ s. at_most _ (cond (is_held_by s c.held_claim) 1 0) _ (count s) (r.one_each s);
       uncut = λ none. let whole = r.uncut none in record {
         as_many = ap (λ (xs : List ℕ). length xs) numbers_are ∙ whole.as_many ∙ sym lengths;

@@ -6,11 +6,12 @@ use Rattle.cpn_definitions.specs.Outcome.{not_in_colour}
 use Rattle.cpn_definitions.specs.Occurrence.{Made, covered, needs_of, outputs_of, after}
 use Rattle.cpn_definitions.specs.Enabled.{PlainEntry, Enabled}
 use Rattle.cpn_definitions.specs.Legal.{LeastTime, Legal}
+use Rattle.cpn_definitions.proofs.TruthValues.{not_both}
 use Rattle.cpn_draw.specs.Draw.{word}
 use Rattle.cpn_runs.specs.HoleRun.{PlainClaim, done_with}
 use Rattle.cpn_runs.specs.State.{PlainSetup, PlainEvent, claim_made, claim_completed, PlainEnd, dead, steps_made, fault_end, PlainState, first_state, new_claim, IsDrawn, MayClaim, MayComplete, IsState, EndsBy}
 use Rattle.cpn_runs.specs.Run.{HasOutlook, PlainFinished, IsRun}
-use Rattle.cpn_runs.proofs.WorkedNet.{seven, worked, move, seven_at_three, entry, clash, covered_at_three, one_is_enabled, emptied, emptied_is_dead, none_is_enabled, no_other}
+use Rattle.cpn_runs.proofs.WorkedNet.{seven, worked, move, seven_at_three, entry, covered_at_three, one_is_enabled, emptied, emptied_is_dead, none_is_enabled, no_other}
 
 -- 7 at 0 and 7 at 3 on place 0, at the clock 3, and two claims that may be made
 abbrev pub start : Marking
@@ -172,7 +173,7 @@ not_dead_while_waiting ends =
     let marking_is : Some seven_at_three ≡ Some ends.has_cause.1.0 = ends.has_cause.1.1 in
     let P : Marking → Type 0 = λ m. covered worked m 3 move ≡ false in
     let same : ends.has_cause.1.0 ≡ seven_at_three = cc in
-    clash (covered worked seven_at_three 3 move) covered_at_three (subst P same (ends.has_cause.1.2 3 move))
+    not_both (covered worked seven_at_three 3 move) covered_at_three (subst P same (ends.has_cause.1.2 3 move))
 
 -- where nothing is covered at any time it is dead, and it does not end for its claims
 abbrev used_up : PlainSetup

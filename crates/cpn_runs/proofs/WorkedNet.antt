@@ -13,6 +13,7 @@ use Rattle.cpn_definitions.specs.Occurrence.{PlainElement, binds, guard_holds, m
 use Rattle.cpn_definitions.specs.Enabled.{PlainEntry, IsEarliest, Enabled, IsDead}
 use Rattle.cpn_definitions.specs.Legal.{LeastTime, TimedElement, Legal}
 use Rattle.cpn_definitions.proofs.RisingLists.{IsIn, in_from_contains, contains_from_in}
+use Rattle.cpn_definitions.proofs.TruthValues.{not_both}
 
 abbrev pub seven : PlainValue
 seven = int (pos 7)
@@ -99,9 +100,6 @@ covered_no_earlier (suc (suc (suc s))) below = absurd (omega arith)
 
 -- ---- what is enabled
 
-pub clash : (b : Bool) → b ≡ true → b ≡ false → ⊥
-clash b is not = cc
-
 abbrev pub entry : ℕ → PlainEntry
 entry earliest = record { earliest = earliest; element = move }
 
@@ -118,8 +116,8 @@ one_is_enabled m clock time from is none = record {
 
     same_time : (s : ℕ) → clock ≤ s → covered worked m s move ≡ true → ((r : ℕ) → clock ≤ r → r < s → covered worked m r move ≡ false) → s ≡ time
     same_time s from_too is_too none_too =
-        ⊎_elim (λ lt. absurd (clash (covered worked m s move) is_too (none s from_too lt)))
-        (λ ge. ⊎_elim (λ lt. absurd (clash (covered worked m time move) is (none_too time from lt))) (λ le. both ge le) (cases_lt time s)) (cases_lt s time)
+        ⊎_elim (λ lt. absurd (not_both (covered worked m s move) is_too (none s from_too lt)))
+        (λ ge. ⊎_elim (λ lt. absurd (not_both (covered worked m time move) is (none_too time from lt))) (λ le. both ge le) (cases_lt time s)) (cases_lt s time)
       where
         both : time ≤ s → s ≤ time → s ≡ time
         both ge le = omega arith
@@ -146,7 +144,7 @@ not_left_out enabled = in_from_contains [] (entry 3) ((enabled.exact (entry 3)).
 not_later : Enabled worked seven_at_three 0 (entry 4 ∷ []) → ⊥
 not_later enabled =
     let earliest = (enabled.exact (entry 4)).0 (contains_from_in (entry 4 ∷ []) (entry 4) (inl refl)) in
-    clash (covered worked seven_at_three 3 move) covered_at_three (earliest.not_earlier 3 (omega arith) (omega arith))
+    not_both (covered worked seven_at_three 3 move) covered_at_three (earliest.not_earlier 3 (omega arith) (omega arith))
 
 not_twice : Enabled worked seven_at_three 0 (entry 3 ∷ entry 3 ∷ []) → ⊥
 not_twice enabled = let e : Equal ≡ Less = enabled.rising.0.0 in cc
@@ -165,12 +163,12 @@ unfolding covered needs_of
 moved_is_dead time e = no_other moved time e refl
 
 pub later_is_not_dead : IsDead worked seven_at_three → ⊥
-later_is_not_dead is = clash (covered worked seven_at_three 3 move) covered_at_three (is 3 move)
+later_is_not_dead is = not_both (covered worked seven_at_three 3 move) covered_at_three (is 3 move)
 
 pub none_is_enabled : (m : Marking) (clock : ℕ) → IsDead worked m → Enabled worked m clock []
 none_is_enabled m clock is = record {
   rising = tt;
-  exact = λ x. ((λ has. absurd (in_from_contains [] x has)), λ earliest. absurd (clash (covered worked m x.earliest x.element) earliest.is_covered (is x.earliest x.element)));
+  exact = λ x. ((λ has. absurd (in_from_contains [] x has)), λ earliest. absurd (not_both (covered worked m x.earliest x.element) earliest.is_covered (is x.earliest x.element)));
 }
 
 -- ---- which sequences are legal
@@ -198,20 +196,20 @@ legal_at_five = (record { not_before = omega arith; some = (move, refl); none_ea
 
 -- it occurs no later than at the least time, and not before it; not before the clock; and the clock goes no further
 illegal_later : (last : Marking) (end : ℕ) → Legal worked seven_at_three 0 (at 4 ∷ []) last end → ⊥
-illegal_later last end legal = clash (covered worked seven_at_three 3 move) covered_at_three (legal.0.none_earlier 3 move (omega arith) (omega arith))
+illegal_later last end legal = not_both (covered worked seven_at_three 3 move) covered_at_three (legal.0.none_earlier 3 move (omega arith) (omega arith))
 
 illegal_earlier : (last : Marking) (end : ℕ) → Legal worked seven_at_three 0 (at 2 ∷ []) last end → ⊥
-illegal_earlier last end legal = clash (covered worked seven_at_three 2 move) legal.1 not_covered_at_two
+illegal_earlier last end legal = not_both (covered worked seven_at_three 2 move) legal.1 not_covered_at_two
 
 illegal_before_the_clock : (last : Marking) (end : ℕ) → Legal worked seven_at_three 5 (at 3 ∷ []) last end → ⊥
 illegal_before_the_clock last end legal = let from : 5 ≤ 3 = legal.0.not_before in absurd (omega arith)
 
 illegal_wait : Legal worked seven_at_three 0 [] seven_at_three 4 → ⊥
-illegal_wait legal = ⊎_elim (λ same. let e : 4 ≡ 0 = same in absurd (omega arith)) (λ least. clash (covered worked seven_at_three 3 move) covered_at_three (least.none_earlier 3 move (omega arith) (omega arith))) legal.1
+illegal_wait legal = ⊎_elim (λ same. let e : 4 ≡ 0 = same in absurd (omega arith)) (λ least. not_both (covered worked seven_at_three 3 move) covered_at_three (least.none_earlier 3 move (omega arith) (omega arith))) legal.1
 
 illegal_in_the_dead : (time : ℕ) → Legal worked moved 3 [] moved (suc (suc (suc (suc time)))) → ⊥
 illegal_in_the_dead time legal =
-    ⊎_elim (λ same. let e : suc (suc (suc (suc time))) ≡ 3 = same in absurd (omega arith)) (λ least. clash (covered worked moved (suc (suc (suc (suc time)))) least.some.0) least.some.1 (moved_is_dead (suc (suc (suc (suc time)))) least.some.0)) legal.1
+    ⊎_elim (λ same. let e : suc (suc (suc (suc time))) ≡ 3 = same in absurd (omega arith)) (λ least. not_both (covered worked moved (suc (suc (suc (suc time)))) least.some.0) least.some.1 (moved_is_dead (suc (suc (suc (suc time)))) least.some.0)) legal.1
 
 -- an element that is not of the net doesn't occur, and what occurs leads to no other marking
 illegal_element : (last : Marking) (end : ℕ) → Legal worked seven_at_three 0 (record { element = record { transition = 1; binding = [] }; time = 3 } ∷ []) last end → ⊥

@@ -7,7 +7,7 @@ use Rattle.cpn_core.specs.declared.inscriptions.Expr.{Expr}
 use Rattle.cpn_core.specs.declared.inscriptions.Expr.TheViews as exprs
 use Rattle.cpn_core.specs.Inscriptions.{pattern_view, expr_view}
 use Rattle.cpn_same.specs.Constructed.{constructed_pattern, constructed_expr}
-use Rattle.cpn_levels.proofs.InscriptionLevels.{view_con_pattern, view_bare, view_applied}
+use Rattle.cpn_core.proofs.InscriptionLevels.{view_con_pattern, view_bare, view_applied}
 
 pub view_pattern : (k : ℕ) (argument : Option (Box Pat Global)) → pattern_view (pats.Con k argument) ≡ constructed_pattern k argument
 view_pattern k None = search (rules, pattern.the_lemmas)

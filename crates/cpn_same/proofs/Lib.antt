@@ -1,3 +1,3 @@
-pub mod ComparedLists
-pub mod Rows
-pub mod ConstructorLevels
+mod ComparedLists
+mod Rows
+mod ConstructorLevels

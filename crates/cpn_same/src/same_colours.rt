@@ -15,7 +15,7 @@ pub fn same_colour(colour: &Colour, other: &Colour) -> bool
 }
 
 #[cycle(same)]
-#[tactic(auto, using(cpn_levels::proofs::ShapeLevels::shape_list, cpn_levels::proofs::ShapeLevels::shape_union))]
+#[tactic(auto, using(cpn_core::proofs::ShapeLevels::shape_list, cpn_core::proofs::ShapeLevels::shape_union))]
 fn same_shape(shape: &Shape, other: &Shape) -> bool
     ensures exact { result ≡ same_shape (shape_view shape.now) (shape_view other.now) }
 {

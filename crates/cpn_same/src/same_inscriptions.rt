@@ -21,7 +21,7 @@ pub fn same_expr(expr: &Expr, other: &Expr) -> bool
 }
 
 #[cycle(same)]
-#[tactic(auto, using(cpn_levels::proofs::InscriptionLevels::view_op, cpn_levels::proofs::InscriptionLevels::view_and, cpn_levels::proofs::InscriptionLevels::view_or, cpn_levels::proofs::InscriptionLevels::view_if, cpn_levels::proofs::InscriptionLevels::view_case, cpn_levels::proofs::InscriptionLevels::view_let, cpn_levels::proofs::InscriptionLevels::view_fold, cpn_levels::proofs::InscriptionLevels::view_tuple, cpn_levels::proofs::InscriptionLevels::view_list, crate::proofs::ConstructorLevels::view_expr, cpn_levels::proofs::InscriptionLevels::view_call))]
+#[tactic(auto, using(cpn_core::proofs::InscriptionLevels::view_op, cpn_core::proofs::InscriptionLevels::view_and, cpn_core::proofs::InscriptionLevels::view_or, cpn_core::proofs::InscriptionLevels::view_if, cpn_core::proofs::InscriptionLevels::view_case, cpn_core::proofs::InscriptionLevels::view_let, cpn_core::proofs::InscriptionLevels::view_fold, cpn_core::proofs::InscriptionLevels::view_tuple, cpn_core::proofs::InscriptionLevels::view_list, crate::proofs::ConstructorLevels::view_expr, cpn_core::proofs::InscriptionLevels::view_call))]
 fn same_form(expr: &Expr, other: &Expr) -> bool
     ensures exact { result ≡ same_expr (expr_view expr.now) (expr_view other.now) }
 {
@@ -132,7 +132,7 @@ fn same_each(exprs: &Exprs, others: &Exprs) -> bool
 }
 
 #[cycle(same)]
-#[tactic(auto, using(cpn_levels::proofs::InscriptionLevels::view_arm))]
+#[tactic(auto, using(cpn_core::proofs::InscriptionLevels::view_arm))]
 fn same_arm(arm: &Arm, other: &Arm) -> bool
     ensures exact { result ≡ same_arm (arm_view arm.now) (arm_view other.now) }
 {

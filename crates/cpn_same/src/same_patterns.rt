@@ -9,7 +9,7 @@ use cpn_core::{Pat, Pats};
 
 /// Whether both patterns are of one form, with the same numbers, values and parts.
 #[cycle(same)]
-#[tactic(auto, using(crate::proofs::ConstructorLevels::view_pattern, cpn_levels::proofs::InscriptionLevels::view_cons_pattern))]
+#[tactic(auto, using(crate::proofs::ConstructorLevels::view_pattern, cpn_core::proofs::InscriptionLevels::view_cons_pattern))]
 pub fn same_pattern(pattern: &Pat, other: &Pat) -> bool
     ensures exact { result ≡ same_pattern (pattern_view pattern.now) (pattern_view other.now) }
 {

@@ -11,7 +11,7 @@ use cpn_core::{MArm, MExpr, MExprs};
 
 /// Whether both inscriptions of tokens are of one form, with the same stamp, inscriptions and parts.
 #[cycle(same)]
-#[tactic(auto, using(cpn_levels::proofs::InscriptionLevels::tokens_one, cpn_levels::proofs::InscriptionLevels::tokens_times, cpn_levels::proofs::InscriptionLevels::tokens_sum, cpn_levels::proofs::InscriptionLevels::tokens_later, cpn_levels::proofs::InscriptionLevels::tokens_at, cpn_levels::proofs::InscriptionLevels::tokens_if, cpn_levels::proofs::InscriptionLevels::tokens_case, cpn_levels::proofs::InscriptionLevels::tokens_let))]
+#[tactic(auto, using(cpn_core::proofs::InscriptionLevels::tokens_one, cpn_core::proofs::InscriptionLevels::tokens_times, cpn_core::proofs::InscriptionLevels::tokens_sum, cpn_core::proofs::InscriptionLevels::tokens_later, cpn_core::proofs::InscriptionLevels::tokens_at, cpn_core::proofs::InscriptionLevels::tokens_if, cpn_core::proofs::InscriptionLevels::tokens_case, cpn_core::proofs::InscriptionLevels::tokens_let))]
 pub fn same_tokens(tokens: &MExpr, other: &MExpr) -> bool
     ensures exact { result ≡ same_tokens (multiset_view tokens.now) (multiset_view other.now) }
 {
@@ -71,7 +71,7 @@ fn same_each(parts: &MExprs, others: &MExprs) -> bool
 }
 
 #[cycle(same)]
-#[tactic(auto, using(cpn_levels::proofs::InscriptionLevels::tokens_arm))]
+#[tactic(auto, using(cpn_core::proofs::InscriptionLevels::tokens_arm))]
 fn same_arm(arm: &MArm, other: &MArm) -> bool
     ensures exact { result ≡ same_arc_arm (arc_arm_view arm.now) (arc_arm_view other.now) }
 {

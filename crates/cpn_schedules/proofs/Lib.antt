@@ -1,1 +1,1 @@
-pub mod ShownBooks
+mod ShownBooks

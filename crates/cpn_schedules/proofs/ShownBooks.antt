@@ -2,12 +2,11 @@
 use Rattle.std.proofs.Common.{◌≡◌, refl, sym, subst, ℕ, Bool, true, false, if◌then◌else◌, List, ◌∷◌, Option, Some, None, slice_get}
 use Rattle.std.specs.List.{AllByRecursion}
 use Rattle.cpn_definitions.proofs.LegalSequences.{covered_is_bound}
+use Rattle.cpn_definitions.proofs.ListItems.{split_at, all_parts}
 use Rattle.cpn_jobs.specs.Views.{job_view}
 use Rattle.cpn_jobs.specs.Work.{PlainJob}
-use Rattle.cpn_report.specs.Printable.{IsPrintableNet}
 use Rattle.cpn_runs.specs.HoleRun.{PlainClaim, is_open}
 use Rattle.cpn_runs.specs.State.{PlainSetup, claim_made}
-use Rattle.cpn_runs.proofs.Items.{split_at, all_parts}
 use Rattle.cpn_runs.proofs.States.{IsClaimOf, every_state, event_reaches}
 use Rattle.cpn_book.specs.Answers.{AnswersClaim, AnswersEvaluation, job_if_open}
 use Rattle.cpn_book.specs.Books.{setup_in, journal_in, InState}

@@ -15,6 +15,7 @@ use Rattle.cpn_definitions.specs.Meaning.{PlainBinding}
 use Rattle.cpn_definitions.specs.Occurrence.{binds}
 use Rattle.cpn_definitions.specs.Enabled.{PlainFound, binding_cmp, EnabledOf}
 use Rattle.cpn_definitions.proofs.RisingLists.{IsIn, in_from_contains, contains_from_in, each_in, of_one_in, in_map}
+use Rattle.cpn_definitions.proofs.KeyedEntries.{equal_from}
 use Rattle.cpn_core.specs.declared.bindings.Pair.{Pair}
 use Rattle.cpn_search.specs.declared.covered.Covered.{Covered}
 use Rattle.cpn_core.specs.Pairs.{pairs_view}
@@ -83,17 +84,12 @@ summed b fs = let all = summed_from b 0 fs in omega (arith, all)
 abbrev pub AtMostOne : PlainNet → List ℕ → List Covered → Type 0
 AtMostOne n xs fs = (b : PlainBinding) → binds n xs b ≡ true → counted b fs ≤ 1
 
-equal_is : (o : Ordering) → is_eq o ≡ true → o ≡ Equal
-equal_is Less h = cc
-equal_is Equal h = refl
-equal_is Greater h = cc
-
 no_hits : (n : PlainNet) (xs : List ℕ) (b : PlainBinding) (fs : List Covered) → binds n xs b ≡ true → AllByRecursion (λ (f : Covered). binds n xs f.binding ≡ true) fs → (IsIn b (map (λ (f : PlainFound). f.binding) (map found_view fs)) → ⊥) → counted b fs ≡ 0
 no_hits n xs b [] own bound other = refl
 no_hits n xs b (f ∷ fs) own bound other = split (is_eq (binding_cmp b f.binding)) refl (no_hits n xs b fs own bound.1 (λ h. other (inr h)))
   where
     split : (test : Bool) → is_eq (binding_cmp b f.binding) ≡ test → counted b fs ≡ 0 → (if test then 1 else 0) + counted b fs ≡ 0
-    split true is rest = absurd (other (inl (sym (same_binding n xs b f.binding own bound.0 (equal_is (binding_cmp b f.binding) is)))))
+    split true is rest = absurd (other (inl (sym (same_binding n xs b f.binding own bound.0 (equal_from (binding_cmp b f.binding) is)))))
     split false is rest = omega (arith, rest)
 
 pub found_once : (n : PlainNet) (xs : List ℕ) (fs : List Covered) → AllDiffer (map (λ (f : PlainFound). f.binding) (map found_view fs)) → AllByRecursion (λ (f : Covered). binds n xs f.binding ≡ true) fs → AtMostOne n xs fs
@@ -102,7 +98,7 @@ found_once n xs (f ∷ fs) differ bound b own = split (is_eq (binding_cmp b f.bi
   where
     split : (test : Bool) → is_eq (binding_cmp b f.binding) ≡ test → counted b fs ≤ 1 → (if test then 1 else 0) + counted b fs ≤ 1
     split true is rest =
-        let same : b ≡ f.binding = same_binding n xs b f.binding own bound.0 (equal_is (binding_cmp b f.binding) is) in
+        let same : b ≡ f.binding = same_binding n xs b f.binding own bound.0 (equal_from (binding_cmp b f.binding) is) in
         let others : counted b fs ≡ 0 = no_hits n xs b fs own bound.1 (λ h. differ.0 (contains_from_in (map (λ (k : PlainFound). k.binding) (map found_view fs)) f.binding (subst (λ c. IsIn c (map (λ (k : PlainFound). k.binding) (map found_view fs))) same h))) in
         omega (arith, others)
     split false is rest = omega (arith, rest)

@@ -1,28 +1,22 @@
 -- What a search finds transition by transition, and that it has all enabled elements once it has been through all
 -- transitions.
-use Rattle.std.proofs.Common.{◌≡◌, ℕ, ◌+◌, ◌<◌, true, nat_lt, List, [], ◌++◌, length, sym, ap, ◌∙◌, subst, ⊎_elim, arith, Less, nat_cmp}
+use Rattle.std.proofs.Common.{◌≡◌, ℕ, ◌+◌, ◌<◌, List, ◌++◌, length, sym, ap, ◌∙◌, subst, ⊎_elim, arith, Less, ltb-true}
 use Rattle.std.specs.Ordering.{ordering_then}
 use Rattle.std.specs.List.{AllByRecursion}
 use Rattle.std.proofs.lemmas.Bool.{cases_lt}
-use Rattle.std.proofs.lemmas.Bool.Decides.{nat_tests}
 use Rattle.cpn_definitions.specs.Lists.{Rises}
 use Rattle.cpn_definitions.specs.Marking.{Marking}
 use Rattle.cpn_definitions.specs.Net.{PlainNet}
 use Rattle.cpn_definitions.specs.Enabled.{PlainEntry, PlainFound, binding_cmp, entry_cmp, IsEarliest, Enabled, entries_of, EnabledOf}
 use Rattle.cpn_definitions.proofs.RisingLists.{IsIn, in_from_contains, contains_from_in, in_append_left, in_append_right, in_append_cases, in_map, in_map_from, each_in, rises_mapped, rises_appended}
+use Rattle.cpn_definitions.proofs.NumberTests.{compared_less}
 use Rattle.cpn_search.specs.Found.{not_before, entries_at, EnabledBelow}
 use Rattle.cpn_stages.proofs.CoveredBindings.{covered_parts}
 use Rattle.cpn_search.proofs.LeastTimes.{from_clock, from_start}
 
-lower_first : (i j : ℕ) → i < j → nat_cmp i j ≡ Less
-lower_first i j lt = grind (arith, nat_tests)
-
 -- an entry of a lower transition comes first
 lower_before : (x y : PlainEntry) → x.element.transition < y.element.transition → entry_cmp x y ≡ Less
-lower_before x y lt = ap (λ o. ordering_then o (binding_cmp x.element.binding y.element.binding)) (lower_first x.element.transition y.element.transition lt)
-
-pub none_below : (n : PlainNet) (m : Marking) (clock : ℕ) → EnabledBelow n m clock 0 []
-none_below n m clock = record { rising = tt; exact = λ x. (λ h. absurd (in_from_contains [] x h), λ h. absurd (omega (arith, h.0))) }
+lower_before x y lt = ap (λ o. ordering_then o (binding_cmp x.element.binding y.element.binding)) (compared_less x.element.transition y.element.transition lt)
 
 -- ---- one transition more
 
@@ -67,12 +61,9 @@ module _ (n : PlainNet) (m : Marking) (clock t : ℕ) (entries : List PlainEntry
 
 -- ---- all transitions
 
-in_range : (t k : ℕ) → nat_lt t k ≡ true → t < k
-in_range t k lt = grind (arith, nat_tests)
-
 -- those of all transitions are all
 pub enabled_all : (n : PlainNet) (m : Marking) (clock : ℕ) (entries : List PlainEntry) → EnabledBelow n m clock (length n.transitions) entries → Enabled n m clock entries
 enabled_all n m clock entries below = record {
   rising = below.rising;
-  exact = λ x. (λ h. ((below.exact x).0 h).1, λ is. (below.exact x).1 (in_range x.element.transition (length n.transitions) (covered_parts n m x.earliest x.element is.is_covered).in_range, is));
+  exact = λ x. (λ h. ((below.exact x).0 h).1, λ is. (below.exact x).1 (ltb-true x.element.transition (length n.transitions) (covered_parts n m x.earliest x.element is.is_covered).in_range, is));
 }

@@ -1,5 +1,5 @@
 -- What a search has found, binding by binding, and that, once it is in order, it is what is enabled.
-use Rattle.std.proofs.Common.{◌≡◌, ◌⊎◌, ◌↔◌, ℕ, ◌==◌, true, ◌&&◌, List, [], ◌∷◌, ◌++◌, map, append-nil, refl, sym, ap, ap₂, subst, ◌∙◌, Option, Some, None, MatchOption, inl, inr, ⊎_elim, Contains, Equal}
+use Rattle.std.proofs.Common.{◌≡◌, ◌⊎◌, ◌↔◌, ℕ, ◌==◌, true, ◌&&◌, List, [], ◌∷◌, ◌++◌, map, append-nil, refl, sym, ap, ap₂, subst, ◌∙◌, Option, Some, None, MatchOption, inl, inr, ⊎_elim, Contains, Equal, eqb-true}
 use Rattle.std.specs.Ordering.{ordering_then}
 use Rattle.std.proofs.lemmas.Bool.{and_parts}
 use Rattle.std.proofs.lemmas.Cmp.{tied_itself, nat_cmp_total}
@@ -16,7 +16,6 @@ use Rattle.cpn_definitions.specs.Occurrence.{binds, covered}
 use Rattle.cpn_definitions.specs.Enabled.{PlainEntry, PlainFound, binding_cmp, entry_cmp, entries_of, IsEarliest, EnabledOf}
 use Rattle.cpn_definitions.proofs.RisingLists.{IsIn, in_from_contains, contains_from_in, in_append_left, in_append_right, in_append_cases, in_map, in_map_from, rises_mapped}
 use Rattle.cpn_stages.specs.Work.{AllDiffer}
-use Rattle.cpn_stages.proofs.Numbers.{number_same}
 use Rattle.cpn_search.specs.Found.{element_of, IsNeverCovered, IsLeastTime, found_of}
 use Rattle.cpn_search.specs.Searches.{FoundAmong}
 use Rattle.cpn_search.proofs.LeastTimes.{not_never, least_is_one}
@@ -113,8 +112,8 @@ same_binding n (x ∷ xs) (p ∷ b) [] first second is = cc
 same_binding n (x ∷ xs) (p ∷ b) (q ∷ c) first second is =
     let one = and_parts ((x == p.0) && admits (variable_at n x).colour p.1) (binds n xs b) first in
     let two = and_parts ((x == q.0) && admits (variable_at n x).colour q.1) (binds n xs c) second in
-    let px = number_same x p.0 (and_parts (x == p.0) (admits (variable_at n x).colour p.1) one.0).0 in
-    let qx = number_same x q.0 (and_parts (x == q.0) (admits (variable_at n x).colour q.1) two.0).0 in
+    let px = eqb-true x p.0 (and_parts (x == p.0) (admits (variable_at n x).colour p.1) one.0).0 in
+    let qx = eqb-true x q.0 (and_parts (x == q.0) (admits (variable_at n x).colour q.1) two.0).0 in
     let value : p.1 ≡ q.1 = value_same p.1 q.1 (then_first (value_cmp p.1 q.1) (binding_cmp b c) is) in
     let rest = same_binding n xs b c one.1 two.1 (then_second (value_cmp p.1 q.1) (binding_cmp b c) is) in
     ap₂ (λ (pair : ℕ × PlainValue) (others : PlainBinding). pair ∷ others) (ap₂ (λ (y : ℕ) (v : PlainValue). (y, v)) (sym px ∙ qx) value) rest

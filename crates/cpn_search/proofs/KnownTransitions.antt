@@ -1,39 +1,19 @@
 -- What a search knows of a transition of a sound net, and of a marking of the net's places.
-use Rattle.std.proofs.Common.{◌≡◌, ℕ, zero, suc, ◌<◌, Bool, true, false, ◌&&◌, nat_lt, List, [], ◌∷◌, map, length, get_or, slice_index_or, refl, sym, ap, ap₂, ◌∙◌, subst, arith}
-use Rattle.std.specs.List.{list_all, list_any, AllByRecursion}
-use Rattle.std.proofs.lemmas.Bool.Decides.{nat_tests}
+use Rattle.std.proofs.Common.{◌≡◌, ℕ, zero, suc, ◌<◌, true, false, nat_lt, List, [], ◌∷◌, map, length, get_or, slice_index_or, refl, sym, ap, ◌∙◌, subst, arith, lt-ltb}
+use Rattle.std.proofs.lemmas.List.{length-map}
 use Rattle.cpn_definitions.specs.Marking.{Marking}
-use Rattle.cpn_definitions.specs.Net.{PlainTransition, PlainNet, no_transition, transition_at}
+use Rattle.cpn_definitions.specs.Net.{PlainTransition, no_transition, transition_at}
 use Rattle.cpn_definitions.specs.Outcome.{HasMeaning}
 use Rattle.cpn_definitions.specs.Meaning.{PlainBinding}
 use Rattle.cpn_definitions.specs.Occurrence.{binds, guard_holds, may_occur, needs_of}
-use Rattle.cpn_definitions.specs.Sound.{IsSound, IsSoundTransition, IsSoundInput}
+use Rattle.cpn_definitions.specs.Sound.{IsSound}
 use Rattle.cpn_definitions.proofs.SoundElements.{sound_transition, needs_mean}
 use Rattle.cpn_core.specs.declared.nets.Net.{Net}
-use Rattle.cpn_core.specs.declared.nets.PlaceArc.{PlaceArc}
 use Rattle.cpn_core.specs.declared.nets.Transition.{Transition}
-use Rattle.cpn_core.specs.Nets.{arc_view, transition_view, net_view}
-use Rattle.cpn_stages.specs.Partial.{unbound}
-use Rattle.cpn_stages.proofs.TransitionEnds.{unbound_variables}
-use Rattle.cpn_search.specs.Searches.{AreDeclared}
+use Rattle.cpn_core.specs.Nets.{transition_view, net_view}
 use Rattle.cpn_elements.specs.Guards.{GuardHasMeaning}
 use Rattle.cpn_search.specs.Found.{element_of, IsNeverCovered}
 use Rattle.cpn_search.proofs.LeastTimes.{never_by_guard}
-
-pub length_map : {A B : Type 0} (f : A → B) (xs : List A) → length (map f xs) ≡ length xs
-length_map f [] = refl
-length_map f (x ∷ xs) = ap (λ (k : ℕ). suc k) (length_map f xs)
-
-any_mapped : {A B : Type 0} (p : B → Bool) (f : A → B) (xs : List A) → list_any p (map f xs) ≡ list_any (λ x. p (f x)) xs
-any_mapped p f [] = refl
-any_mapped p f (x ∷ xs) = rw (any_mapped p f xs) refl
-
-all_alike : {A : Type 0} (p q : A → Bool) (xs : List A) → ((x : A) → p x ≡ q x) → list_all p xs ≡ list_all q xs
-all_alike p q [] same = refl
-all_alike p q (x ∷ xs) same = ap₂ (λ b c. b && c) (same x) (all_alike p q xs same)
-
-above : (i k : ℕ) → i < k → nat_lt i k ≡ true
-above i k h = grind (arith, nat_tests)
 
 -- ---- the transition of a number
 
@@ -48,25 +28,7 @@ transition_is n t tr lt is = transition_among n.transitions.items t tr lt ∙ sy
 
 -- a number of a transition is below the number of transitions
 pub in_range : (n : Net) (t : ℕ) → t < length n.transitions.items → nat_lt t (length (net_view n).transitions) ≡ true
-in_range n t lt = ap (nat_lt t) (length_map transition_view n.transitions.items) ∙ above t (length n.transitions.items) lt
-
--- ---- what is known
-
--- the variables of a transition of a sound net are declared
-pub variables_declared : (n : Net) (t : ℕ) (tr : Transition) → IsSound (net_view n) → t < length n.transitions.items → tr ≡ get_or n.transitions.items t tr → AreDeclared (length n.variables.items) (unbound tr.vars.items)
-variables_declared n t tr sound lt is = record {
-  all =
-      ap (list_all (λ x. nat_lt x (length n.variables.items))) (unbound_variables tr.vars.items)
-      ∙ ap (λ (k : ℕ). list_all (λ x. nat_lt x k) tr.vars.items) (sym (length_map _ n.variables.items))
-      ∙ (subst (IsSoundTransition (net_view n)) (transition_is n t tr lt is) (sound_transition (net_view n) t sound (in_range n t lt))).declared;
-}
-
--- the places of sound input arcs are below the number of places
-pub arcs_placed : (n : PlainNet) (t : PlainTransition) (k : ℕ) (arcs : List PlaceArc) → length n.places ≡ k → AllByRecursion (IsSoundInput n t) (map arc_view arcs) → list_all (λ arc. nat_lt arc.place k) arcs ≡ true
-arcs_placed n t k [] long sound = refl
-arcs_placed n t k (arc ∷ arcs) long sound =
-    let first : nat_lt arc.place k ≡ true = above arc.place k (subst (λ (j : ℕ). arc.place < j) long sound.0.sound.place_known) in
-    rw first (arcs_placed n t k arcs long sound.1)
+in_range n t lt = ap (nat_lt t) (length-map n.transitions.items transition_view) ∙ lt-ltb t (length n.transitions.items) lt
 
 -- ---- what may be asked
 

@@ -1,15 +1,15 @@
-pub mod ValuesOfTokens
-pub mod TrialSteps
-pub mod LeastTimes
-pub mod EnabledBelow
-pub mod KnownTransitions
-pub mod Transitions
-pub mod SearchStates
-pub mod FoundBindings
-pub mod TurnedSearches
-pub mod BindingOrder
-pub mod TurnSteps
-pub mod TriedPlans
-pub mod PlanSteps
-pub mod PlannedTransitions
-pub mod ListedNeeds
+mod ValuesOfTokens
+mod TrialSteps
+mod LeastTimes
+mod EnabledBelow
+mod KnownTransitions
+mod Transitions
+mod SearchStates
+mod FoundBindings
+mod TurnedSearches
+mod BindingOrder
+mod TurnSteps
+mod TriedPlans
+mod PlanSteps
+mod PlannedTransitions
+mod ListedNeeds

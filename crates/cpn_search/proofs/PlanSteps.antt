@@ -1,14 +1,14 @@
 -- How the stages of a transition are planned.
-use Rattle.std.proofs.Common.{◌≡◌, ℕ, zero, suc, ◌+◌, ◌<◌, ◌==◌, true, ◌||◌, nat_lt, List, [], ◌∷◌, ◌++◌, map, length, get_or, take, drop, Some, None, Contains, refl, sym, ap, ◌∙◌, subst, inl, arith, append_assoc, append-nil}
+use Rattle.std.proofs.Common.{◌≡◌, ℕ, zero, suc, ◌+◌, ◌<◌, ◌==◌, true, ◌||◌, nat_lt, List, [], ◌∷◌, ◌++◌, map, length, get_or, take, drop, Some, None, Contains, refl, sym, ap, ◌∙◌, subst, inl, arith, append_assoc, append-nil, ltb-true}
 use Rattle.std.specs.List.{flat_map, list_any, AllByRecursion}
-use Rattle.std.proofs.lemmas.Bool.Decides.{nat_tests}
-use Rattle.std.proofs.lemmas.List.{map-append}
+use Rattle.std.proofs.lemmas.List.{map-append, length-map}
 use Rattle.cpn_definitions.specs.Inscription.{PlainExpr}
 use Rattle.cpn_definitions.specs.Net.{BindingTerm, PlainArc, PlainTransition, PlainNet, variable_at, transition_at}
 use Rattle.cpn_definitions.specs.Bindable.{pattern_variables, IsSmall}
 use Rattle.cpn_definitions.specs.Sound.{IsSound, IsSoundTransition, IsSoundInput}
 use Rattle.cpn_definitions.proofs.RisingLists.{IsIn, in_from_contains, contains_from_in, in_append_right, passes_at, each_appended}
 use Rattle.cpn_definitions.proofs.SoundElements.{sound_transition}
+use Rattle.cpn_definitions.proofs.NumberTests.{equals_either_way}
 use Rattle.cpn_core.specs.declared.nets.Net.{Net}
 use Rattle.cpn_core.specs.declared.nets.Transition.{Transition}
 use Rattle.cpn_core.specs.Nets.{transition_view, net_view}
@@ -22,14 +22,11 @@ use Rattle.cpn_search.specs.declared.plan.Stage as program
 use Rattle.cpn_search.specs.declared.plan.Stage.TheVariants as stages
 use Rattle.cpn_search.specs.StageViews.{stage_view, stages_view, carried_stages, HasAllValues}
 use Rattle.cpn_search.specs.Plans.{AreLeft, HaveColours, IsNext, ArePlanned, AreFurther}
-use Rattle.cpn_search.proofs.KnownTransitions.{length_map, transition_is, in_range}
-
-either_way : (x y : ℕ) → (y == x) ≡ (x == y)
-either_way x y = grind (arith, nat_tests)
+use Rattle.cpn_search.proofs.KnownTransitions.{transition_is, in_range}
 
 pub flipped : (xs : List ℕ) (x : ℕ) → list_any (λ y. y == x) xs ≡ is_among xs x
 flipped [] x = refl
-flipped (y ∷ ys) x = rw (either_way x y) (ap (λ b. (x == y) || b) (flipped ys x))
+flipped (y ∷ ys) x = rw (equals_either_way x y) (ap (λ b. (x == y) || b) (flipped ys x))
 
 -- ---- the first variable of a small colour set
 
@@ -65,14 +62,11 @@ first_is n left i lt large small = record {
 
 -- ---- the next stage
 
-below : (x k : ℕ) → nat_lt x k ≡ true → x < k
-below x k h = grind (arith, nat_tests)
-
 pub colours_of_left : (n : Net) (t : PlainTransition) (left : List ℕ) → IsSoundTransition (net_view n) t → AreLeft t left → HaveColours (length n.variables.items) left
 colours_of_left n t left sound are = record {
   below = λ x h.
       let here : nat_lt x (length (net_view n).variables) ≡ true = passes_at (λ y. nat_lt y (length (net_view n).variables)) t.vars x sound.declared (in_from_contains t.vars x (are.listed x h)) in
-      below x (length n.variables.items) (subst (λ (k : ℕ). nat_lt x k ≡ true) (length_map _ n.variables.items) here);
+      ltb-true x (length n.variables.items) (subst (λ (k : ℕ). nat_lt x k ≡ true) (length-map n.variables.items _) here);
 }
 
 pub not_stuck

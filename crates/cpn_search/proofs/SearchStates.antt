@@ -12,6 +12,7 @@ use Rattle.cpn_definitions.proofs.RisingLists.{IsIn, in_from_contains, contains_
 use Rattle.cpn_stages.specs.Partial.{PlainPartial, bound_in}
 use Rattle.cpn_stages.specs.Stages.{Stage, by_term, by_equation, by_size, variables_at, variables_at_each}
 use Rattle.cpn_definitions.specs.Sound.{IsSolvable}
+use Rattle.cpn_definitions.proofs.ListItems.{head_of}
 use Rattle.cpn_stages.specs.Orderly.{IsTimelyStage, AreOrderly}
 use Rattle.cpn_stages.specs.Trials.{Trial, solving, next, ends, made, sum_of, IsTrialOf, AreTrialsOf}
 use Rattle.cpn_stages.proofs.Partials.{extends_variables, value_stays}
@@ -97,16 +98,13 @@ record HasStage (n : PlainNet) (m : Marking) (stages : List Stage) (k : ℕ) (tr
   short : k < length stages
   of_it : IsTrialOf n m stage trial
 
-same_front : {A : Type 0} (x y : A) (xs ys : List A) → x ∷ xs ≡ y ∷ ys → x ≡ y
-same_front x y xs ys h = cc
-
 stage_at : (n : PlainNet) (m : Marking) (stages : List Stage) (trials rest : List Trial) (trial : Trial) (k : ℕ) → AreTrialsOf n m stages trials → drop k trials ≡ trial ∷ rest → HasStage n m stages k trial
 stage_at n m [] [] rest trial zero of_them is = cc
 stage_at n m [] [] rest trial (suc k) of_them is = cc
 stage_at n m [] (t ∷ trials) rest trial k of_them is = absurd of_them
 stage_at n m (stage ∷ stages) [] rest trial k of_them is = absurd of_them
 stage_at n m (stage ∷ stages) (t ∷ trials) rest trial zero of_them is =
-    record { stage = stage; rest = stages; there = refl; upto = refl; short = omega arith; of_it = subst (IsTrialOf n m stage) (same_front t trial trials rest is) of_them.0 }
+    record { stage = stage; rest = stages; there = refl; upto = refl; short = omega arith; of_it = subst (IsTrialOf n m stage) (head_of t trial trials rest is) of_them.0 }
 stage_at n m (stage ∷ stages) (t ∷ trials) rest trial (suc k) of_them is =
     let later = stage_at n m stages trials rest trial k of_them.1 is in
     record { stage = later.stage; rest = later.rest; there = later.there; upto = ap (λ (ss : List Stage). stage ∷ ss) later.upto; short = let s = later.short in omega (arith, s); of_it = later.of_it }
@@ -142,7 +140,7 @@ next_under_way n m t stages trials rest trial b k of_them here is =
 orderly_at : (t : PlainTransition) (before stages rest : List Stage) (stage : Stage) (k : ℕ) → AreOrderly t before stages → drop k stages ≡ stage ∷ rest → IsTimelyStage t (before ++ take k stages) stage
 orderly_at t before [] rest stage zero orderly is = cc
 orderly_at t before [] rest stage (suc k) orderly is = cc
-orderly_at t before (s ∷ stages) rest stage zero orderly is = subst (λ (bs : List Stage). IsTimelyStage t bs stage) (sym (append-nil before)) (subst (IsTimelyStage t before) (same_front s stage stages rest is) orderly.0)
+orderly_at t before (s ∷ stages) rest stage zero orderly is = subst (λ (bs : List Stage). IsTimelyStage t bs stage) (sym (append-nil before)) (subst (IsTimelyStage t before) (head_of s stage stages rest is) orderly.0)
 orderly_at t before (s ∷ stages) rest stage (suc k) orderly is = subst (λ (bs : List Stage). IsTimelyStage t bs stage) (append_assoc before (s ∷ []) (take k stages)) (orderly_at t (before ++ s ∷ []) stages rest stage k orderly.1 is)
 
 pub solving_means

@@ -1,5 +1,6 @@
 -- The entries of the transitions of the program's net, one transition after another.
 use Rattle.std.proofs.Common.{◌≡◌, ℕ, ◌+◌, List, ◌++◌, length, sym, ◌∙◌, subst}
+use Rattle.std.proofs.lemmas.List.{length-map}
 use Rattle.cpn_definitions.specs.Marking.{Marking}
 use Rattle.cpn_definitions.specs.Net.{PlainNet}
 use Rattle.cpn_definitions.specs.Enabled.{PlainFound, PlainEntry, EnabledOf, Enabled}
@@ -7,7 +8,6 @@ use Rattle.cpn_core.specs.declared.nets.Net.{Net}
 use Rattle.cpn_core.specs.Nets.{transition_view, net_view}
 use Rattle.cpn_search.specs.Found.{EnabledBelow, entries_at}
 use Rattle.cpn_search.proofs.EnabledBelow.{enabled_more, enabled_all}
-use Rattle.cpn_search.proofs.KnownTransitions.{length_map}
 
 -- the entries of one transition more
 pub entries_more
@@ -21,4 +21,4 @@ entries_more n m clock t old new found below here is = subst (EnabledBelow n m c
 -- the entries of all transitions
 pub entries_all : (n : Net) (m : Marking) (clock t : ℕ) (entries : List PlainEntry) → EnabledBelow (net_view n) m clock t entries → t ≡ length n.transitions.items → Enabled (net_view n) m clock entries
 entries_all n m clock t entries below done =
-    enabled_all (net_view n) m clock entries (subst (λ (k : ℕ). EnabledBelow (net_view n) m clock k entries) (done ∙ sym (length_map transition_view n.transitions.items)) below)
+    enabled_all (net_view n) m clock entries (subst (λ (k : ℕ). EnabledBelow (net_view n) m clock k entries) (done ∙ sym (length-map n.transitions.items transition_view)) below)

@@ -1,7 +1,7 @@
 -- What a turn of a search has of its trials and its transition.
 use Rattle.std.proofs.Common.{◌≡◌, ℕ, zero, suc, ◌+◌, ◌<◌, ◌≤◌, nat_lt, List, [], ◌∷◌, ◌++◌, map, drop, length, get_or, refl, sym, ap, ◌∙◌, subst, arith, nat_cmp, Option, Some}
 use Rattle.std.specs.Option.{option_to_list}
-use Rattle.std.proofs.lemmas.List.{map-append}
+use Rattle.std.proofs.lemmas.List.{map-append, length-map}
 use Rattle.std.specs.List.{list_all}
 use Rattle.cpn_definitions.specs.Lists.{Rises}
 use Rattle.cpn_definitions.specs.Marking.{Marking}
@@ -19,7 +19,7 @@ use Rattle.cpn_search.specs.declared.trials.Trial as program
 use Rattle.cpn_search.specs.declared.extending.UnderWay.{UnderWay}
 use Rattle.cpn_search.specs.TrialViews.{PlainUnderWay, trial_view, trials_view, under_way_view, all_under_way, after}
 use Rattle.cpn_search.specs.Searches.{AreDeclared, AreTrials, IsTurn, SearchState}
-use Rattle.cpn_search.proofs.KnownTransitions.{length_map, transition_is, in_range}
+use Rattle.cpn_search.proofs.KnownTransitions.{transition_is, in_range}
 use Rattle.cpn_search.specs.FoundViews.{found_view}
 use Rattle.cpn_search.proofs.TurnedSearches.{state_begins}
 
@@ -52,7 +52,7 @@ pub declared_at : (n : Net) (t : ℕ) (b : PlainPartial) → IsSound (net_view n
 declared_at n t b sound lt same = record {
   all =
       ap (list_all (λ x. nat_lt x (length n.variables.items))) same
-      ∙ ap (λ (k : ℕ). list_all (λ x. nat_lt x k) (transition_at (net_view n) t).vars) (sym (length_map _ n.variables.items))
+      ∙ ap (λ (k : ℕ). list_all (λ x. nat_lt x k) (transition_at (net_view n) t).vars) (sym (length-map n.variables.items _))
       ∙ (sound_transition (net_view n) t sound (in_range n t lt)).declared;
 }
 

@@ -5,7 +5,6 @@ use Rattle.std.proofs.lemmas.List.{map-append}
 use Rattle.cpn_definitions.specs.Lists.{Rises}
 use Rattle.cpn_definitions.specs.Marking.{Marking}
 use Rattle.cpn_definitions.specs.Net.{PlainTransition, PlainNet, transition_at}
-use Rattle.cpn_definitions.specs.Meaning.{PlainBinding}
 use Rattle.cpn_definitions.specs.Bindable.{AreClosed}
 use Rattle.cpn_definitions.specs.Occurrence.{binds}
 use Rattle.cpn_definitions.specs.Enabled.{PlainFound}
@@ -19,6 +18,7 @@ use Rattle.cpn_stages.proofs.OrderlyStages.{stages_are_orderly}
 use Rattle.cpn_stages.proofs.WholeBindings.{IsWhole, whole_again}
 use Rattle.cpn_stages.proofs.ApartEnds.{AreApart, AllApart}
 use Rattle.cpn_stages.proofs.TransitionEnds.{unbound_variables, unbound_admitted, each_end_whole, all_ends_apart, covered_is_end}
+use Rattle.cpn_stages.proofs.CoveredBindings.{bound_again}
 use Rattle.cpn_search.specs.Found.{element_of}
 use Rattle.cpn_search.specs.TrialViews.{PlainUnderWay, after}
 use Rattle.cpn_search.specs.Searches.{AreTrials, IsUnderWay, pending, still_made, FoundAmong, AddsEnd, IsTurn, SearchState, AllFound, MeansSomething}
@@ -143,7 +143,7 @@ state_ends n m t trials found closed listed state = record {
   complete = λ time b is.
       let there : IsIn (as_partial b) (ends n trials (unbound (transition_at n t).vars)) = covered_is_end n m time (element_of t b) state.trials_are.stages trials closed listed state.trials_are.are state.trials_are.of_them is in
       contains_from_in (map bound_in state.searched.visited) b
-      (subst (λ c. IsIn c (map bound_in state.searched.visited)) (bound_back b) (in_map bound_in state.searched.visited (as_partial b) (subst (IsIn (as_partial b)) all there)));
+      (subst (λ c. IsIn c (map bound_in state.searched.visited)) (bound_again b) (in_map bound_in state.searched.visited (as_partial b) (subst (IsIn (as_partial b)) all there)));
 }
   where
     all : ends n trials (unbound (transition_at n t).vars) ≡ state.searched.visited
@@ -151,7 +151,3 @@ state_ends n m t trials found closed listed state = record {
 
     whole : (c : PlainPartial) → IsIn c state.searched.visited → IsWhole c × (binds n (transition_at n t).vars (bound_in c) ≡ true)
     whole c h = each_end_whole n m (transition_at n t) state.trials_are.stages trials listed state.trials_are.are state.trials_are.of_them c (subst (IsIn c) (sym all) h)
-
-    bound_back : (b : PlainBinding) → bound_in (as_partial b) ≡ b
-    bound_back [] = refl
-    bound_back (pair ∷ b) = ap (λ (rest : PlainBinding). pair ∷ rest) (bound_back b)

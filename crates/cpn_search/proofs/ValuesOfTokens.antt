@@ -5,10 +5,11 @@ use Rattle.std.proofs.lemmas.Bool.{cond_both}
 use Rattle.std.proofs.lemmas.Cmp.{upto}
 use Rattle.cpn_definitions.specs.Value.{PlainValue}
 use Rattle.cpn_definitions.specs.Order.{value_cmp, same_value}
-use Rattle.cpn_definitions.specs.ValueOrder.{value_cmp_total, value_same, value_itself, same_value_true, value_not_above}
+use Rattle.cpn_definitions.specs.ValueOrder.{value_cmp_total, value_itself, same_value_true, value_not_above}
 use Rattle.cpn_definitions.specs.Lists.{Rises}
 use Rattle.cpn_definitions.specs.Marking.{PlainToken, Tokens, Marking, tokens_at, MayPrecede, AreSorted}
 use Rattle.cpn_definitions.proofs.RisingLists.{IsIn, in_from_contains, contains_from_in, each_implied, of_one_in}
+use Rattle.cpn_definitions.proofs.SameTokens.{less_upto}
 use Rattle.cpn_stages.specs.Reached.{StandsOn}
 use Rattle.cpn_stages.specs.Work.{AllDiffer, AreJust}
 use Rattle.cpn_tmset.specs.Listed.{is_last_of, values_of}
@@ -28,20 +29,12 @@ each_value : (P : PlainValue → Type 0) (ks : Tokens) → AllByRecursion (λ (k
 each_value P [] all = tt
 each_value P (k ∷ ks) all = cond_both (is_last_of k ks) (k.value ∷ values_of ks) (values_of ks) (AllByRecursion P) (λ _. (all.0, each_value P ks all.1)) (λ _. each_value P ks all.1)
 
-before_later : (x y z : PlainValue) → value_cmp x y ≡ Less → is_gt (value_cmp y z) ≡ false → value_cmp x z ≡ Less
-before_later x y z first later = split (value_cmp y z) refl later
-  where
-    split : (o : Ordering) → value_cmp y z ≡ o → is_gt o ≡ false → value_cmp x z ≡ Less
-    split Less is h = value_cmp_total.trans x y z first is
-    split Equal is h = subst (λ w. value_cmp x w ≡ Less) (value_same y z is) first
-    split Greater is h = cc
-
 -- a token that is the last of its value comes before all that follow
 last_before : (k : PlainToken) (ks : Tokens) → is_last_of k ks ≡ true → MayPrecede k ks → AreSorted ks → AllByRecursion (λ (l : PlainToken). value_cmp k.value l.value ≡ Less) ks
 last_before k [] is before sorted = tt
 last_before k (l ∷ ls) is before sorted =
     let first = apart (value_cmp k.value l.value) is (value_not_above k l before) in
-    (first, each_implied (λ (j : PlainToken). is_gt (value_cmp l.value j.value) ≡ false) (λ (j : PlainToken). value_cmp k.value j.value ≡ Less) ls (λ j later. before_later k.value l.value j.value first later) (none_below l ls sorted.0 sorted.1))
+    (first, each_implied (λ (j : PlainToken). is_gt (value_cmp l.value j.value) ≡ false) (λ (j : PlainToken). value_cmp k.value j.value ≡ Less) ls (λ j later. less_upto k.value l.value j.value first later) (none_below l ls sorted.0 sorted.1))
   where
     apart : (o : Ordering) → not (is_eq o) ≡ true → is_gt o ≡ false → o ≡ Less
     apart Less h g = refl

@@ -1,7 +1,7 @@
-pub mod Readings
-pub mod RefusalCauses
-pub mod RefusedDocuments
-pub mod OneReport
-pub mod WrittenReports
-pub mod OptionRows
-pub mod Rows
+mod Readings
+mod RefusalCauses
+mod RefusedDocuments
+mod OneReport
+mod WrittenReports
+mod OptionRows
+mod Rows

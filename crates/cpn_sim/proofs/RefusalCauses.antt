@@ -118,10 +118,6 @@ is_no_report too_long (inr is) = cc
 is_no_report (bad_document r) (inl is) = no_document r statuses.Done refl is
 is_no_report (bad_document r) (inr is) = no_document r statuses.RunFault refl is
 
--- the status of a report is no other
-pub is_reported : (status other : Status) → IsReported status → status ≡ other → (IsReported other → ⊥) → ⊥
-is_reported status other reported same not = not (subst IsReported same reported)
-
 -- a refusal that is not for want of memory is a plain one
 pub plain_of : {C O W : PlainRefusal → Type 0} (refusal : TheRefusal) (view : Option PlainRefusal) → MatchOption view (refusal ≡ refusals.Memory) C → IfSome view O → IfSome view W → (refusal ≡ refusals.Memory → ⊥) → (plain : PlainRefusal) × C plain × O plain × W plain
 plain_of refusal None memory once written not_memory = absurd (not_memory memory)

@@ -1,6 +1,6 @@
 -- What a document that is not read gives: its refusal, with the cause and the status of it, or want of memory.
-use Rattle.std.proofs.Common.{◌≡◌, ℕ, ◌≤◌, true, false, List, length, Option, Some, None, IfSome, refl, sym, subst}
-use Rattle.std.specs.Prelude.{option_map, not, is_some}
+use Rattle.std.proofs.Common.{◌≡◌, ℕ, ◌≤◌, List, length, Option, Some, None, IfSome, sym, subst}
+use Rattle.std.specs.Prelude.{option_map, not}
 use Rattle.std.specs.Option.{MatchOption}
 use Rattle.cpn_file.specs.Reading.{Refusal, refused}
 use Rattle.cpn_file.specs.Reads.{IsReadAs}
@@ -9,18 +9,6 @@ use Rattle.cpn_sim.specs.Causes.{PlainRefusal, bad_document, GiveOptions, HasCau
 use Rattle.cpn_sim.specs.RefusalViews.{refusal_view}
 use Rattle.cpn_sim.specs.declared.refusals.Refusal.{Refusal as TheRefusal}
 use Rattle.cpn_sim.specs.declared.refusals.Refusal.TheVariants as refusals
-
--- ---- want of memory
-
--- what is want of memory is no refusal
-pub no_refusal : (o : Option Refusal) → true ≡ not (is_some o) → None ≡ option_map bad_document o
-no_refusal None is = refl
-no_refusal (Some r) is = absurd cc
-
--- and what is not is one
-pub a_refusal : {A : Type 0} (o : Option Refusal) → false ≡ not (is_some o) → option_map bad_document o ≡ None → A
-a_refusal None is none = absurd cc
-a_refusal (Some r) is none = absurd cc
 
 -- ---- causes
 

@@ -39,13 +39,6 @@ pub written : (words : List (List ℕ)) (left : Option (List ℕ)) (status given
 written words None status given report old new is same appended = tt
 written words (Some bytes) status given report old new is same appended = (is.0, (report, subst (λ s. IsReport bytes words s report) same is.1, appended))
 
--- and what a part of it is a part of was to be written
-pub to_be_written : (words : List (List ℕ)) (left : Option (List ℕ)) (status : Status) (report : List ℕ)
-    → IfSome left (λ bytes. (length bytes ≤ most_bytes) × IsReport bytes words status report)
-    → IfSome left (λ bytes. (length bytes ≤ most_bytes) × ((s : Status) × IsReport bytes words s report))
-to_be_written words None status report is = tt
-to_be_written words (Some bytes) status report is = (is.0, (status, is.1))
-
 -- where there is a report, the words give options
 pub not_refused_words : (words : List (List ℕ)) → GiveOptions words → options_from words ≡ None → ⊥
 not_refused_words words given none = let e : Some given.0 ≡ None = sym given.1 ∙ none in cc

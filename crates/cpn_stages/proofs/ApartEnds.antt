@@ -1,29 +1,28 @@
 -- No two ends of the trials of a transition have an extension in common, so no two are the same.
-use Rattle.std.proofs.Common.{◌≡◌, ◌⊎◌, ℕ, suc, pos, Bool, true, false, cond, if◌then◌else◌, List, [], ◌∷◌, ◌++◌, map, reverse, Option, Some, None, refl, sym, ap, ap₂, ◌∙◌, subst, inl, inr, ⊎_elim, Contains}
+use Rattle.std.proofs.Common.{◌≡◌, ℕ, suc, pos, Bool, true, false, if◌then◌else◌, List, [], ◌∷◌, ◌++◌, reverse, Option, Some, None, refl, sym, ap, ap₂, ◌∙◌, subst, inl, inr}
 use Rattle.std.specs.List.{flat_map, AllByRecursion}
-use Rattle.std.specs.Option.{option_map, option_and_then}
+use Rattle.std.specs.Option.{option_map}
 use Rattle.std.proofs.lemmas.Grind.{reverse_onto}
-use Rattle.cpn_definitions.specs.Value.{PlainValue, PlainValues, unit, boolean, int, constant, text, tuple, bare, applied, list, none, more}
+use Rattle.std.proofs.lemmas.Option.{same_Some}
+use Rattle.cpn_definitions.specs.Value.{PlainValue, PlainValues, int, tuple, bare, applied, list, none, more}
 use Rattle.cpn_definitions.specs.Marking.{Marking}
 use Rattle.cpn_definitions.specs.Outcome.{Outcome, gives, faults, no_meaning}
 use Rattle.cpn_definitions.specs.Inscription.{operation, cons, tupling, listing, constructing, PlainPattern, any_pattern, variable_pattern, literal_pattern, tuple_pattern, list_pattern, cons_pattern, bare_pattern, applied_pattern, PlainPatterns, no_patterns, more_patterns, PlainExpr, literal, variable, apply, PlainExprs, no_exprs, more_exprs, ArcInscription, one, times, sum_of, ArcInscriptions, no_inscriptions, more_inscriptions}
 use Rattle.cpn_definitions.specs.Net.{BindingTerm, PlainArc, PlainTransition, PlainNet}
 use Rattle.cpn_definitions.specs.Meaning.{meaning}
 use Rattle.cpn_definitions.specs.Bindable.{constructor_pattern, list_of_two, pattern_of, patterns_of, term_with, binding_term, binding_terms_of_each, binding_terms}
-use Rattle.cpn_definitions.proofs.RisingLists.{IsIn, in_from_contains, contains_from_in, in_append_left, in_append_right, in_append_cases, in_map_from, each_in, of_one_in, each_appended, each_implied}
+use Rattle.cpn_definitions.proofs.RisingLists.{IsIn, contains_from_in, in_append_left, in_map_from, each_in, of_one_in, each_appended, in_flat_from}
+use Rattle.cpn_definitions.proofs.ListItems.{made_of}
 use Rattle.cpn_stages.specs.Partial.{PlainPartial, Extends, bound_in}
 use Rattle.cpn_stages.specs.Instances.{IsInstance, AreInstances}
 use Rattle.cpn_stages.specs.Stages.{Stage, by_term, by_equation, by_size, terms_at, term_stages, Further, none_left, next_equation, next_small, AreStages, those_without}
-use Rattle.cpn_stages.specs.Reached.{StandsOn, IsAdmitted}
-use Rattle.cpn_stages.specs.Work.{AllDiffer, AreJust}
+use Rattle.cpn_stages.specs.Work.{AllDiffer}
 use Rattle.cpn_stages.specs.Fitting.{fitted}
 use Rattle.cpn_stages.specs.Trials.{Trial, matching, solving, are_admitted, kept, with_outcome, next, ends, IsTrialOf, AreTrialsOf}
 use Rattle.cpn_stages.proofs.Partials.{extends_itself, extends_further}
 use Rattle.cpn_stages.proofs.Instances.{instance_stays}
-use Rattle.cpn_stages.proofs.Guards.{in_flat_from}
-use Rattle.cpn_stages.proofs.PatternValues.{map_parts, then_parts}
-use Rattle.cpn_stages.proofs.FittedMatches.{fitted_matches}
-use Rattle.cpn_stages.proofs.Ends.{from_reverse, IsMade, made_of_matching, made_of_outcome}
+use Rattle.cpn_stages.proofs.PatternValues.{then_parts}
+use Rattle.cpn_stages.proofs.Ends.{from_reverse, made_of_matching, made_of_outcome}
 
 -- ---- patterns that are one value
 
@@ -43,9 +42,6 @@ abbrev mutual
   HaveNoAny no_patterns = Unit {0}
   HaveNoAny (more_patterns p ps) = HasNoAny p × HaveNoAny ps
 
-some_same : {A : Type 0} (v w : A) → Some v ≡ Some w → v ≡ w
-some_same v w h = cc
-
 abbrev items_of : PlainValue → PlainValues
 items_of (list vs) = vs
 items_of v = none
@@ -57,7 +53,7 @@ mutual
   -- under a partial binding such a pattern is one value
   one_value : (b : PlainPartial) (p : PlainPattern) (v w : PlainValue) → HasNoAny p → IsInstance b p v → IsInstance b p w → v ≡ w
   one_value b any_pattern v w no_any first second = absurd no_any
-  one_value b (variable_pattern x) v w no_any first second = some_same v w (sym first ∙ second)
+  one_value b (variable_pattern x) v w no_any first second = same_Some v w (sym first ∙ second)
   one_value b (literal_pattern u) v w no_any first second = sym first ∙ second
   one_value b (tuple_pattern ps) (tuple vs) (tuple ws) no_any first second = ap tuple (one_row b ps vs ws no_any first second)
   one_value b (list_pattern ps) (list vs) (list ws) no_any first second = ap list (one_row b ps vs ws no_any first second)
@@ -183,31 +179,31 @@ ends_apart n m (stage ∷ stages) (trial ∷ trials) b has of_them =
 -- ---- the patterns of binding terms are one value
 
 of_constructor : (k : ℕ) (ps : PlainPatterns) (p : PlainPattern) → HaveNoAny ps → constructor_pattern k ps ≡ Some p → HasNoAny p
-of_constructor k no_patterns p no_any form = subst HasNoAny (some_same (bare_pattern k) p form) tt
-of_constructor k (more_patterns q no_patterns) p no_any form = subst HasNoAny (some_same (applied_pattern k q) p form) no_any.0
+of_constructor k no_patterns p no_any form = subst HasNoAny (same_Some (bare_pattern k) p form) tt
+of_constructor k (more_patterns q no_patterns) p no_any form = subst HasNoAny (same_Some (applied_pattern k q) p form) no_any.0
 of_constructor k (more_patterns q (more_patterns r ps)) p no_any form = cc
 
 of_cons : (ps : PlainPatterns) (p : PlainPattern) → HaveNoAny ps → list_of_two ps ≡ Some p → HasNoAny p
 of_cons no_patterns p no_any form = cc
 of_cons (more_patterns q no_patterns) p no_any form = cc
-of_cons (more_patterns q (more_patterns r no_patterns)) p no_any form = subst HasNoAny (some_same (cons_pattern q r) p form) (no_any.0, no_any.1.0)
+of_cons (more_patterns q (more_patterns r no_patterns)) p no_any form = subst HasNoAny (same_Some (cons_pattern q r) p form) (no_any.0, no_any.1.0)
 of_cons (more_patterns q (more_patterns r (more_patterns s ps))) p no_any form = cc
 
 mutual
   pattern_one : (e : PlainExpr) (p : PlainPattern) → pattern_of e ≡ Some p → HasNoAny p
-  pattern_one (literal w) p form = subst HasNoAny (some_same (literal_pattern w) p form) tt
-  pattern_one (variable x) p form = subst HasNoAny (some_same (variable_pattern x) p form) tt
-  pattern_one (apply tupling es) p form = let read = map_parts tuple_pattern (patterns_of es) p form in subst HasNoAny read.2 (patterns_one es read.0 read.1)
-  pattern_one (apply listing es) p form = let read = map_parts list_pattern (patterns_of es) p form in subst HasNoAny read.2 (patterns_one es read.0 read.1)
+  pattern_one (literal w) p form = subst HasNoAny (same_Some (literal_pattern w) p form) tt
+  pattern_one (variable x) p form = subst HasNoAny (same_Some (variable_pattern x) p form) tt
+  pattern_one (apply tupling es) p form = let read = made_of tuple_pattern (patterns_of es) p form in subst HasNoAny read.2 (patterns_one es read.0 read.1)
+  pattern_one (apply listing es) p form = let read = made_of list_pattern (patterns_of es) p form in subst HasNoAny read.2 (patterns_one es read.0 read.1)
   pattern_one (apply (constructing k) es) p form = let read = then_parts (constructor_pattern k) (patterns_of es) p form in of_constructor k read.0 p (patterns_one es read.0 read.1) read.2
   pattern_one (apply (operation cons) es) p form = let read = then_parts list_of_two (patterns_of es) p form in of_cons read.0 p (patterns_one es read.0 read.1) read.2
   pattern_one e p form = cc
 
   patterns_one : (es : PlainExprs) (ps : PlainPatterns) → patterns_of es ≡ Some ps → HaveNoAny ps
-  patterns_one no_exprs ps form = subst HaveNoAny (some_same no_patterns ps form) tt
+  patterns_one no_exprs ps form = subst HaveNoAny (same_Some no_patterns ps form) tt
   patterns_one (more_exprs e es) ps form =
       let first = then_parts (λ p. option_map (more_patterns p) (patterns_of es)) (pattern_of e) ps form in
-      let rest = map_parts (more_patterns first.0) (patterns_of es) ps first.2 in
+      let rest = made_of (more_patterns first.0) (patterns_of es) ps first.2 in
       subst HaveNoAny rest.2 (pattern_one e first.0 first.1, patterns_one es rest.0 rest.1)
 
 abbrev AllOne : List BindingTerm → Type 0

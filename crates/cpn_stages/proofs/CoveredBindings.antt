@@ -1,5 +1,5 @@
 -- The stages of a transition give each of its variables a value, and reach each binding with which it is covered.
-use Rattle.std.proofs.Common.{◌≡◌, ◌⊎◌, ◌↔◌, ℕ, ◌==◌, Bool, true, false, cond, ◌&&◌, nat_lt, length, List, [], ◌∷◌, ◌++◌, map, Option, Some, None, refl, sym, ap, ap₂, ◌∙◌, subst, inl, inr, ⊎_elim, arith, Contains}
+use Rattle.std.proofs.Common.{◌≡◌, ◌⊎◌, ℕ, ◌==◌, Bool, true, false, cond, ◌&&◌, nat_lt, length, List, [], ◌∷◌, ◌++◌, Some, refl, sym, ap, ap₂, ◌∙◌, subst, inl, inr, ⊎_elim, eqb-true}
 use Rattle.std.specs.List.{flat_map, AllByRecursion}
 use Rattle.std.proofs.lemmas.Bool.{and_parts}
 use Rattle.cpn_definitions.specs.Value.{PlainValue}
@@ -8,16 +8,16 @@ use Rattle.cpn_definitions.specs.Marking.{Marking}
 use Rattle.cpn_definitions.specs.Outcome.{gives, gives_and}
 use Rattle.cpn_definitions.specs.Inscription.{PlainExpr}
 use Rattle.cpn_definitions.specs.Net.{BindingTerm, PlainArc, PlainTransition, PlainNet, variable_at, transition_at}
-use Rattle.cpn_definitions.specs.Meaning.{PlainBinding, bound_value, meaning}
+use Rattle.cpn_definitions.specs.Meaning.{PlainBinding, meaning}
 use Rattle.cpn_definitions.specs.Bindable.{binding_terms}
 use Rattle.cpn_definitions.specs.Occurrence.{PlainElement, needs_of, are_covered, threshold_in, binds, guard_holds, may_occur, covered}
-use Rattle.cpn_definitions.proofs.RisingLists.{IsIn, in_from_contains, contains_from_in, in_append_left, in_append_right, in_append_cases, in_map_from, each_in, each_appended}
-use Rattle.cpn_stages.specs.Partial.{PlainPartial, variables_in, value_in, with_value, bound_in, as_partial}
-use Rattle.cpn_stages.specs.Instances.{IsInstance}
-use Rattle.cpn_stages.specs.Stages.{Stage, by_term, by_equation, by_size, variables_at, variables_at_each, terms_at, term_stages, is_among, those_without, equations_in, first_solving, IsFirstSmall, Further, none_left, next_equation, next_small, AreStages}
-use Rattle.cpn_stages.specs.Reached.{StandsOn, HasValue, IsAdmitted, Holds, IsReached}
-use Rattle.cpn_stages.proofs.Numbers.{number_same, among_from_in, in_from_among, in_without, from_without, left_or_other}
-use Rattle.cpn_stages.proofs.Guards.{in_flat_from, part_in, found_is}
+use Rattle.cpn_definitions.proofs.RisingLists.{IsIn, in_from_contains, contains_from_in, in_append_left, in_append_right, in_map_from, each_in, each_appended, in_flat_from}
+use Rattle.cpn_definitions.proofs.NumberTests.{equals_itself}
+use Rattle.cpn_stages.specs.Partial.{PlainPartial, variables_in, value_in, bound_in, as_partial}
+use Rattle.cpn_stages.specs.Stages.{Stage, by_term, by_equation, by_size, variables_at, variables_at_each, terms_at, term_stages, those_without, equations_in, first_solving, IsFirstSmall, Further, none_left, next_equation, next_small, AreStages}
+use Rattle.cpn_stages.specs.Reached.{HasValue, IsAdmitted, Holds, IsReached}
+use Rattle.cpn_stages.proofs.Numbers.{from_without, left_or_other}
+use Rattle.cpn_stages.proofs.Guards.{part_in, found_is}
 use Rattle.cpn_stages.proofs.PatternValues.{value_as_partial}
 use Rattle.cpn_stages.proofs.TermTokens.{term_stands}
 use Rattle.cpn_stages.proofs.TrueGuards.{guard_part_true, equation_gives}
@@ -58,7 +58,7 @@ each_is_given n t stages are x h =
 
 -- ---- a binding as a partial one
 
-bound_again : (b : PlainBinding) → bound_in (as_partial b) ≡ b
+pub bound_again : (b : PlainBinding) → bound_in (as_partial b) ≡ b
 bound_again [] = refl
 bound_again (pair ∷ b) = ap (λ rest. pair ∷ rest) (bound_again b)
 
@@ -66,7 +66,7 @@ binds_parts : (n : PlainNet) (x : ℕ) (xs : List ℕ) (pair : ℕ × PlainValue
 binds_parts n x xs pair b is =
     let all = and_parts ((x == pair.0) && admits (variable_at n x).colour pair.1) (binds n xs b) is in
     let front = and_parts (x == pair.0) (admits (variable_at n x).colour pair.1) all.0 in
-    (number_same x pair.0 front.0, front.1, all.1)
+    (eqb-true x pair.0 front.0, front.1, all.1)
 
 pub variables_bound : (n : PlainNet) (xs : List ℕ) (b : PlainBinding) → binds n xs b ≡ true → variables_in (as_partial b) ≡ xs
 variables_bound n [] [] is = refl
@@ -83,15 +83,12 @@ each_has_value n (y ∷ xs) (pair ∷ b) x is h = split (x == pair.0) refl (λ t
     same : y ≡ pair.0
     same = (binds_parts n y xs pair b is).0
 
-    itself : (z : ℕ) → (z == z) ≡ true
-    itself z = Rattle.cpn_stages.proofs.Numbers.number_itself z
-
     split : (b' : Bool) → (x == pair.0) ≡ b' → (IsIn x xs → HasValue x (as_partial b)) → (y ≡ x) ⊎ IsIn x xs → (v : PlainValue) × (cond b' (Some pair.1) (value_in x (as_partial b)) ≡ Some v)
     split true test rest h = (pair.1, refl)
     split false test rest (inl e) = absurd (apart (subst (λ z. (z == pair.0) ≡ false) (sym e ∙ same) test))
       where
         apart : (pair.0 == pair.0) ≡ false → ⊥
-        apart h = clash (itself pair.0) h
+        apart h = clash (equals_itself pair.0) h
           where
             clash : (pair.0 == pair.0) ≡ true → (pair.0 == pair.0) ≡ false → ⊥
             clash h g = cc
@@ -111,7 +108,7 @@ each_admitted n (y ∷ xs) (pair ∷ b) x v is h = split (x == pair.0) refl (λ 
     some_same e = cc
 
     split : (b' : Bool) → (x == pair.0) ≡ b' → (value_in x (as_partial b) ≡ Some v → IsAdmitted n x v) → cond b' (Some pair.1) (value_in x (as_partial b)) ≡ Some v → IsAdmitted n x v
-    split true test rest h = subst (λ w. admits (variable_at n x).colour w ≡ true) (some_same h) (subst (λ z. admits (variable_at n z).colour pair.1 ≡ true) (parts.0 ∙ sym (number_same x pair.0 test)) parts.1)
+    split true test rest h = subst (λ w. admits (variable_at n x).colour w ≡ true) (some_same h) (subst (λ z. admits (variable_at n z).colour pair.1 ≡ true) (parts.0 ∙ sym (eqb-true x pair.0 test)) parts.1)
     split false test rest h = rest h
 
 -- ---- the stages hold of a covered binding

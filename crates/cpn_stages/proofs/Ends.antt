@@ -1,34 +1,25 @@
 -- What trials make of a partial binding: each end extends it, gives the variables of all stages values that their colour sets
 -- admit, and no two have an extension in common; and each binding of which all the stages hold is one of them.
-use Rattle.std.proofs.Common.{◌≡◌, ◌⊎◌, ℕ, zero, suc, ◌+◌, ◌==◌, Bool, true, false, cond, if◌then◌else◌, ◌&&◌, List, [], ◌∷◌, ◌++◌, map, reverse, length, Option, Some, None, refl, sym, ap, ap₂, ◌∙◌, subst, inl, inr, ⊎_elim, arith, append_assoc, Contains, Less, nat_cmp}
-use Rattle.std.specs.List.{flat_map, list_all, AllByRecursion}
+use Rattle.std.proofs.Common.{◌≡◌, ◌⊎◌, ℕ, ◌==◌, Bool, true, false, cond, if◌then◌else◌, List, [], ◌∷◌, reverse, Option, Some, None, refl, sym, ap, subst, inl, inr, ⊎_elim, eqb-true}
 use Rattle.std.proofs.lemmas.Bool.{and_parts}
 use Rattle.std.proofs.lemmas.Grind.{reverse_onto}
-use Rattle.cpn_definitions.specs.Value.{PlainValue, PlainValues, unit, boolean, int, constant, text, tuple, bare, applied, list, none, more}
-use Rattle.cpn_definitions.specs.Colour.{PlainColour, admits}
+use Rattle.cpn_definitions.specs.Value.{PlainValue, PlainValues, tuple, bare, applied, list, none, more}
+use Rattle.cpn_definitions.specs.Colour.{admits}
 use Rattle.cpn_definitions.specs.Marking.{Marking}
-use Rattle.cpn_definitions.specs.Outcome.{Outcome, gives, faults, no_meaning, HasMeaning}
-use Rattle.cpn_definitions.specs.Inscription.{PlainPattern, any_pattern, variable_pattern, literal_pattern, tuple_pattern, list_pattern, cons_pattern, bare_pattern, applied_pattern, PlainPatterns, no_patterns, more_patterns, PlainExpr}
-use Rattle.cpn_definitions.specs.Net.{PlainTransition, PlainNet, variable_at}
-use Rattle.cpn_definitions.specs.Meaning.{PlainBinding, bound_value, meaning}
-use Rattle.cpn_definitions.specs.Bindable.{pattern_variables, patterns_variables, variables_of, AreClosed}
-use Rattle.cpn_definitions.specs.Occurrence.{binds}
-use Rattle.cpn_definitions.proofs.OwnVariables.{own_variables}
-use Rattle.cpn_definitions.proofs.RisingLists.{IsIn, in_from_contains, contains_from_in, in_append_left, in_append_right, in_append_cases, in_flat_map, each_in, of_one_in}
-use Rattle.cpn_stages.specs.Partial.{PlainPartial, unbound, variables_in, value_in, IsKept, Extends, with_value, bound_in, as_partial}
-use Rattle.cpn_stages.specs.Instances.{IsInstance, AreInstances, Makes, Matches, MatchesNot}
+use Rattle.cpn_definitions.specs.Outcome.{Outcome, gives, faults, no_meaning}
+use Rattle.cpn_definitions.specs.Inscription.{PlainPattern, any_pattern, variable_pattern, literal_pattern, tuple_pattern, list_pattern, cons_pattern, bare_pattern, applied_pattern, PlainPatterns, no_patterns, more_patterns}
+use Rattle.cpn_definitions.specs.Net.{PlainNet, variable_at}
+use Rattle.cpn_definitions.specs.Meaning.{meaning}
+use Rattle.cpn_definitions.specs.Bindable.{pattern_variables, patterns_variables}
+use Rattle.cpn_definitions.proofs.RisingLists.{IsIn, in_append_left, in_append_right, in_append_cases, in_flat_from}
+use Rattle.cpn_stages.specs.Partial.{PlainPartial, value_in, IsKept, Extends, bound_in}
+use Rattle.cpn_stages.specs.Instances.{IsInstance, AreInstances, Matches}
 use Rattle.cpn_stages.specs.Stages.{Stage, by_term, by_equation, by_size, variables_at, variables_at_each}
-use Rattle.cpn_stages.specs.Reached.{StandsOn, HasValue, IsAdmitted, Holds}
-use Rattle.cpn_stages.specs.Work.{AreJust}
-use Rattle.cpn_stages.specs.Orderly.{IsTimely, IsTimelyStage, AreOrderly}
+use Rattle.cpn_stages.specs.Reached.{HasValue, IsAdmitted}
 use Rattle.cpn_stages.specs.Fitting.{fitted}
 use Rattle.cpn_stages.specs.Trials.{Trial, matching, solving, admits_if, are_admitted, kept, with_outcome, next, ends, IsTrialOf, AreTrialsOf}
-use Rattle.cpn_stages.proofs.Partials.{extends_itself, extends_further, same_extension, extends_variables, value_stays}
-use Rattle.cpn_stages.proofs.Instances.{instance_stays}
-use Rattle.cpn_stages.proofs.Numbers.{number_itself, number_same, not_both}
-use Rattle.cpn_stages.proofs.Guards.{in_flat_from}
-use Rattle.cpn_stages.proofs.FittedMatches.{fitted_matches, not_fitted}
-use Rattle.cpn_stages.proofs.OrderlyStages.{flat_both}
+use Rattle.cpn_stages.proofs.Partials.{extends_itself, extends_further, value_stays}
+use Rattle.cpn_stages.proofs.FittedMatches.{fitted_matches}
 
 -- ---- lists backwards
 
@@ -68,7 +59,7 @@ admitted_value n (p ∷ b) x v h is = split (x == p.0) refl is (λ g. admitted_v
     split : (test : Bool) → (x == p.0) ≡ test → cond test p.1 (value_in x b) ≡ Some v → (value_in x b ≡ Some v → IsAdmitted n x v) → IsAdmitted n x v
     split true same is rest =
         let own = (and_parts (admits_if (variable_at n p.0).colour p.1) (are_admitted n b) h).0 in
-        subst (λ (y : ℕ). IsAdmitted n y v) (sym (number_same x p.0 same)) (subst (λ o. admits_if (variable_at n p.0).colour o ≡ true) is own)
+        subst (λ (y : ℕ). IsAdmitted n y v) (sym (eqb-true x p.0 same)) (subst (λ o. admits_if (variable_at n p.0).colour o ≡ true) is own)
     split false other is rest = rest is
 
 -- ---- what a trial makes

@@ -1,13 +1,14 @@
 -- What a partial binding becomes part by part is the one match of the pattern and the value; where it cannot be, there is none.
-use Rattle.std.proofs.Common.{◌≡◌, ℕ, ◌==◌, Bool, true, false, cond, if◌then◌else◌, List, [], ◌∷◌, Option, Some, None, refl, sym, ap, ◌∙◌, subst, arith}
+use Rattle.std.proofs.Common.{◌≡◌, ℕ, ◌==◌, Bool, true, false, cond, if◌then◌else◌, [], ◌∷◌, Option, Some, None, refl, sym, ap, ◌∙◌, subst, eqb-true}
 use Rattle.std.specs.Option.{option_map, option_and_then}
-use Rattle.std.proofs.lemmas.Bool.Decides.{nat_tests}
-use Rattle.cpn_definitions.specs.Value.{PlainValue, PlainValues, unit, boolean, int, constant, text, tuple, bare, applied, list, none, more}
+use Rattle.std.proofs.lemmas.Option.{same_Some}
+use Rattle.cpn_definitions.specs.Value.{PlainValue, PlainValues, tuple, bare, applied, list, none, more}
 use Rattle.cpn_definitions.specs.Order.{same_value}
 use Rattle.cpn_definitions.specs.ValueOrder.{same_value_true, same_value_refl}
 use Rattle.cpn_definitions.specs.Inscription.{PlainPattern, any_pattern, variable_pattern, literal_pattern, tuple_pattern, list_pattern, cons_pattern, bare_pattern, applied_pattern, PlainPatterns, no_patterns, more_patterns}
+use Rattle.cpn_definitions.proofs.NumberTests.{equals_itself}
 use Rattle.cpn_stages.specs.Partial.{PlainPartial, value_in, IsKept, Extends}
-use Rattle.cpn_stages.specs.Instances.{IsInstance, AreInstances, Makes, Matches, MatchesNot}
+use Rattle.cpn_stages.specs.Instances.{IsInstance, AreInstances, Matches, MatchesNot}
 use Rattle.cpn_stages.proofs.Partials.{extends_itself, extends_further}
 use Rattle.cpn_stages.proofs.Instances.{instance_stays, one_match}
 use Rattle.cpn_stages.specs.Fitting.{agreed, held, fitted, fitted_each}
@@ -62,9 +63,6 @@ tested P b false holds fails = λ d is h. clash (fails d h)
 abbrev Has : ℕ → PlainValue → PlainPartial → Type 0
 Has x v c = value_in x c ≡ Some v
 
-some_same : {A : Type 0} (v w : A) → Some v ≡ Some w → v ≡ w
-some_same v w h = cc
-
 if_there : (test : Bool) (o p : Option PlainValue) (v : PlainValue) → test ≡ true → cond test o p ≡ Some v → o ≡ Some v
 if_there true o p v t h = h
 if_there false o p v t h = cc
@@ -91,7 +89,7 @@ decided_here x v pair b same (Some w) was = split (same_value w v) refl
     of_kept [] is h = absurd is
     of_kept (q ∷ d) is h =
         let kept : q.1 ≡ Some w = subst (λ o. IsKept o q.1) was is.1 in
-        some_same w v (sym kept ∙ if_there (x == q.0) q.1 (value_in x d) v (subst (λ (y : ℕ). (x == y) ≡ true) (sym is.0) same) h)
+        same_Some w v (sym kept ∙ if_there (x == q.0) q.1 (value_in x d) v (subst (λ (y : ℕ). (x == y) ≡ true) (sym is.0) same) h)
 
     split : (test : Bool) → same_value w v ≡ test → Decided (Has x v) (pair ∷ b) (option_map (λ (value : Option PlainValue). (pair.0, value) ∷ b) (if test then Some (Some w) else None))
     split true is = record {
@@ -140,12 +138,6 @@ held_decided x v (pair ∷ b) = split (x == pair.0) refl (held_decided x v b)
 
 -- ---- all patterns
 
-number_itself : (x : ℕ) → (x == x) ≡ true
-number_itself x = grind (arith, nat_tests)
-
-number_same : (x y : ℕ) → (x == y) ≡ true → x ≡ y
-number_same x y h = grind (arith, nat_tests)
-
 mutual
   fitted_decided : (p : PlainPattern) (v : PlainValue) (b : PlainPartial) → Decided (λ c. IsInstance c p v) b (fitted p v b)
   fitted_decided any_pattern v b = here (λ c. IsInstance c any_pattern v) b tt
@@ -155,15 +147,15 @@ mutual
   fitted_decided (list_pattern ps) (list vs) b = each_decided ps vs b
   fitted_decided (cons_pattern p q) (list (more v vs)) b =
       both (λ c. IsInstance c p v) (λ c. IsInstance c q (list vs)) (λ c d ext h. instance_stays c d p v ext h) b (fitted p v b) (fitted q (list vs)) (fitted_decided p v b) (λ c. fitted_decided q (list vs) c)
-  fitted_decided (bare_pattern k) (bare j) b = tested (λ c. IsInstance c (bare_pattern k) (bare j)) b (k == j) (number_same k j) (λ d h. subst (λ (i : ℕ). (k == i) ≡ true) h (number_itself k))
+  fitted_decided (bare_pattern k) (bare j) b = tested (λ c. IsInstance c (bare_pattern k) (bare j)) b (k == j) (eqb-true k j) (λ d h. subst (λ (i : ℕ). (k == i) ≡ true) h (equals_itself k))
   fitted_decided (applied_pattern k p) (applied j v) b = of_test (k == j) refl (fitted_decided p v b)
     where
       of_test : (test : Bool) → (k == j) ≡ test → Decided (λ c. IsInstance c p v) b (fitted p v b) → Decided (λ c. IsInstance c (applied_pattern k p) (applied j v)) b (if test then fitted p v b else None)
-      of_test true is inner = said (λ c. IsInstance c p v) (λ c. IsInstance c (applied_pattern k p) (applied j v)) (λ c h. (number_same k j is, h)) (λ c h. h.1) b (fitted p v b) inner
+      of_test true is inner = said (λ c. IsInstance c p v) (λ c. IsInstance c (applied_pattern k p) (applied j v)) (λ c h. (eqb-true k j is, h)) (λ c h. h.1) b (fitted p v b) inner
       of_test false is inner = λ d ext h. clash (subst (λ (i : ℕ). (k == i) ≡ false) (sym h.0) is)
         where
           clash : (k == k) ≡ false → ⊥
-          clash fails = absurd (apart (number_itself k) fails)
+          clash fails = absurd (apart (equals_itself k) fails)
             where
               apart : (k == k) ≡ true → (k == k) ≡ false → ⊥
               apart holds fails = cc

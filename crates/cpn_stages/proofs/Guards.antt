@@ -1,22 +1,12 @@
 -- The equations of a guard: they are what the guard makes a variable equal to; and the first that gives a variable that is left a
 -- value, or that none does.
-use Rattle.std.proofs.Common.{◌≡◌, ◌⊎◌, ℕ, Bool, true, false, cond, ◌&&◌, List, [], ◌∷◌, ◌++◌, Option, Some, None, refl, sym, ap, ◌∙◌, subst, inl, inr, ⊎_elim, Contains}
-use Rattle.std.specs.List.{flat_map}
+use Rattle.std.proofs.Common.{◌≡◌, ◌⊎◌, ℕ, Bool, true, false, cond, ◌&&◌, List, [], ◌∷◌, Some, None, refl, sym, ap, ◌∙◌, subst, inl, inr}
 use Rattle.std.proofs.lemmas.Bool.{and_parts}
-use Rattle.cpn_definitions.specs.Inscription.{Operation, operation, equality, PlainExpr, literal, variable, local, the_time, apply, conjunction, disjunction, choose, select, bind, accumulate, PlainExprs, no_exprs, more_exprs}
+use Rattle.cpn_definitions.specs.Inscription.{operation, equality, PlainExpr, variable, apply, no_exprs, more_exprs}
 use Rattle.cpn_definitions.specs.Net.{PlainTransition}
 use Rattle.cpn_definitions.specs.Bindable.{conjuncts_of, equation, IsEquated}
-use Rattle.cpn_definitions.proofs.RisingLists.{IsIn, in_from_contains, contains_from_in, in_flat_map, in_append_left, in_append_right, in_append_cases}
+use Rattle.cpn_definitions.proofs.RisingLists.{IsIn, in_from_contains, contains_from_in, in_flat_map, in_append_left, in_append_right, in_append_cases, in_flat_from}
 use Rattle.cpn_stages.specs.Stages.{is_among, is_bound, Equation, equation_between, equations_at, parts_of, equations_in, solves, first_solving}
-
--- what stands in one of several lists stands in all of them together
-pub in_flat_from : {X Y : Type 0} (f : X → List Y) (xs : List X) (y : Y) → IsIn y (flat_map f xs) → (x : X) × IsIn x xs × IsIn y (f x)
-in_flat_from f [] y h = absurd h
-in_flat_from {X} {Y} f (x ∷ xs) y h = split (in_append_cases (f x) (flat_map f xs) y h) (λ g. in_flat_from f xs y g)
-  where
-    split : IsIn y (f x) ⊎ IsIn y (flat_map f xs) → (IsIn y (flat_map f xs) → (z : X) × IsIn z xs × IsIn y (f z)) → (z : X) × IsIn z (x ∷ xs) × IsIn y (f z)
-    split (inl g) later = (x, inl refl, g)
-    split (inr g) later = let rest = later g in (rest.0, inr rest.1, rest.2)
 
 -- ---- what the guard makes a variable equal to is one of its equations
 

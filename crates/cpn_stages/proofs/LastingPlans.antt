@@ -10,7 +10,8 @@ use Rattle.cpn_definitions.specs.Sound.{IsSoundTransition}
 use Rattle.cpn_definitions.proofs.RisingLists.{IsIn, in_from_contains, contains_from_in, in_append_left, in_append_right, in_append_cases, in_flat_map, in_map, of_one_in}
 use Rattle.cpn_stages.specs.Stages.{by_term, variables_at, variables_at_each, terms_at, term_stages, is_among, those_without, equations_in, first_solving}
 use Rattle.cpn_definitions.specs.Sound.{IsSolvable}
-use Rattle.cpn_stages.proofs.Numbers.{among_from_in, from_without, not_both}
+use Rattle.cpn_definitions.proofs.TruthValues.{not_both}
+use Rattle.cpn_stages.proofs.Numbers.{among_from_in, from_without}
 use Rattle.cpn_stages.proofs.NeverStuck.{small_from}
 
 -- ---- what a variable of a guard is equal to has variables of the guard alone

@@ -1,17 +1,17 @@
 pub mod Partials
-pub mod Instances
+mod Instances
 pub mod Numbers
 pub mod Guards
-pub mod NeverStuck
+mod NeverStuck
 pub mod LastingPlans
-pub mod PatternValues
-pub mod TermTokens
-pub mod TrueGuards
+mod PatternValues
+mod TermTokens
+mod TrueGuards
 pub mod CoveredBindings
 pub mod FittedMatches
 pub mod OrderlyStages
 pub mod Ends
 pub mod WholeBindings
-pub mod AllEnds
+mod AllEnds
 pub mod ApartEnds
 pub mod TransitionEnds

@@ -1,14 +1,15 @@
 -- The stages of a transition are orderly.
-use Rattle.std.proofs.Common.{◌≡◌, ◌⊎◌, ℕ, Bool, true, false, not, ◌&&◌, List, [], ◌∷◌, ◌++◌, map, Some, refl, sym, ap, ◌∙◌, subst, inl, inr, ⊎_elim, append_assoc, append-nil, Contains}
-use Rattle.std.specs.List.{flat_map, list_all, AllByRecursion}
-use Rattle.std.proofs.lemmas.Bool.{and_parts}
+use Rattle.std.proofs.Common.{◌≡◌, ◌⊎◌, ℕ, Bool, true, false, not, ◌&&◌, List, [], ◌∷◌, ◌++◌, map, Some, refl, sym, ap, ◌∙◌, subst, inl, inr, ⊎_elim, append_assoc, append-nil}
+use Rattle.std.specs.List.{flat_map}
+use Rattle.std.proofs.lemmas.Bool.{and_parts, not-true}
 use Rattle.cpn_definitions.specs.Inscription.{PlainExpr}
 use Rattle.cpn_definitions.specs.Net.{BindingTerm, PlainArc, PlainTransition, PlainNet}
 use Rattle.cpn_definitions.specs.Bindable.{binding_terms, variables_of}
 use Rattle.cpn_definitions.proofs.RisingLists.{IsIn, in_from_contains, contains_from_in, in_append_left, in_append_right, passes_at}
-use Rattle.cpn_stages.specs.Stages.{Stage, by_term, by_equation, by_size, variables_at, variables_at_each, terms_at, term_stages, is_among, those_without, is_bound, equations_in, first_solving, Further, none_left, next_equation, next_small, AreStages}
-use Rattle.cpn_stages.specs.Orderly.{IsTimely, IsTimelyStage, AreOrderly}
-use Rattle.cpn_stages.proofs.Numbers.{not_both, in_from_among, among_from_in, not_true, left_or_other}
+use Rattle.cpn_definitions.proofs.TruthValues.{not_both}
+use Rattle.cpn_stages.specs.Stages.{Stage, by_term, by_equation, by_size, variables_at, variables_at_each, terms_at, term_stages, is_among, those_without, equations_in, first_solving, Further, none_left, next_equation, next_small, AreStages}
+use Rattle.cpn_stages.specs.Orderly.{IsTimely, AreOrderly}
+use Rattle.cpn_stages.proofs.Numbers.{in_from_among, among_from_in, left_or_other}
 use Rattle.cpn_stages.proofs.Guards.{found_is}
 
 pub flat_both : {X Y : Type 0} (f : X → List Y) (xs ys : List X) → flat_map f (xs ++ ys) ≡ flat_map f xs ++ flat_map f ys
@@ -75,7 +76,7 @@ timely t before left x e known found =
       equated = one.equated;
       known = λ y h.
           let both = and_parts (is_among t.vars y) (not (is_among left y)) (passes_at (λ z. is_among t.vars z && not (is_among left z)) (variables_of e) y one.bound (in_from_contains (variables_of e) y h)) in
-          contains_from_in (variables_at_each before) y (known y (in_from_among t.vars y both.0) (not_true (is_among left y) both.1));
+          contains_from_in (variables_at_each before) y (known y (in_from_among t.vars y both.0) (not-true (is_among left y) both.1));
     }
 
 further_orderly : (n : PlainNet) (t : PlainTransition) (before : List Stage) (left : List ℕ) (stages : List Stage) → AreKnown t before left → Further n t left stages → AreOrderly t before stages

@@ -1,14 +1,7 @@
 -- Partial bindings and their extensions: what is kept, and that two that extend each other are the same.
-use Rattle.std.proofs.Common.{◌≡◌, ℕ, ◌==◌, Bool, true, false, cond, List, [], ◌∷◌, map, Option, Some, None, refl, sym, ap, ap₂, ◌∙◌, subst, inl, inr, arith}
-use Rattle.std.proofs.lemmas.Bool.Decides.{nat_tests}
+use Rattle.std.proofs.Common.{◌≡◌, ℕ, ◌==◌, Bool, true, false, cond, [], ◌∷◌, Option, Some, None, refl, sym, ap₂, ◌∙◌, subst}
 use Rattle.cpn_definitions.specs.Value.{PlainValue}
-use Rattle.cpn_definitions.specs.Meaning.{PlainBinding, bound_value}
-use Rattle.cpn_definitions.proofs.RisingLists.{IsIn}
-use Rattle.cpn_stages.specs.Partial.{PlainPartial, unbound, variables_in, value_in, IsKept, Extends, with_value, bound_in, as_partial}
-use Rattle.cpn_stages.specs.Reached.{HasValue}
-
-number_itself : (x : ℕ) → (x == x) ≡ true
-number_itself x = grind (arith, nat_tests)
+use Rattle.cpn_stages.specs.Partial.{PlainPartial, variables_in, value_in, IsKept, Extends}
 
 -- ---- extensions
 

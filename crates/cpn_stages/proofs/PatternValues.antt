@@ -1,24 +1,19 @@
 -- An inscription that is read as a pattern has, under a binding, just the value that the pattern is there.
-use Rattle.std.proofs.Common.{◌≡◌, ℕ, ◌==◌, Bool, true, false, cond, List, [], ◌∷◌, ◌++◌, Option, Some, None, refl, sym, ap, ◌∙◌, subst, nat_le}
+use Rattle.std.proofs.Common.{◌≡◌, ℕ, ◌==◌, Bool, true, false, cond, List, [], ◌∷◌, Option, Some, None, refl, sym, ap, ◌∙◌, subst, nat_le}
 use Rattle.std.specs.Option.{option_map, option_and_then}
-use Rattle.cpn_definitions.specs.Value.{PlainValue, PlainValues, unit, boolean, int, constant, text, tuple, bare, applied, list, none, more, to_list, from_list, nodes_of}
-use Rattle.cpn_definitions.specs.Outcome.{Outcome, gives, faults, no_meaning, ◌>>=◌, given, too_large}
+use Rattle.cpn_definitions.specs.Value.{PlainValue, tuple, bare, applied, list, more, to_list, from_list, nodes_of}
+use Rattle.cpn_definitions.specs.Outcome.{Outcome, gives, faults, ◌>>=◌, given, too_large}
 use Rattle.cpn_definitions.specs.Inscription.{operation, cons, tupling, listing, constructing, PlainPattern, literal_pattern, variable_pattern, tuple_pattern, list_pattern, cons_pattern, bare_pattern, applied_pattern, PlainPatterns, no_patterns, more_patterns, PlainExpr, literal, variable, apply, PlainExprs, no_exprs, more_exprs}
-use Rattle.cpn_definitions.specs.Operations.{most_nodes, sized, items_in, consed, operated, on_two}
+use Rattle.cpn_definitions.specs.Operations.{most_nodes, sized, consed, operated}
 use Rattle.cpn_definitions.specs.Meaning.{PlainBinding, bound_value, Setting, constructed, done_with, with_first, meant, meant_each}
 use Rattle.cpn_definitions.specs.Bindable.{constructor_pattern, list_of_two, pattern_of, patterns_of}
 use Rattle.cpn_definitions.proofs.Outcomes.{same_given, bound_parts}
+use Rattle.cpn_definitions.proofs.ListItems.{made_of}
+use Rattle.cpn_definitions.proofs.ValueRows.{from_list_to_list}
 use Rattle.cpn_stages.specs.Partial.{PlainPartial, value_in, as_partial}
 use Rattle.cpn_stages.specs.Instances.{IsInstance, AreInstances}
 
 -- ---- what is there of something that may be missing
-
-pub map_parts : {A B : Type 0} (f : A → B) (o : Option A) (y : B) → option_map f o ≡ Some y → (x : A) × (o ≡ Some x) × (f x ≡ y)
-map_parts f None y h = cc
-map_parts f (Some x) y h = (x, refl, some_same (f x) y h)
-  where
-    some_same : {A : Type 0} (x y : A) → Some x ≡ Some y → x ≡ y
-    some_same x y h = cc
 
 pub then_parts : {A B : Type 0} (f : A → Option B) (o : Option A) (y : B) → option_and_then f o ≡ Some y → (x : A) × (o ≡ Some x) × (f x ≡ Some y)
 then_parts f None y h = cc
@@ -32,10 +27,6 @@ sized_is v w is = split (nat_le (nodes_of v) most_nodes) is
     split : (b : Bool) → cond b (gives v) (faults too_large) ≡ gives w → v ≡ w
     split true h = same_given v w h
     split false h = cc
-
-items_again : (vs : PlainValues) → from_list (to_list vs) ≡ vs
-items_again none = refl
-items_again (more v vs) = ap (more v) (items_again vs)
 
 given_is : (o : Option PlainValue) (v : PlainValue) → given o ≡ gives v → o ≡ Some v
 given_is None v h = cc
@@ -65,7 +56,7 @@ two_are b p q (x ∷ y ∷ []) v are is = of_items y are.1.0 is
     of_items : (y : PlainValue) → IsInstance b q y → consed x y ≡ gives v → IsInstance b (cons_pattern p q) v
     of_items (list vs) here is =
         let made : list (more x (from_list (to_list vs))) ≡ v = sized_is (list (from_list (x ∷ to_list vs))) v is in
-        subst (IsInstance b (cons_pattern p q)) made (are.0, subst (λ ws. IsInstance b q (list ws)) (sym (items_again vs)) here)
+        subst (IsInstance b (cons_pattern p q)) made (are.0, subst (λ ws. IsInstance b q (list ws)) (sym (from_list_to_list vs)) here)
     of_items y here is = cc
 two_are b p q (x ∷ y ∷ z ∷ vs) v are is = absurd are.1.1
 
@@ -104,12 +95,12 @@ mutual
       of_form : Some (variable_pattern x) ≡ Some p → variable_pattern x ≡ p
       of_form h = cc
   pattern_is (apply tupling es) p s locals v form is =
-      let read = map_parts tuple_pattern (patterns_of es) p form in
+      let read = made_of tuple_pattern (patterns_of es) p form in
       let parts = bound_parts (meant_each es s locals) (done_with tupling s.calls) v is in
       let made : tuple (from_list parts.0) ≡ v = sized_is (tuple (from_list parts.0)) v parts.2 in
       subst (λ q. IsInstance (as_partial s.binding) q v) read.2 (subst (IsInstance (as_partial s.binding) (tuple_pattern read.0)) made (patterns_are es read.0 s locals parts.0 read.1 parts.1))
   pattern_is (apply listing es) p s locals v form is =
-      let read = map_parts list_pattern (patterns_of es) p form in
+      let read = made_of list_pattern (patterns_of es) p form in
       let parts = bound_parts (meant_each es s locals) (done_with listing s.calls) v is in
       let made : list (from_list parts.0) ≡ v = sized_is (list (from_list parts.0)) v parts.2 in
       subst (λ q. IsInstance (as_partial s.binding) q v) read.2 (subst (IsInstance (as_partial s.binding) (list_pattern read.0)) made (patterns_are es read.0 s locals parts.0 read.1 parts.1))
@@ -131,7 +122,7 @@ mutual
       of_form h = cc
   patterns_are (more_exprs e es) ps s locals vs form is =
       let first = then_parts (λ p. option_map (more_patterns p) (patterns_of es)) (pattern_of e) ps form in
-      let rest = map_parts (more_patterns first.0) (patterns_of es) ps first.2 in
+      let rest = made_of (more_patterns first.0) (patterns_of es) ps first.2 in
       let values = first_and_rest (meant e s locals) (meant_each es s locals) vs is in
       subst (λ qs. AreInstances (as_partial s.binding) qs (from_list vs)) rest.2
       (subst (λ ws. AreInstances (as_partial s.binding) (more_patterns first.0 rest.0) (from_list ws)) values.4

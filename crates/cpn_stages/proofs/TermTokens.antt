@@ -1,23 +1,23 @@
 -- Of a covered element each binding term is a value that stands on its place.
-use Rattle.std.proofs.Common.{◌≡◌, ℕ, suc, ◌+◌, pos, ◌==◌, Bool, true, false, cond, ◌&&◌, ◌||◌, nat_lt, nat_le, length, List, [], ◌∷◌, ◌++◌, map, replicate, Option, Some, None, refl, sym, ap, ◌∙◌, subst, inl, inr, ⊎_elim, ◌⊎◌, arith, Ordering, nat_cmp, is_lt, Contains}
-use Rattle.std.specs.List.{filter, flat_map}
-use Rattle.std.proofs.lemmas.Bool.{cond_both, and_parts}
-use Rattle.std.proofs.lemmas.Bool.Decides.{nat_tests}
+use Rattle.std.proofs.Common.{◌≡◌, ℕ, suc, ◌+◌, pos, Bool, true, false, cond, nat_le, List, [], ◌∷◌, ◌++◌, map, replicate, Option, Some, None, refl, sym, ap, ◌∙◌, subst, inl, inr, ⊎_elim, ◌⊎◌, Ordering, nat_cmp, is_lt}
+use Rattle.std.specs.List.{filter}
+use Rattle.std.proofs.lemmas.Bool.{cond_both}
 use Rattle.cpn_definitions.specs.Value.{PlainValue, int}
-use Rattle.cpn_definitions.specs.Order.{value_cmp, same_value}
+use Rattle.cpn_definitions.specs.Order.{same_value}
 use Rattle.cpn_definitions.specs.ValueOrder.{same_value_true, same_value_refl}
 use Rattle.cpn_definitions.specs.Colour.{PlainColour, admits}
 use Rattle.cpn_definitions.specs.Lists.{with_item, with_items, in_order}
 use Rattle.cpn_definitions.specs.Marking.{PlainToken, Tokens, Marking, tokens_at, stamps, covers}
-use Rattle.cpn_definitions.specs.Inscription.{PlainPattern, PlainExpr, literal, Functions, ArcInscription, no_token, one, times, sum_of, later, stamped, chosen, selected, bound, ArcInscriptions, no_inscriptions, more_inscriptions}
+use Rattle.cpn_definitions.specs.Inscription.{PlainPattern, PlainExpr, literal, Functions, ArcInscription, one, times, sum_of, later, ArcInscriptions, no_inscriptions, more_inscriptions}
 use Rattle.cpn_definitions.specs.Net.{BindingTerm, PlainArc, PlainNet, transition_at}
 use Rattle.cpn_definitions.specs.Outcome.{Outcome, gives, faults, ◌>>=◌, not_in_colour, too_large, gives_and}
 use Rattle.cpn_definitions.specs.Meaning.{PlainBinding, Setting, meant, setting_of}
-use Rattle.cpn_definitions.specs.Terms.{in_colour, coefficient_of, most_tokens, tokens_in, counted, PlainTerm, term_of, lone_term, terms_behind, terms_of_each, terms_of}
+use Rattle.cpn_definitions.specs.Terms.{in_colour, most_tokens, tokens_in, counted, PlainTerm, term_of, lone_term, terms_behind, terms_of_each, terms_of}
 use Rattle.cpn_definitions.specs.Bindable.{pattern_of, term_with, binding_term, binding_terms_of_each, binding_terms}
-use Rattle.cpn_definitions.specs.Occurrence.{PlainElement, gather, Needed, needed_cmp, needed_by, needs_of, same_need, thresholds, threshold_in, are_covered, may_occur, covered}
+use Rattle.cpn_definitions.specs.Occurrence.{PlainElement, gather, Needed, needed_cmp, needed_by, needs_of, same_need, thresholds, threshold_in, are_covered, covered}
 use Rattle.cpn_definitions.proofs.Outcomes.{same_given, bound_parts, gives_and_parts}
-use Rattle.cpn_definitions.proofs.RisingLists.{IsIn, contains_from_in, in_append_left, in_append_right, in_append_cases, in_map, in_filter, passes_at}
+use Rattle.cpn_definitions.proofs.RisingLists.{IsIn, contains_from_in, in_append_left, in_append_right, in_append_cases, in_map, in_filter, passes_at, in_flat_map}
+use Rattle.cpn_definitions.proofs.NumberTests.{equals_itself}
 use Rattle.cpn_stages.specs.Partial.{PlainPartial, as_partial}
 use Rattle.cpn_stages.specs.Instances.{IsInstance}
 use Rattle.cpn_stages.specs.Reached.{StandsOn}
@@ -144,11 +144,6 @@ pub record HasNeed (b : PlainPartial) (place : ℕ) (p : PlainPattern) (needs : 
   pub on_it : need.place ≡ place
   pub is_instance : IsInstance b p need.value
 
-in_flat_here : {X Y : Type 0} (f : X → List Y) (xs : List X) (x : X) (y : Y) → IsIn x xs → IsIn y (f x) → IsIn y (flat_map f xs)
-in_flat_here f [] x y h g = absurd h
-in_flat_here f (z ∷ xs) x y (inl e) g = in_append_left (f z) (flat_map f xs) y (subst (λ w. IsIn y (f w)) (sym e) g)
-in_flat_here f (z ∷ xs) x y (inr h) g = in_append_right (f z) (flat_map f xs) y (in_flat_here f xs x y h g)
-
 arc_needs : (funs : Functions) (b : PlainBinding) (arc : PlainArc) (term : BindingTerm) (ys : List Needed) → IsIn term (binding_terms arc.expr) → needed_by funs b arc ≡ gives ys → HasNeed (as_partial b) arc.place term.pattern ys
 arc_needs funs b arc term ys h is =
     let parts = bound_parts (terms_of funs arc.expr arc.colour b 0) _ ys is in
@@ -157,7 +152,7 @@ arc_needs funs b arc term ys h is =
     record {
       need = need;
       is_in = subst (IsIn need) (same_given _ ys parts.2)
-          (in_flat_here (λ (k : PlainTerm). replicate k.count (record { place = arc.place; value = k.value; offset = k.delay })) parts.0 has.term need has.is_in
+          (in_flat_map (λ (k : PlainTerm). replicate k.count (record { place = arc.place; value = k.value; offset = k.delay })) parts.0 has.term need has.is_in
           (subst (λ (count : ℕ). IsIn need (replicate count need)) (sym has.some) (inl refl)));
       on_it = refl;
       is_instance = has.is_instance;
@@ -189,10 +184,7 @@ token_stands v (k ∷ ks) r (s ∷ rs) is h = split (same_value v k.value) refl 
     split false same rest is' = let later = rest is' h in (later.0, inr later.1, later.2)
 
 need_itself : (need : Needed) → same_need need need ≡ true
-need_itself need = rw (number_itself need.place, same_value_refl need.value) refl
-  where
-    number_itself : (x : ℕ) → (x == x) ≡ true
-    number_itself x = grind (arith, nat_tests)
+need_itself need = rw (equals_itself need.place, same_value_refl need.value) refl
 
 need_stands : (latest : Needed → ℕ) (m : Marking) (needs : List Needed) (need : Needed) → are_covered latest m needs ≡ true → IsIn need needs → StandsOn m need.place need.value
 need_stands latest m needs need all h =

@@ -1,9 +1,7 @@
 -- The ends of the trials of a transition, from where none of its variables has a value: each is a binding of its variables, no two
 -- are the same, and each binding with which the transition is covered is one of them.
-use Rattle.std.proofs.Common.{◌≡◌, ℕ, ◌≤◌, ◌==◌, Bool, true, false, ◌&&◌, List, [], ◌∷◌, ◌++◌, map, Option, Some, None, refl, sym, ap, ap₂, ◌∙◌, subst, inl, inr, Contains, nat_cmp}
-use Rattle.std.specs.List.{list_all, AllByRecursion}
+use Rattle.std.proofs.Common.{◌≡◌, ℕ, ◌==◌, true, ◌&&◌, List, [], ◌∷◌, refl, sym, ap, ◌∙◌, subst, nat_cmp, eqb-true}
 use Rattle.std.proofs.lemmas.Bool.{and_parts}
-use Rattle.cpn_definitions.specs.Value.{PlainValue}
 use Rattle.cpn_definitions.specs.Colour.{admits}
 use Rattle.cpn_definitions.specs.Lists.{Rises}
 use Rattle.cpn_definitions.specs.Marking.{Marking}
@@ -11,21 +9,20 @@ use Rattle.cpn_definitions.specs.Outcome.{HasMeaning}
 use Rattle.cpn_definitions.specs.Inscription.{PlainExpr}
 use Rattle.cpn_definitions.specs.Net.{PlainTransition, PlainNet, variable_at, transition_at}
 use Rattle.cpn_definitions.specs.Meaning.{PlainBinding, meaning}
-use Rattle.cpn_definitions.specs.Bindable.{variables_of, AreClosed}
+use Rattle.cpn_definitions.specs.Bindable.{AreClosed}
 use Rattle.cpn_definitions.specs.Occurrence.{PlainElement, binds, covered}
-use Rattle.cpn_definitions.proofs.RisingLists.{IsIn, in_from_contains, contains_from_in, each_implied}
-use Rattle.cpn_stages.specs.Partial.{PlainPartial, unbound, variables_in, value_in, Extends, bound_in, as_partial}
+use Rattle.cpn_definitions.proofs.RisingLists.{IsIn, in_from_contains, contains_from_in}
+use Rattle.cpn_stages.specs.Partial.{PlainPartial, unbound, variables_in, Extends, bound_in, as_partial}
 use Rattle.cpn_stages.specs.Stages.{Stage, variables_at_each, AreStages}
-use Rattle.cpn_stages.specs.Reached.{HasValue, IsReached}
+use Rattle.cpn_stages.specs.Reached.{HasValue}
 use Rattle.cpn_definitions.specs.Sound.{IsSolvable}
-use Rattle.cpn_stages.specs.Orderly.{IsTimely, AreOrderly}
-use Rattle.cpn_stages.specs.Trials.{Trial, admits_if, are_admitted, ends, AreTrialsOf}
+use Rattle.cpn_stages.specs.Orderly.{IsTimely}
+use Rattle.cpn_stages.specs.Trials.{Trial, are_admitted, ends, AreTrialsOf}
 use Rattle.cpn_stages.proofs.Partials.{extends_variables}
-use Rattle.cpn_stages.proofs.Numbers.{number_same}
 use Rattle.cpn_stages.proofs.CoveredBindings.{each_is_given, covered_parts, covered_is_reached}
 use Rattle.cpn_stages.proofs.OrderlyStages.{stages_are_orderly}
-use Rattle.cpn_stages.proofs.WholeBindings.{IsWhole, whole_from, whole_again, whole_binds, known_variables, known_bound, known_is}
-use Rattle.cpn_stages.proofs.Ends.{IsEnd, end_is}
+use Rattle.cpn_stages.proofs.WholeBindings.{IsWhole, whole_from, whole_binds, known_variables, known_bound, known_is}
+use Rattle.cpn_stages.proofs.Ends.{end_is}
 use Rattle.cpn_stages.proofs.AllEnds.{in_ends}
 use Rattle.cpn_stages.proofs.ApartEnds.{AllApart, stages_have_one, ends_apart}
 
@@ -46,7 +43,7 @@ binding_extends n (x ∷ xs) [] is = cc
 binding_extends n (x ∷ xs) (pair ∷ b) is =
     let all = and_parts ((x == pair.0) && admits (variable_at n x).colour pair.1) (binds n xs b) is in
     let front = and_parts (x == pair.0) (admits (variable_at n x).colour pair.1) all.0 in
-    (sym (number_same x pair.0 front.0), tt, binding_extends n xs b all.1)
+    (sym (eqb-true x pair.0 front.0), tt, binding_extends n xs b all.1)
 
 binding_admitted : (n : PlainNet) (xs : List ℕ) (b : PlainBinding) → binds n xs b ≡ true → are_admitted n (as_partial b) ≡ true
 binding_admitted n [] [] is = refl
@@ -55,7 +52,7 @@ binding_admitted n (x ∷ xs) [] is = cc
 binding_admitted n (x ∷ xs) (pair ∷ b) is =
     let all = and_parts ((x == pair.0) && admits (variable_at n x).colour pair.1) (binds n xs b) is in
     let front = and_parts (x == pair.0) (admits (variable_at n x).colour pair.1) all.0 in
-    let own : admits (variable_at n pair.0).colour pair.1 ≡ true = subst (λ (y : ℕ). admits (variable_at n y).colour pair.1 ≡ true) (number_same x pair.0 front.0) front.1 in
+    let own : admits (variable_at n pair.0).colour pair.1 ≡ true = subst (λ (y : ℕ). admits (variable_at n y).colour pair.1 ≡ true) (eqb-true x pair.0 front.0) front.1 in
     rw (own, binding_admitted n xs b all.1) refl
 
 -- ---- what the inscription of an equation means

@@ -1,20 +1,18 @@
 -- Where a guard holds under a binding, each equation of it gives its variable the value of its inscription.
-use Rattle.std.proofs.Common.{◌≡◌, ◌⊎◌, ℕ, Bool, true, false, cond, List, [], ◌∷◌, ◌++◌, Option, Some, None, refl, sym, ap, ◌∙◌, subst, inl, inr, ⊎_elim}
-use Rattle.std.specs.List.{list_all}
+use Rattle.std.proofs.Common.{◌≡◌, ◌⊎◌, ℕ, Bool, true, false, cond, List, [], ◌∷◌, Option, Some, None, refl, sym, ap, ◌∙◌, subst, inl, inr, ⊎_elim}
 use Rattle.cpn_definitions.specs.Value.{PlainValue, boolean}
 use Rattle.cpn_definitions.specs.Order.{same_value}
 use Rattle.cpn_definitions.specs.ValueOrder.{same_value_true}
-use Rattle.cpn_definitions.specs.Outcome.{Outcome, gives, ◌>>=◌, given, gives_and}
+use Rattle.cpn_definitions.specs.Outcome.{gives, given, gives_and}
 use Rattle.cpn_definitions.specs.Operations.{truth_in, operated}
-use Rattle.cpn_definitions.specs.Inscription.{operation, equality, PlainExpr, variable, conjunction, apply, no_exprs, more_exprs, Functions}
+use Rattle.cpn_definitions.specs.Inscription.{operation, equality, PlainExpr, variable, conjunction, no_exprs, more_exprs, Functions}
 use Rattle.cpn_definitions.specs.Net.{PlainTransition}
 use Rattle.cpn_definitions.specs.Meaning.{PlainBinding, bound_value, Setting, done_with, with_first, meant, meant_each, setting_of, meaning, is_true}
 use Rattle.cpn_definitions.specs.Bindable.{conjuncts_of, equation}
 use Rattle.cpn_definitions.specs.Occurrence.{guard_holds}
 use Rattle.cpn_definitions.proofs.Outcomes.{same_given, bound_parts, gives_and_parts}
-use Rattle.cpn_definitions.proofs.RisingLists.{IsIn, in_append_cases, passes_at}
+use Rattle.cpn_definitions.proofs.RisingLists.{IsIn, in_append_cases, passes_at, in_flat_from}
 use Rattle.cpn_stages.specs.Stages.{parts_of}
-use Rattle.cpn_stages.proofs.Guards.{in_flat_from}
 
 -- ---- a part of a conjunct that is true is true
 

@@ -1,19 +1,18 @@
 -- Partial bindings in which each variable has a value: as bindings.
-use Rattle.std.proofs.Common.{◌≡◌, ℕ, ◌==◌, Bool, true, false, cond, ◌&&◌, List, [], ◌∷◌, map, Option, Some, None, refl, sym, ap, ap₂, ◌∙◌, subst, inl, inr, arith, Less, nat_cmp}
-use Rattle.std.specs.List.{list_all, AllByRecursion}
+use Rattle.std.proofs.Common.{◌≡◌, ℕ, ◌==◌, Bool, true, false, cond, List, [], ◌∷◌, map, Option, Some, None, refl, sym, ap, ap₂, ◌∙◌, subst, inl, inr, arith, Less, nat_cmp, eqb-true}
+use Rattle.std.specs.List.{AllByRecursion}
 use Rattle.std.proofs.lemmas.Bool.{and_parts}
 use Rattle.std.proofs.lemmas.Bool.Decides.{nat_tests}
 use Rattle.cpn_definitions.specs.Value.{PlainValue}
-use Rattle.cpn_definitions.specs.Colour.{admits}
 use Rattle.cpn_definitions.specs.Lists.{Rises}
 use Rattle.cpn_definitions.specs.Net.{PlainNet, variable_at}
-use Rattle.cpn_definitions.specs.Meaning.{PlainBinding, bound_value}
+use Rattle.cpn_definitions.specs.Meaning.{bound_value}
 use Rattle.cpn_definitions.specs.Occurrence.{binds}
 use Rattle.cpn_definitions.proofs.RisingLists.{IsIn, of_one_in}
+use Rattle.cpn_definitions.proofs.NumberTests.{equals_itself}
 use Rattle.cpn_stages.specs.Partial.{PlainPartial, variables_in, value_in, IsKept, Extends, with_value, bound_in, as_partial}
 use Rattle.cpn_stages.specs.Reached.{HasValue}
 use Rattle.cpn_stages.specs.Trials.{admits_if, are_admitted}
-use Rattle.cpn_stages.proofs.Numbers.{number_itself, number_same}
 
 -- a variable that has a value in a partial binding is bound to it in the binding
 pub bound_has : (x : ℕ) (b : PlainPartial) (v : PlainValue) → value_in x b ≡ Some v → bound_value x (bound_in b) ≡ Some v
@@ -45,7 +44,7 @@ whole_from [] rise has = tt
 whole_from (p ∷ b) rise has = (first (has p.0 (inl refl)), whole_from b rise.1 (λ x h. rest x h (has x (inr h))))
   where
     first : HasValue p.0 (p ∷ b) → (v : PlainValue) × (p.1 ≡ Some v)
-    first h = (h.0, subst (λ (test : Bool). cond test p.1 (value_in p.0 b) ≡ Some h.0) (number_itself p.0) h.1)
+    first h = (h.0, subst (λ (test : Bool). cond test p.1 (value_in p.0 b) ≡ Some h.0) (equals_itself p.0) h.1)
 
     rest : (x : ℕ) → IsIn x (variables_in b) → HasValue x (p ∷ b) → HasValue x b
     rest x h has = (has.0, subst (λ (test : Bool). cond test p.1 (value_in x b) ≡ Some has.0) (higher_differs p.0 x (of_one_in (λ y. nat_cmp p.0 y ≡ Less) (variables_in b) x rise.0 h)) has.1)
@@ -77,7 +76,7 @@ whole_binds n (p ∷ b) whole admitted =
     let parts = and_parts (admits_if (variable_at n p.0).colour p.1) (are_admitted n b) admitted in
     let value = subst (λ o. admits_if (variable_at n p.0).colour o ≡ true) whole.0.1 parts.0 in
     subst (λ o. binds n (p.0 ∷ variables_in b) (with_value p.0 o (bound_in b)) ≡ true) (sym whole.0.1)
-    (rw (number_itself p.0, value, whole_binds n b whole.1 parts.1) refl)
+    (rw (equals_itself p.0, value, whole_binds n b whole.1 parts.1) refl)
 
 -- the variables that have a value, in order
 abbrev pub known_variables : PlainPartial → List ℕ
@@ -90,7 +89,7 @@ known_bound n (p ∷ b) admitted = split p.1 (and_parts (admits_if (variable_at 
   where
     split : (o : Option PlainValue) → admits_if (variable_at n p.0).colour o ≡ true → binds n (known_variables b) (bound_in b) ≡ true → binds n (map (λ (pair : ℕ × PlainValue). pair.0) (with_value p.0 o (bound_in b))) (with_value p.0 o (bound_in b)) ≡ true
     split None own rest = rest
-    split (Some v) own rest = rw (number_itself p.0, own, rest) refl
+    split (Some v) own rest = rw (equals_itself p.0, own, rest) refl
 
 -- each that has a value is among them
 pub known_is : (b : PlainPartial) (x : ℕ) → HasValue x b → IsIn x (known_variables b)
@@ -106,5 +105,5 @@ known_is (p ∷ b) x has = split (x == p.0) refl has.1 (λ g. known_is b x (has.
     later (Some v) h = inr h
 
     split : (test : Bool) → (x == p.0) ≡ test → cond test p.1 (value_in x b) ≡ Some has.0 → (value_in x b ≡ Some has.0 → IsIn x (known_variables b)) → IsIn x (map (λ (pair : ℕ × PlainValue). pair.0) (with_value p.0 p.1 (bound_in b)))
-    split true same h rest = own p.1 h (number_same x p.0 same)
+    split true same h rest = own p.1 h (eqb-true x p.0 same)
     split false other h rest = later p.1 (rest h)

@@ -46,16 +46,6 @@ has_up le (done.all_read closes) = done.all_read closes
 
 -- ---- a text that spells something is not empty
 
-not_nil : (u v : Text) → u ++ v ≡ [] → u ≡ []
-not_nil [] v e = refl
-not_nil (t ∷ u) v e = cc
-
-pub not_empty : {l : ℕ} {a : PlainAst} {u : Text} → Spells l a u → u ≡ [] → ⊥
-not_empty (sum_line u v l first more) e = not_empty first (not_nil u v e)
-not_empty (stamp_line t n u l first is num) e = not_empty first (not_nil u (t ∷ n ∷ []) e)
-not_empty (infix_line t u v o l first is second) e = not_empty first (not_nil u (t ∷ v) e)
-not_empty _ e = cc
-
 -- so it begins where it does with any text behind it
 pub place_front : {l : ℕ} {a : PlainAst} {u : Text} → Spells l a u → (v : Text) → place (u ++ v) ≡ place u
 place_front (sum_line u v l first more) w = rw append_assoc (place_front first (v ++ w) ∙ sym (place_front first v))

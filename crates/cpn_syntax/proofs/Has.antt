@@ -16,7 +16,7 @@ use Rattle.cpn_syntax.specs.Completions as done
 use Rattle.cpn_syntax.specs.Completions.{Closing, Closes, Wants, Has}
 use Rattle.cpn_syntax.proofs.Completions.{NextArm, opens_arm}
 use Rattle.cpn_syntax.proofs.Roles.{Role, joins, stamps, adds, leads, role, least, joins_as, loose, above_terms, above_late, one_takes, low_role, low_bar}
-use Rattle.cpn_syntax.proofs.Wants.{Next, NextName, NextNumber, StartsWith, no_next}
+use Rattle.cpn_syntax.proofs.Wants.{Next, NextName, NextNumber}
 
 -- ---- the next token takes the part
 
@@ -231,10 +231,6 @@ pub arm_at_bar : {close : Closing} {at k start : ℕ} {a c b : PlainAst} {arms :
     → Has close at k c (arm start a arms p ∷ st) b (t ∷ w) → Is sign.Bar t → NextArm close start a (arms ++ (p, c) ∷ []) st b w
 arm_at_bar has is = ⊎_elim (λ next. next.1.1) (λ has. absurd (omega (arith, low_bar has is))) (untaken has (rw is refl))
 
-pub case_ends : {close : Closing} {at k start : ℕ} {a c b : PlainAst} {arms : List (PlainPat × PlainAst)} {p : PlainPat} {st : Opens} {s : Text}
-    → Has close at k c (arm start a arms p ∷ st) b s → Untaken k 0 s → (StartsWith sign.Bar s → ⊥) → Has close start 0 (ast start (case_of a (after_arms arms (more_arms p c no_arm)))) st b s
-case_ends {s = s} has free other = ⊎_elim (λ next. absurd (no_next _ _ s other next)) (λ has. has) (untaken has free)
-
 -- where a form goes on with one of two tokens
 one_symbol : {s r : Symbol} → token.symbol s ≡ token.symbol r → s ≡ r
 one_symbol e = cc
@@ -244,6 +240,3 @@ the_first next is other = ⊎_elim (λ first. first.1) (λ second. absurd (other
 
 pub the_second : {s r : Symbol} {kind : PlainKind} {A B : Type 0} → (kind ≡ token.symbol s) × A ⊎ (kind ≡ token.symbol r) × B → kind ≡ token.symbol r → (s ≡ r → ⊥) → B
 the_second next is other = ⊎_elim (λ first. absurd (other (one_symbol (sym first.0 ∙ is)))) (λ second. second.1) next
-
-pub neither_of_them : {s r : Symbol} {kind : PlainKind} {A B : Type 0} → (kind ≡ token.symbol s) × A ⊎ (kind ≡ token.symbol r) × B → (kind ≡ token.symbol s → ⊥) → (kind ≡ token.symbol r → ⊥) → ⊥
-neither_of_them next not_first not_second = ⊎_elim (λ first. not_first first.0) (λ second. not_second second.0) next

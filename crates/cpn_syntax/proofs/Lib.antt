@@ -1,28 +1,27 @@
-pub mod Progress
-pub mod Completions
-pub mod Roles
-pub mod Wants
-pub mod Has
-pub mod Repetitions
-pub mod ReadForms
-pub mod ViableTexts
-pub mod FirstSteps
-pub mod FormViews
-pub mod Joints
-pub mod PartSteps
-pub mod LastParts
-pub mod WholeReadings
-pub mod PatternCompletions
-pub mod PatternInversions
-pub mod ReadPatterns
-pub mod PatternViews
-pub mod PatternSteps
-pub mod PatternEnds
-pub mod Fragments
-pub mod Phrases
-pub mod DeclarationParts
-pub mod WholeInscriptions
-pub mod Shapes
-pub mod Parses
-pub mod Guards
-pub mod Delays
+mod Progress
+mod Completions
+mod Roles
+mod Wants
+mod Has
+mod Repetitions
+mod ReadForms
+mod ViableTexts
+mod FirstSteps
+mod Joints
+mod PartSteps
+mod LastParts
+mod WholeReadings
+mod PatternCompletions
+mod PatternInversions
+mod ReadPatterns
+mod PatternViews
+mod PatternSteps
+mod PatternEnds
+mod Fragments
+mod Phrases
+mod DeclarationParts
+mod WholeInscriptions
+mod Shapes
+mod Parses
+mod Guards
+mod Delays

@@ -1,13 +1,13 @@
 -- One level of a pattern.
-use Rattle.std.proofs.Common.{◌≡◌, ℕ, ℤ, Bool, Box, Global, Vec, String, string_bytes, rules}
-use Rattle.cpn_trees.specs.Trees.{pat, any, pat_name, pat_number, pat_text, pat_truth, pat_call, pat_unit, pat_tuple, pat_list, pat_cons, pats_from}
+use Rattle.std.proofs.Common.{◌≡◌, ℕ, ℤ, Bool, Global, Vec, String, string_bytes, rules}
+use Rattle.cpn_trees.specs.Trees.{pat, any, pat_name, pat_number, pat_text, pat_truth, pat_call, pat_unit, pat_tuple, pat_list, pats_from}
 use Rattle.cpn_trees.specs.PatViews.{pat_view}
 use Rattle.cpn_trees.specs.PatForms.{pat_form_view}
 use Rattle.cpn_syntax.specs.OpenPatViews.{parts_view}
 use Rattle.cpn_trees.specs.declared.patterns.Pat.{Pat}
 use Rattle.cpn_trees.specs.declared.patterns.PatForm.{PatForm, the_lemmas}
 use Rattle.cpn_trees.specs.declared.patterns.PatForm.TheVariants as form
-use Rattle.cpn_trees.specs.declared.patterns.PatForm.TheViews.{roll-Pat, Call, Tuple, List as ListOf, Cons}
+use Rattle.cpn_trees.specs.declared.patterns.PatForm.TheViews.{roll-Pat, Call, Tuple, List as ListOf}
 
 pub view_pat : (at : ℕ) (form : PatForm) → pat_view (roll-Pat (record { at = at; form = form })) ≡ pat at (pat_form_view form)
 view_pat at form = search (rules, the_lemmas)
@@ -38,6 +38,3 @@ view_tuple parts = search (rules, the_lemmas)
 
 pub view_list : (parts : Vec Pat Global) → pat_form_view (ListOf parts) ≡ pat_list (pats_from (parts_view parts))
 view_list parts = search (rules, the_lemmas)
-
-pub view_cons : (head tail : Box Pat Global) → pat_form_view (Cons head tail) ≡ pat_cons (pat_view head.value) (pat_view tail.value)
-view_cons head tail = search (rules, the_lemmas)

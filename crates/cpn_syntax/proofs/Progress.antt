@@ -1,5 +1,5 @@
 -- How steps of reading follow one another.
-use Rattle.std.proofs.Common.{◌≡◌, [], ◌∷◌, ◌++◌, refl, sym, ap, ◌∙◌, append_assoc, append-nil}
+use Rattle.std.proofs.Common.{◌≡◌, [], ◌∷◌, ◌++◌, refl, sym, ap, ◌∙◌, append_assoc}
 use Rattle.cpn_syntax.specs.declared.refusals.SyntaxError.{SyntaxError}
 use Rattle.cpn_syntax.specs.Texts.{Text}
 use Rattle.cpn_syntax.specs.Progress.{Agrees, Leads, Stops}
@@ -11,14 +11,6 @@ agrees_further from [] (t ∷ to) w is agrees = rw is agrees
 agrees_further from (t ∷ used) to w is agrees = rw is (used ++ w, refl)
 
 module _ {S R : Type 0} {Read : S → Text → Type 0} {Takes : S → R → Text → Type 0} where
-  -- nothing is read
-  pub stays : (s : S) (text : Text) → Leads Read Takes s text s text
-  stays s text = record {
-    used = [];
-    split = refl;
-    reads = λ before read. rw (append-nil before) read;
-    only = λ r w agrees takes. takes;
-  }
 
   pub leads_on : {s1 s2 s3 : S} {a b c : Text} → Leads Read Takes s1 a s2 b → Leads Read Takes s2 b s3 c → Leads Read Takes s1 a s3 c
   leads_on {s1} {s2} {s3} {a} {b} {c} x y = record {

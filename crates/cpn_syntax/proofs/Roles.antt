@@ -98,9 +98,6 @@ role_joins _ = refl
 pub joins_as : (o : Infix) {kind : PlainKind} → kind ≡ token.symbol (sign_of o) → role kind ≡ joins o
 joins_as o is = ap role is ∙ role_joins o
 
-pub one_sign : (o m : Infix) → sign_of o ≡ sign_of m → o ≡ m
-one_sign o m e = let r : joins o ≡ joins m = sym (role_joins o) ∙ ap role_of_sign e ∙ role_joins m in cc
-
 pub tight_right : (o : Infix) → precedence o ≤ right o
 tight_right op.Later = omega arith
 tight_right _ = omega arith
@@ -190,12 +187,6 @@ low_role has e = let l = (follows_in has).1 in omega (arith, ap least e)
 
 pub low : {close : Closing} {at k : ℕ} {c b : PlainAst} {st : Opens} {t : PlainToken} {w : Text} → Has close at k c st b (t ∷ w) → (o : Infix) → Is (sign_of o) t → left o ≤ k
 low has o is = low_role has (joins_as o is)
-
-pub low_stamp : {close : Closing} {at k : ℕ} {c b : PlainAst} {st : Opens} {t : PlainToken} {w : Text} → Has close at k c st b (t ∷ w) → Is sign.At t → 4 ≤ k
-low_stamp has is = low_role has (ap role is)
-
-pub low_term : {close : Closing} {at k : ℕ} {c b : PlainAst} {st : Opens} {t : PlainToken} {w : Text} → Has close at k c st b (t ∷ w) → Is sign.DoublePlus t → 3 ≤ k
-low_term has is = low_role has (ap role is)
 
 pub low_bar : {close : Closing} {at k : ℕ} {c b : PlainAst} {st : Opens} {t : PlainToken} {w : Text} → Has close at k c st b (t ∷ w) → Is sign.Bar t → 1 ≤ k
 low_bar has is = low_role has (ap role is)

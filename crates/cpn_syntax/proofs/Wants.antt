@@ -1,6 +1,6 @@
 -- What a part begins with, where the forms that are open want one: the next token says which of them it is, and
 -- behind `(`, `[` and a name the token after it.
-use Rattle.std.proofs.Common.{◌≡◌, ℕ, ℤ, ◌≤◌, ◌⊎◌, Bool, true, false, List, [], ◌∷◌, refl, subst, inl, inr, ⊎_elim, arith}
+use Rattle.std.proofs.Common.{◌≡◌, ℕ, ℤ, ◌≤◌, ◌⊎◌, true, false, List, [], ◌∷◌, subst, inl, inr, ⊎_elim}
 use Rattle.cpn_lex.specs.Token.{PlainToken, PlainKind}
 use Rattle.cpn_lex.specs.Token as token
 use Rattle.cpn_lex.specs.declared.symbols.Symbol.{Symbol}
@@ -8,10 +8,10 @@ use Rattle.cpn_lex.specs.declared.symbols.Symbol.TheVariants as sign
 use Rattle.cpn_trees.specs.declared.operators.Prefix.TheVariants as prefix
 use Rattle.cpn_syntax.specs.Texts.{Text, Is, IsName}
 use Rattle.cpn_trees.specs.Trees.{PlainAst, ast, number, text, truth, empty, time, name, unit, list, no_ast}
-use Rattle.cpn_syntax.specs.OpenForms.{condition, subject, fold_list, terms, behind, front, group, items, arguments, local, Opens, wants}
+use Rattle.cpn_syntax.specs.OpenForms.{condition, subject, fold_list, behind, front, group, items, arguments, local, Opens, wants}
 use Rattle.cpn_syntax.specs.Completions as done
 use Rattle.cpn_syntax.specs.Completions.{Closing, Wants, Has}
-use Rattle.cpn_syntax.proofs.Roles.{above_late, no_open_parenthesis}
+use Rattle.cpn_syntax.proofs.Roles.{no_open_parenthesis}
 
 -- ---- the tokens that a text has next, and what holds of the text behind them
 
@@ -91,63 +91,11 @@ begins_with {close} {st} {b} {t} {w} more is = subst (λ kind. BeginsBy close st
 pub begins_never : {close : Closing} {st : Opens} {b : PlainAst} → Wants close st b [] → ⊥
 begins_never more = begins more
 
--- whether a token may begin a part
-abbrev pub can_begin_by : Symbol → Bool
-can_begin_by sign.If = true
-can_begin_by sign.Case = true
-can_begin_by sign.Foldl = true
-can_begin_by sign.Not = true
-can_begin_by sign.Tilde = true
-can_begin_by sign.Hash = true
-can_begin_by sign.True = true
-can_begin_by sign.False = true
-can_begin_by sign.Empty = true
-can_begin_by sign.Time = true
-can_begin_by sign.OpenParenthesis = true
-can_begin_by sign.OpenBracket = true
-can_begin_by sign.Let = true
-can_begin_by _ = false
-
-abbrev pub can_begin : PlainKind → Bool
-can_begin (token.symbol s) = can_begin_by s
-can_begin _ = true
-
-pub begins_can : {close : Closing} {st : Opens} {b : PlainAst} {t : PlainToken} {w : Text} → Wants close st b (t ∷ w) → can_begin t.kind ≡ true
-begins_can {close} {st} {b} {t} {w} more = by_kind t.kind (begins more)
-  where
-    by_sign : (s : Symbol) → BeginsBySign close st b s t.at w → can_begin_by s ≡ true
-    by_sign sign.If begun = refl
-    by_sign sign.Case begun = refl
-    by_sign sign.Foldl begun = refl
-    by_sign sign.Not begun = refl
-    by_sign sign.Tilde begun = refl
-    by_sign sign.Hash begun = refl
-    by_sign sign.True begun = refl
-    by_sign sign.False begun = refl
-    by_sign sign.Empty begun = refl
-    by_sign sign.Time begun = refl
-    by_sign sign.OpenParenthesis begun = refl
-    by_sign sign.OpenBracket begun = refl
-    by_sign sign.Let begun = refl
-    by_sign _ begun = absurd begun
-
-    by_kind : (kind : PlainKind) → BeginsBy close st b kind t.at w → can_begin kind ≡ true
-    by_kind (token.symbol s) begun = by_sign s begun
-    by_kind _ begun = refl
-
 pub no_close_parenthesis : {close : Closing} {st : Opens} {b : PlainAst} {t : PlainToken} {w : Text} → Wants close st b (t ∷ w) → Is sign.CloseParenthesis t → ⊥
 no_close_parenthesis more is = begins_with more is
 
 pub no_close_bracket : {close : Closing} {st : Opens} {b : PlainAst} {t : PlainToken} {w : Text} → Wants close st b (t ∷ w) → Is sign.CloseBracket t → ⊥
 no_close_bracket more is = begins_with more is
-
--- a form that wants less than a late wants any inscription
-pub wants_any : (st : Opens) → wants st ≤ 2 → wants st ≡ 0
-wants_any (terms start parts ∷ st) le = omega arith
-wants_any (front start p ∷ st) le = omega arith
-wants_any (behind start o s a ∷ st) le = omega (arith, above_late o)
-wants_any [] le = refl
-wants_any _ le = refl
 
 -- ---- where the token after the first decides
 

@@ -1,1 +1,1 @@
-pub mod UnreachedRows
+mod UnreachedRows

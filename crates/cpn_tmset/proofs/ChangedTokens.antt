@@ -8,9 +8,9 @@ use Rattle.cpn_definitions.proofs.SortedTokens.{add_token_sorted, without_token_
 use Rattle.cpn_definitions.proofs.Addition.{stamps_with}
 use Rattle.cpn_tmset.specs.Stamps.{latest_of}
 use Rattle.cpn_tmset.specs.TMSets.{Entries, tokens_in, stamps_in, AreKept}
-use Rattle.cpn_tmset.proofs.SameTokens.{same_tokens, stamps_of_without}
 use Rattle.cpn_tmset.proofs.KeptTokens.{tokens_sorted, stamps_kept}
 use Rattle.cpn_definitions.proofs.PlaceCounts.{length-add_token}
+use Rattle.cpn_definitions.proofs.SameTokens.{same_tokens, stamps_of_without}
 use Rattle.cpn_tmset.proofs.TokenCounts.{length-without_token}
 use Rattle.cpn_tmset.proofs.EntryStamps.{unchanged, none_without}
 

@@ -8,22 +8,22 @@ use Rattle.cpn_definitions.specs.Value.{PlainValue}
 use Rattle.cpn_definitions.specs.Order.{value_cmp, same_value}
 use Rattle.cpn_definitions.specs.Marking.{PlainToken, Tokens, token_at}
 use Rattle.cpn_definitions.specs.ValueOrder.{same_value_true, same_value_refl}
+use Rattle.cpn_definitions.proofs.NumberTests.{less_number}
 use Rattle.cpn_tmset.specs.Listed.{Group, same_token, grouped_with, groups, is_last_of, values_of}
 use Rattle.cpn_tmset.specs.StampCounts.{repeated, IsCounted}
 use Rattle.cpn_tmset.specs.TMSets.{Entries, tokens_in, AreKept}
-use Rattle.cpn_tmset.proofs.RepeatedStamps.{less_number}
 
 -- the first of the tokens, if there is one, is another
 abbrev pub BeginsApart : PlainToken → Tokens → Type 0
 BeginsApart t [] = Unit {0}
 BeginsApart t (k ∷ ks) = same_token t k ≡ false
 
-equal_tokens : (t u : PlainToken) → same_token t u ≡ true → t ≡ u
+pub equal_tokens : (t u : PlainToken) → same_token t u ≡ true → t ≡ u
 equal_tokens t u e =
     let parts = and_parts (same_value t.value u.value) (t.stamp == u.stamp) e in
     ap₂ (λ v s. record { value = v; stamp = s }) (same_value_true t.value u.value parts.0) (eqb-true t.stamp u.stamp parts.1)
 
-same_itself : (t : PlainToken) → same_token t t ≡ true
+pub same_itself : (t : PlainToken) → same_token t t ≡ true
 same_itself t = and_from (same_value t.value t.value) (t.stamp == t.stamp) (same_value_refl t.value) (eq-eqb t.stamp t.stamp refl)
 
 -- the groups of tokens begin with that of the first token

@@ -1,5 +1,5 @@
 -- So many tokens of a value are covered from the stamp at their last rank on.
-use Rattle.std.proofs.Common.{◌≡◌, ℕ, zero, suc, ◌-◌, ◌<◌, ◌≤◌, Bool, true, false, ◌&&◌, nat_le, List, [], ◌∷◌, replicate, Option, Some, None, refl, ap, ◌∙◌, arith}
+use Rattle.std.proofs.Common.{◌≡◌, ℕ, zero, suc, ◌-◌, ◌<◌, ◌≤◌, Bool, false, ◌&&◌, nat_le, List, [], ◌∷◌, replicate, Option, Some, None, refl, ap, ◌∙◌, arith}
 use Rattle.std.specs.List.{slice_get}
 use Rattle.std.proofs.Math.Bool.{and-true, and-false}
 use Rattle.std.proofs.lemmas.Bool.Decides.{nat_tests}
@@ -29,10 +29,6 @@ covers_repeated t zero (s ∷ ss) rising = none ss
     none [] = and-true (nat_le s t)
     none (r ∷ rs) = and-true (nat_le s t)
 covers_repeated t (suc k) (s ∷ ss) rising = ap (λ b. nat_le s t && b) (covers_repeated t k ss rising.1) ∙ met_before t s k ss rising.0
-
-pub covers_none : (ss : List ℕ) → covers ss [] ≡ true
-covers_none [] = refl
-covers_none (s ∷ ss) = refl
 
 -- so many tokens are covered where the stamp at the last rank is there and not above the time
 pub covered_by_rank : (v : PlainValue) (ks : Tokens) (number time : ℕ) → AreSorted ks → 0 < number → covers (stamps v ks) (replicate number time) ≡ meets time (slice_get (stamps v ks) (number - 1))

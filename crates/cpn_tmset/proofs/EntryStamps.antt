@@ -154,7 +154,3 @@ none_without t (s ∷ ss) h = split (begins_by t ss) (nat_le s t) h (none_withou
     split true c h rest = ap (λ rs. s ∷ rs) (rest h)
     split false true h rest = cc
     split false false h rest = refl
-
-pub found_in : {X : Type 0} (es : List X) → length es ≡ 0 → es ≡ []
-found_in [] h = refl
-found_in (e ∷ es) h = cc

@@ -9,7 +9,8 @@ use Rattle.cpn_definitions.proofs.Stamps.{without_latest_none}
 use Rattle.cpn_tmset.specs.Stamps.{latest_of}
 use Rattle.cpn_tmset.specs.StampCounts.{repeated, IsCounted, AreAllAbove, IsLatestEntry}
 use Rattle.cpn_definitions.proofs.KeyedEntries.{none_below, of_found}
-use Rattle.cpn_tmset.proofs.RepeatedStamps.{same_number, less_number, greater_number, rest_is, repeated_rise}
+use Rattle.cpn_definitions.proofs.NumberTests.{same_number, less_number}
+use Rattle.cpn_tmset.proofs.RepeatedStamps.{greater_number, rest_is, repeated_rise}
 
 -- ---- one stamp after another
 

@@ -1,19 +1,18 @@
-pub mod RepeatedStamps
-pub mod LatestStamps
-pub mod SameTokens
-pub mod KeptTokens
-pub mod EntryStamps
-pub mod TokenCounts
-pub mod Errors
-pub mod ChangedTokens
-pub mod CoveredNeeds
+mod RepeatedStamps
+mod LatestStamps
+mod KeptTokens
+mod EntryStamps
+mod TokenCounts
+mod Errors
+mod ChangedTokens
+mod CoveredNeeds
 pub mod CountedTokens
-pub mod CopiedEntries
-pub mod TakenNeeds
-pub mod Thresholds
-pub mod Ranks
-pub mod EarliestTimes
-pub mod NeedPlaces
-pub mod TakenStamps
-pub mod RoomLeft
-pub mod Rows
+mod CopiedEntries
+mod TakenNeeds
+mod Thresholds
+mod Ranks
+mod EarliestTimes
+mod NeedPlaces
+mod TakenStamps
+mod RoomLeft
+mod Rows

@@ -1,7 +1,7 @@
 -- The place where the needs for one value on one place begin, found by comparing needs in order with one of them.
-use Rattle.std.proofs.Common.{◌≡◌, ℕ, ◌<◌, Bool, true, false, List, length, get_or, Some, option_map, refl, sym, ap, ◌∙◌, true≢false, Ordering, Less, Equal, Greater, nat_cmp, is_lt, is_gt}
+use Rattle.std.proofs.Common.{◌≡◌, ℕ, ◌<◌, Bool, true, false, List, length, get_or, Some, option_map, refl, sym, ap, ◌∙◌, true≢false, Ordering, nat_cmp, is_lt, is_gt}
 use Rattle.std.specs.List.Sorted.{IsPartitionedBy}
-use Rattle.std.specs.Ordering.{ordering_then, ordering_reverse}
+use Rattle.std.specs.Ordering.{ordering_then}
 use Rattle.std.specs.Cmp.{IsTotalOrder}
 use Rattle.std.proofs.lemmas.Cmp.{upto, then_total, on_total, nat_cmp_total}
 use Rattle.std.specs.List.{slice_get}
@@ -13,6 +13,7 @@ use Rattle.cpn_definitions.specs.Occurrence.{needed_cmp}
 use Rattle.cpn_definitions.specs.ValueOrder.{value_cmp_total}
 use Rattle.cpn_definitions.proofs.DividedLists.{divided}
 use Rattle.cpn_definitions.proofs.TokenOrder.{needed_cmp_total}
+use Rattle.cpn_definitions.proofs.InsertPlaces.{turn_lt, not_after}
 use Rattle.cpn_core.specs.declared.needed.Needed.{Needed}
 use Rattle.cpn_tmset.specs.NeedPositions.{need_before}
 use Rattle.cpn_core.specs.NeedsViews.{needed_view, needed_views}
@@ -25,22 +26,10 @@ key_cmp_total : IsTotalOrder key_cmp
 key_cmp_total = then_total (on_total (λ (need : plain.Needed). need.place) nat_cmp_total) (on_total (λ (need : plain.Needed). need.value) value_cmp_total)
 
 key_not_after : (a b : plain.Needed) → is_gt (needed_cmp a b) ≡ false → is_gt (key_cmp a b) ≡ false
-key_not_after a b h = split (nat_cmp a.place b.place) (value_cmp a.value b.value) (nat_cmp a.offset b.offset) h
-  where
-    split : (o p q : Ordering) → is_gt (ordering_then o (ordering_then p q)) ≡ false → is_gt (ordering_then o p) ≡ false
-    split Less p q g = refl
-    split Greater p q g = g
-    split Equal Less q g = refl
-    split Equal Equal q g = refl
-    split Equal Greater q g = g
+key_not_after a b h = not_after (nat_cmp a.place b.place) (value_cmp a.value b.value) (nat_cmp a.offset b.offset) h
 
 turned : (a b : plain.Needed) → is_gt (key_cmp b a) ≡ is_lt (key_cmp a b)
 turned a b = ap is_gt (key_cmp_total.antisymm b a) ∙ turn_lt (key_cmp a b)
-  where
-    turn_lt : (o : Ordering) → is_gt (ordering_reverse o) ≡ is_lt o
-    turn_lt Less = refl
-    turn_lt Equal = refl
-    turn_lt Greater = refl
 
 -- what does not come after a need that comes before another comes before it too
 before_too : (a b need : plain.Needed) → is_gt (key_cmp a b) ≡ false → need_before b need ≡ true → need_before a need ≡ true

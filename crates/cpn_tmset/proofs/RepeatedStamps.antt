@@ -12,12 +12,7 @@ use Rattle.cpn_definitions.specs.Lists.{with_item}
 use Rattle.cpn_definitions.proofs.Stamps.{AreRising, IsAtMostEach}
 use Rattle.cpn_tmset.specs.StampCounts.{repeated, IsCounted}
 use Rattle.cpn_definitions.proofs.KeyedEntries.{none_below}
-
-pub same_number : (a b : ℕ) → nat_cmp a b ≡ Equal → a ≡ b
-same_number a b h = ranked a b Equal (sym h)
-
-pub less_number : (a b : ℕ) → nat_cmp a b ≡ Less → a < b
-less_number a b h = ranked a b Less (sym h)
+use Rattle.cpn_definitions.proofs.NumberTests.{same_number, less_number}
 
 pub greater_number : (a b : ℕ) → nat_cmp a b ≡ Greater → b < a
 greater_number a b h = ranked a b Greater (sym h)

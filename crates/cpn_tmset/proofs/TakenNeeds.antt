@@ -11,11 +11,11 @@ use Rattle.cpn_definitions.specs.ValueOrder.{value_cmp_total}
 use Rattle.cpn_definitions.proofs.SortedTokens.{without_token_sorted}
 use Rattle.cpn_definitions.proofs.Stamps.{stamps_rise, stamps_without, stamps_without_other, any_taken}
 use Rattle.cpn_definitions.proofs.RicherMarkings.{covers_first}
+use Rattle.cpn_definitions.proofs.SameTokens.{stamps_of_without}
 use Rattle.cpn_mset.specs.MSets.{PlainMSet, appearances, IsMSet}
 use Rattle.cpn_mset.specs.SameMSets.{once_listed}
 use Rattle.cpn_tmset.specs.Covering.{covers_need}
 use Rattle.cpn_tmset.specs.Picks.{Demand, demands_at, left_after}
-use Rattle.cpn_tmset.proofs.SameTokens.{stamps_of_without}
 use Rattle.cpn_tmset.proofs.TokenCounts.{one_fewer}
 
 -- ---- the stamps of each value

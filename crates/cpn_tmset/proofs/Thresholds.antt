@@ -1,10 +1,10 @@
 -- The thresholds of needs in order, as one need more comes after them: those for its value on its place get one more, and
 -- the needs are covered where they were, and the stamp at the rank of the new need is there and not above its threshold.
-use Rattle.std.proofs.Common.{◌≡◌, ℕ, suc, ◌+◌, ◌≤◌, ◌⊎◌, ◌==◌, Bool, true, false, cond, ◌&&◌, nat_le, List, [], ◌∷◌, ◌++◌, length, map, Option, Some, None, refl, sym, ap, ap₂, append-nil, ◌∙◌, inl, inr, ⊎_elim, arith, Ordering, Equal, nat_cmp, is_lt, is_gt}
+use Rattle.std.proofs.Common.{◌≡◌, ℕ, ◌+◌, ◌≤◌, ◌⊎◌, ◌==◌, Bool, true, false, cond, ◌&&◌, nat_le, List, [], ◌∷◌, ◌++◌, length, map, Option, Some, None, refl, sym, ap, ap₂, append-nil, ◌∙◌, inl, inr, ⊎_elim, arith, Ordering, Equal, nat_cmp, is_lt, is_gt}
 use Rattle.std.specs.List.{AllByRecursion, filter, list_all, slice_get}
 use Rattle.std.specs.Ordering.{ordering_then}
 use Rattle.std.proofs.Math.Bool.{and_assoc, and-true, and-false}
-use Rattle.std.proofs.lemmas.Bool.{cond_both, cond-true, cond-false, and_parts, and_from}
+use Rattle.std.proofs.lemmas.Bool.{cond-true, cond-false, and_parts, and_from}
 use Rattle.std.proofs.lemmas.Bool.Decides.{nat_tests}
 use Rattle.std.proofs.lemmas.Cmp.{nat_cmp_total}
 use Rattle.std.proofs.lemmas.List.{map-append, length-map}
@@ -12,41 +12,22 @@ use Rattle.std.proofs.lemmas.List.Elements.{filter-append}
 use Rattle.std.proofs.lemmas.List.Folds.{list_all-append}
 use Rattle.cpn_definitions.specs.Value.{PlainValue}
 use Rattle.cpn_definitions.specs.Order.{value_cmp, same_value}
-use Rattle.cpn_definitions.specs.Lists.{with_item, with_items, in_order}
+use Rattle.cpn_definitions.specs.Lists.{in_order}
 use Rattle.cpn_definitions.specs.Marking.{Marking, tokens_at, stamps, covers}
 use Rattle.cpn_definitions.specs.Occurrence.{Needed, needed_cmp, threshold, same_need, thresholds, are_covered}
 use Rattle.cpn_definitions.specs.ValueOrder.{same_value_true, same_value_refl, value_itself}
-use Rattle.cpn_definitions.proofs.OrderedLists.{all_with_item, added_last}
+use Rattle.cpn_definitions.proofs.OrderedLists.{added_last, with_items_append, each_with_items}
 use Rattle.cpn_definitions.proofs.RisingLists.{each_implied}
+use Rattle.cpn_definitions.proofs.PlaceCounts.{length-in_order}
+use Rattle.cpn_definitions.proofs.UntimedPlaces.{same_place}
 
 -- ---- lists in order
-
-pub with_items_append : {X : Type 0} (c : X → X → Ordering) (xs ys zs : List X) → with_items c (xs ++ ys) zs ≡ with_items c ys (with_items c xs zs)
-with_items_append c [] ys zs = refl
-with_items_append c (x ∷ xs) ys zs = with_items_append c xs ys (with_item c x zs)
-
--- what holds of each item holds of each of them in order
-all_with_items : {X : Type 0} (c : X → X → Ordering) (P : X → Type 0) (xs ys : List X) → AllByRecursion P xs → AllByRecursion P ys → AllByRecursion P (with_items c xs ys)
-all_with_items c P [] ys first rest = rest
-all_with_items c P (x ∷ xs) ys first rest = all_with_items c P xs (with_item c x ys) first.1 (all_with_item c P x ys first.0 rest)
-
-length-with_item : {X : Type 0} (c : X → X → Ordering) (x : X) (ys : List X) → length (with_item c x ys) ≡ suc (length ys)
-length-with_item c x [] = refl
-length-with_item c x (y ∷ ys) =
-    cond_both (is_lt (c x y)) (x ∷ y ∷ ys) (y ∷ with_item c x ys) (λ zs. length zs ≡ suc (suc (length ys))) (λ _. refl) (λ _. ap (λ (n : ℕ). suc n) (length-with_item c x ys))
-
-length-with_items : {X : Type 0} (c : X → X → Ordering) (xs ys : List X) → length (with_items c xs ys) ≡ length xs + length ys
-length-with_items c [] ys = omega arith
-length-with_items c (x ∷ xs) ys = length-with_items c xs (with_item c x ys) ∙ ap (λ n. length xs + n) (length-with_item c x ys) ∙ omega arith
-
-length-in_order : {X : Type 0} (c : X → X → Ordering) (xs : List X) → length (in_order c xs) ≡ length xs
-length-in_order c xs = length-with_items c xs [] ∙ omega arith
 
 -- a number that is none of the numbers' lesser comes last among them
 in_order_last : (ts : List ℕ) (t : ℕ) → AllByRecursion (λ s. s ≤ t) ts → in_order nat_cmp (ts ++ t ∷ []) ≡ in_order nat_cmp ts ++ t ∷ []
 in_order_last ts t below =
     with_items_append nat_cmp ts (t ∷ []) []
-    ∙ added_last nat_cmp nat_cmp_total t (in_order nat_cmp ts) (each_implied (λ s. s ≤ t) (λ s. is_lt (nat_cmp t s) ≡ false) (in_order nat_cmp ts) (λ s le. not_before s le) (all_with_items nat_cmp (λ s. s ≤ t) ts [] below tt))
+    ∙ added_last nat_cmp nat_cmp_total t (in_order nat_cmp ts) (each_implied (λ s. s ≤ t) (λ s. is_lt (nat_cmp t s) ≡ false) (in_order nat_cmp ts) (λ s le. not_before s le) (each_with_items nat_cmp (λ s. s ≤ t) ts [] below tt))
   where
     not_before : (s : ℕ) → s ≤ t → is_lt (nat_cmp t s) ≡ false
     not_before s le = grind (arith, nat_tests)
@@ -65,12 +46,6 @@ covers_more [] (r ∷ ts) t = refl
 covers_more (s ∷ ss) (r ∷ ts) t = ap (λ b. nat_le s r && b) (covers_more ss ts t) ∙ sym (and_assoc (nat_le s r) (covers ss ts) (meets t (slice_get ss (length ts))))
 
 -- ---- needs for the same value on the same place
-
-eq_place : (p q : ℕ) → (p == q) ≡ true → p ≡ q
-eq_place p q h = grind (arith, nat_tests)
-
-pub same_place : (need other : Needed) → same_need need other ≡ true → need.place ≡ other.place
-same_place need other h = eq_place need.place other.place (and_parts (need.place == other.place) (same_value need.value other.value) h).0
 
 pub same_values : (need other : Needed) → same_need need other ≡ true → need.value ≡ other.value
 same_values need other h = same_value_true need.value other.value (and_parts (need.place == other.place) (same_value need.value other.value) h).1

@@ -1,6 +1,7 @@
 -- How many tokens there are after one was taken.
-use Rattle.std.proofs.Common.{◌≡◌, ℕ, suc, ◌+◌, Bool, true, false, cond, ◌&&◌, ◌||◌, nat_le, [], ◌∷◌, length, Some, None, refl, sym, ap, ◌∙◌, arith, is_lt, true≢false}
+use Rattle.std.proofs.Common.{◌≡◌, ℕ, suc, ◌+◌, Bool, true, false, cond, ◌&&◌, ◌||◌, nat_le, [], ◌∷◌, length, Some, None, refl, sym, ap, ◌∙◌, arith, true≢false}
 use Rattle.std.specs.List.{list_any}
+use Rattle.std.proofs.Math.Bool.{or-true}
 use Rattle.cpn_definitions.specs.Value.{PlainValue}
 use Rattle.cpn_definitions.specs.Order.{same_value}
 use Rattle.cpn_definitions.specs.Marking.{Tokens, without_token, is_taken_by, stamps, begins_by}
@@ -20,12 +21,8 @@ taken_where_named : (v : PlainValue) (t s : ℕ) (ks : Tokens) → latest_of t (
 taken_where_named v t s [] h = cc
 taken_where_named v t s (k ∷ ks) h = split (same_value v k.value) h (taken_where_named v t s ks)
   where
-    either : (b : Bool) → (b || true) ≡ true
-    either true = refl
-    either false = refl
-
     at_first : (b c : Bool) → cond c (latest_of t (stamps v ks)) (cond b (Some k.stamp) None) ≡ Some s → (latest_of t (stamps v ks) ≡ Some s → list_any (is_taken_by v t) ks ≡ true) → (b || list_any (is_taken_by v t) ks) ≡ true
-    at_first b true g rest = ap (λ c. b || c) (rest g) ∙ either b
+    at_first b true g rest = ap (λ c. b || c) (rest g) ∙ or-true b
     at_first true false g rest = refl
     at_first false false g rest = cc
 

@@ -1,1 +1,1 @@
-pub mod OneTermRows
+mod OneTermRows

@@ -1,5 +1,5 @@
 -- The arms of a `case` that are checked already, in front of what the rules say of the rest.
-use Rattle.std.proofs.Common.{◌≡◌, ℕ, suc, ◌+◌, ◌<◌, ◌≤◌, drop_of_length-le, List, [], ◌∷◌, ◌++◌, length, get_or, drop, map, refl, sym, ap, ◌∙◌, add-one, rules, drop-cons, Option, Some, None}
+use Rattle.std.proofs.Common.{◌≡◌, ℕ, suc, ◌+◌, ◌<◌, ◌≤◌, drop_of_length-le, List, [], ◌∷◌, ◌++◌, length, get_or, drop, map, refl, sym, ap, ◌∙◌, add-one, rules, drop-cons, Option, Some}
 use Rattle.cpn_trees.specs.AstViews.{arms_from, arm_view, ast_view}
 use Rattle.cpn_trees.specs.PatViews.{pat_view}
 use Rattle.cpn_core.specs.Inscriptions as core
@@ -12,15 +12,16 @@ use Rattle.cpn_declared.specs.TypeViews.{ty_view}
 use Rattle.cpn_forms.specs.BoundViews.{bound_view}
 use Rattle.cpn_trees.specs.declared.trees.Arm.{Arm}
 use Rattle.cpn_trees.specs.declared.trees.Arm as arm
+use Rattle.cpn_trees.proofs.FormViews.{view_arm}
 use Rattle.cpn_definitions.specs.Inscription.{PlainPattern, PlainExpr, PlainArms, no_arms, more_arms}
 use Rattle.cpn_definitions.specs.Inscription as inscription
+use Rattle.cpn_definitions.proofs.ListItems.{map_more}
 use Rattle.cpn_typing.specs.Types.{PlainTy}
-use Rattle.cpn_typing.specs.Names.{Declared, Scope, Refusal, Checked, ok, refused, ◌>>=◌}
+use Rattle.cpn_typing.specs.Names.{Declared, Scope, Checked, ok, refused, ◌>>=◌}
 use Rattle.cpn_typing.specs.Places.{Place}
 use Rattle.cpn_typing.specs.PatternRules.{BoundPattern, typed_pattern}
 use Rattle.cpn_typing.specs.Rules.{Typed, Arms}
 use Rattle.cpn_typing.specs.Expressions.{typed, typed_arms}
-use Rattle.cpn_typing.specs.Answers.{Refuses}
 
 abbrev pub arms_before : List (PlainPattern × PlainExpr) → PlainArms → PlainArms
 arms_before [] arms = arms
@@ -50,26 +51,6 @@ arm_step ds place sc inner subject arms i x w xs ys b r all lt e f n g y h =
     let k = rw (d, f, g2) at h in
     rw (add-one i, y) (arms_in_front xs b.pattern r (typed_arms ds place (arms_from (map arm_view (drop (suc i) arms))) sc subject (Some r.type_of)) ∙ k)
 
--- the refusal of an arm is that of all
-pub pattern_refused : (q : Option Refusal) (ds : Declared) (place : Place) (sc : Scope) (subject : PlainTy) (arms : List Arm) (i : ℕ) (x : Arm) (w : Option PlainTy) (xs : List (PlainPattern × PlainExpr)) (all : Checked Arms)
-    → i < length arms → x ≡ get_or arms i x → Refuses q (typed_pattern ds (arm_view x).0 sc subject)
-    → before_arms xs (typed_arms ds place (arms_from (map arm_view (drop i arms))) sc subject w) ≡ all → Refuses q all
-pattern_refused None ds place sc subject arms i x w xs all lt e f h = tt
-pattern_refused (Some q) ds place sc subject arms i x w xs all lt e f h =
-    let d : drop i arms ≡ x ∷ drop (suc i) arms = drop-cons arms i x lt ∙ ap (λ z. z ∷ drop (suc i) arms) (sym e) in
-    let k = rw (d, f) at h in
-    sym k
-
-pub result_refused : (q : Option Refusal) (ds : Declared) (place : Place) (sc inner : Scope) (subject : PlainTy) (arms : List Arm) (i : ℕ) (x : Arm) (w : Option PlainTy) (xs : List (PlainPattern × PlainExpr)) (b : BoundPattern) (all : Checked Arms)
-    → i < length arms → x ≡ get_or arms i x → typed_pattern ds (arm_view x).0 sc subject ≡ ok b → inner ≡ sc ++ b.locals → Refuses q (typed ds place (arm_view x).1 inner w)
-    → before_arms xs (typed_arms ds place (arms_from (map arm_view (drop i arms))) sc subject w) ≡ all → Refuses q all
-result_refused None ds place sc inner subject arms i x w xs b all lt e f n g h = tt
-result_refused (Some q) ds place sc inner subject arms i x w xs b all lt e f n g h =
-    let d : drop i arms ≡ x ∷ drop (suc i) arms = drop-cons arms i x lt ∙ ap (λ z. z ∷ drop (suc i) arms) (sym e) in
-    let g2 : typed ds place (arm_view x).1 (sc ++ b.locals) w ≡ refused q = ap (λ s. typed ds place (arm_view x).1 s w) (sym n) ∙ g in
-    let k = rw (d, f, g2) at h in
-    sym k
-
 arms_all : (xs : List (PlainPattern × PlainExpr)) → arms_before xs no_arms ≡ inscription.arms_from xs
 arms_all [] = refl
 arms_all (x ∷ xs) = ap (more_arms x.0 x.1) (arms_all xs)
@@ -78,14 +59,6 @@ pub arms_done : (ds : Declared) (place : Place) (sc : Scope) (subject : PlainTy)
 arms_done ds place sc subject arms i w xs le =
     let d : drop i arms ≡ [] = drop_of_length-le arms le in
     rw (d, arms_all xs) refl
-
--- the same for what the program holds
-map_more : {A B : Type 0} (f : A → B) (xs : List A) (x : A) → map f (xs ++ x ∷ []) ≡ map f xs ++ f x ∷ []
-map_more f [] x = refl
-map_more f (y ∷ xs) x = ap (λ ys. f y ∷ ys) (map_more f xs x)
-
-arm_is : (x : Arm) → arm_view x ≡ (pat_view x.pattern, ast_view x.result)
-arm_is x = search (rules, arm.the_lemmas)
 
 made_arm : (x : core_arm.Arm) → core.arm_view x ≡ (core.pattern_view x.pat, core.expr_view x.result)
 made_arm x = search (rules, core_arm.the_lemmas)
@@ -98,8 +71,8 @@ pub arms_step : (ds : Declared) (place : Place) (sc now : Scope) (subject : Plai
     → before_arms (map core.arm_view ys) (typed_arms ds place (arms_from (map arm_view (drop (i + 1) arms))) sc subject (Some (ty_view r.ty))) ≡ all
 arms_step ds place sc now subject arms i x v w xs ys made locals r all n u y z lt e f g h =
     arm_step ds place sc (sc ++ scope_view locals) subject arms i x w (map core.arm_view xs) (map core.arm_view ys) (bound_view locals made.pat) (typed_view r) all lt e
-    (ap (λ p. typed_pattern ds p.0 sc subject) (arm_is x) ∙ ap (λ s. typed_pattern ds (pat_view x.pattern) s subject) (sym n) ∙ f)
+    (ap (λ p. typed_pattern ds p.0 sc subject) (view_arm x) ∙ ap (λ s. typed_pattern ds (pat_view x.pattern) s subject) (sym n) ∙ f)
     refl
-    (ap (λ p. typed ds place p.1 (sc ++ scope_view locals) w) (arm_is x) ∙ ap (λ s. typed ds place (ast_view x.result) (s ++ scope_view locals) w) (sym n) ∙ ap (λ t. typed ds place (ast_view x.result) (now ++ scope_view locals) t) (sym u) ∙ g)
+    (ap (λ p. typed ds place p.1 (sc ++ scope_view locals) w) (view_arm x) ∙ ap (λ s. typed ds place (ast_view x.result) (s ++ scope_view locals) w) (sym n) ∙ ap (λ t. typed ds place (ast_view x.result) (now ++ scope_view locals) t) (sym u) ∙ g)
     (ap (map core.arm_view) y ∙ map_more core.arm_view xs made ∙ ap (λ p. map core.arm_view xs ++ p ∷ []) (made_arm made ∙ ap (λ q. (core.pattern_view made.pat, core.expr_view q)) z))
     h

@@ -1,35 +1,15 @@
 -- What a form of the program is, where its parts are lent.
-use Rattle.std.proofs.Common.{◌≡◌, ℕ, List, map, Vec, Box, String, Global, rules, string_bytes}
+use Rattle.std.proofs.Common.{◌≡◌, ℕ, List, map, Vec, Box, String, Global, string_bytes}
 use Rattle.cpn_trees.specs.declared.operators.Infix.{Infix}
 use Rattle.cpn_trees.specs.declared.operators.Prefix.{Prefix}
 use Rattle.cpn_trees.specs.declared.trees.Ast.{Ast}
 use Rattle.cpn_trees.specs.declared.trees.Arm.{Arm}
 use Rattle.cpn_trees.specs.declared.trees.LocalValue.{LocalValue}
-use Rattle.cpn_trees.specs.declared.trees.Form.{Form, the_lemmas}
+use Rattle.cpn_trees.specs.declared.trees.Form.{Form}
 use Rattle.cpn_trees.specs.declared.trees.Form.TheVariants as form
 use Rattle.cpn_trees.specs.Trees.{call, let_in, prefixed, infixed, if_else, case_of, fold, asts_from}
 use Rattle.cpn_trees.specs.AstViews.{form_view, ast_view, local_view, locals_from, arm_view, arms_from}
-
-view_call : (n : String Global) (parts : Vec Ast Global) → form_view (form.Call n parts) ≡ call (string_bytes n) (asts_from (map ast_view parts.items))
-view_call n parts = search (rules, the_lemmas)
-
-view_let : (values : Vec LocalValue Global) (body : Box Ast Global) → form_view (form.Let values body) ≡ let_in (locals_from (map local_view values.items)) (ast_view body.value)
-view_let values body = search (rules, the_lemmas)
-
-view_infix : (o : Infix) (s : ℕ) (a b : Box Ast Global) → form_view (form.Infix o s a b) ≡ infixed o s (ast_view a.value) (ast_view b.value)
-view_infix o s a b = search (rules, the_lemmas)
-
-view_if : (c a b : Box Ast Global) → form_view (form.If c a b) ≡ if_else (ast_view c.value) (ast_view a.value) (ast_view b.value)
-view_if c a b = search (rules, the_lemmas)
-
-view_prefix : (o : Prefix) (a : Box Ast Global) → form_view (form.Prefix o a) ≡ prefixed o (ast_view a.value)
-view_prefix o a = search (rules, the_lemmas)
-
-view_case : (subject : Box Ast Global) (arms : Vec Arm Global) → form_view (form.Case subject arms) ≡ case_of (ast_view subject.value) (arms_from (map arm_view arms.items))
-view_case subject arms = search (rules, the_lemmas)
-
-view_fold : (item total : String Global) (a s b : Box Ast Global) → form_view (form.Fold item total a s b) ≡ fold (string_bytes item) (string_bytes total) (ast_view a.value) (ast_view s.value) (ast_view b.value)
-view_fold item total a s b = search (rules, the_lemmas)
+use Rattle.cpn_trees.proofs.FormViews.{view_call, view_let, view_infix, view_if, view_prefix, view_case, view_fold}
 
 pub call_is : (f : Form) (n : String Global) (parts : Vec Ast Global) (name : List ℕ) → f ≡ form.Call n parts → name ≡ string_bytes n → form_view f ≡ call name (asts_from (map ast_view parts.items))
 call_is f n parts name e p = rw (e, p) (view_call n parts)

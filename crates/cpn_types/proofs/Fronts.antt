@@ -4,15 +4,15 @@ use Rattle.cpn_trees.specs.Trees.{asts_from}
 use Rattle.cpn_trees.specs.AstViews.{ast_view}
 use Rattle.cpn_trees.specs.declared.trees.Ast.{Ast}
 use Rattle.cpn_definitions.specs.Inscription.{PlainExpr, PlainExprs, no_exprs, more_exprs, exprs_from}
+use Rattle.cpn_definitions.proofs.ListItems.{map_more}
 use Rattle.cpn_core.specs.Inscriptions.{expr_view}
 use Rattle.cpn_core.specs.declared.inscriptions.Expr.{Expr}
 use Rattle.cpn_typing.specs.Types.{PlainTy, PlainTys, no_types, more_types, types_from}
-use Rattle.cpn_typing.specs.Names.{Declared, Scope, Refusal, Checked, ok, refused, ◌>>=◌}
+use Rattle.cpn_typing.specs.Names.{Declared, Scope, Checked, ok, refused, ◌>>=◌}
 use Rattle.cpn_typing.specs.Places.{Place}
 use Rattle.cpn_typing.specs.Rules.{Typed, Parts, Items, first_wanted, later_wanted}
 use Rattle.cpn_typing.specs.Expressions.{typed, typed_parts, typed_items}
 use Rattle.cpn_declared.specs.TypeViews.{ty_view, tys_view}
-use Rattle.cpn_typing.specs.Answers.{Refuses}
 use Rattle.cpn_forms.specs.TypedViews.{typed_view}
 use Rattle.cpn_forms.specs.declared.typed.Typed as program
 use Rattle.cpn_declared.specs.declared.types.Ty.{Ty}
@@ -68,11 +68,6 @@ parts_in_front es ts r (refused x) = refl
 items_in_front : (es : List PlainExpr) (r : Typed) (c : Checked Items) → before_items (es ++ r.expr ∷ []) c ≡ before_items es (c >>= λ rest. ok (record { items = more_exprs r.expr rest.items; item_type = rest.item_type }))
 items_in_front es r (ok p) = rw (exprs_more es r.expr p.items) refl
 items_in_front es r (refused x) = refl
-
--- the same for what the program holds
-map_more : {A B : Type 0} (f : A → B) (xs : List A) (x : A) → map f (xs ++ x ∷ []) ≡ map f xs ++ f x ∷ []
-map_more f [] x = refl
-map_more f (y ∷ xs) x = ap (λ ys. f y ∷ ys) (map_more f xs x)
 
 pub parts_more : (ds : Declared) (place : Place) (sc : Scope) (xs : List Ast) (i : ℕ) (x : Ast) (ws : List Ty) (j : ℕ) (es : List PlainExpr) (ts : List PlainTy) (r : Typed) (all : Checked Parts)
     → i < length xs → x ≡ get_or xs i x → typed ds place (ast_view x) sc (first_wanted (tys_view (drop j ws))) ≡ ok r
@@ -131,33 +126,3 @@ pub items_done : (ds : Declared) (place : Place) (sc : Scope) (xs : List Ast) (i
 items_done ds place sc xs i w es le =
     let d : drop i xs ≡ [] = drop_of_length-le xs le in
     rw (d, exprs_all (map expr_view es)) refl
-
--- the refusal of a part or of an item is that of all
-pub part_refused : (q : Option Refusal) (ds : Declared) (place : Place) (sc : Scope) (xs : List Ast) (i j : ℕ) (x : Ast) (ws : List Ty) (w : Option PlainTy) (es : List PlainExpr) (ts : List PlainTy) (all : Checked Parts)
-    → i < length xs → x ≡ get_or xs i x → w ≡ first_wanted (tys_view (drop j ws)) → Refuses q (typed ds place (ast_view x) sc w)
-    → before_parts es ts (typed_parts ds place (asts_from (map ast_view (drop i xs))) sc (tys_view (drop j ws))) ≡ all → Refuses q all
-part_refused None ds place sc xs i j x ws w es ts all lt e v f h = tt
-part_refused (Some q) ds place sc xs i j x ws w es ts all lt e v f h =
-    let d : drop i xs ≡ x ∷ drop (suc i) xs = drop-cons xs i x lt ∙ ap (λ y. y ∷ drop (suc i) xs) (sym e) in
-    let g : typed ds place (ast_view x) sc (first_wanted (tys_view (drop j ws))) ≡ refused q = ap (λ u. typed ds place (ast_view x) sc u) (sym v) ∙ f in
-    let k = rw (d, g) at h in
-    sym k
-
-pub item_refused : (q : Option Refusal) (ds : Declared) (place : Place) (sc : Scope) (xs : List Ast) (i : ℕ) (x : Ast) (v w : Option PlainTy) (es : List PlainExpr) (all : Checked Items)
-    → i < length xs → x ≡ get_or xs i x → v ≡ w → Refuses q (typed ds place (ast_view x) sc v)
-    → before_items es (typed_items ds place (asts_from (map ast_view (drop i xs))) sc w) ≡ all → Refuses q all
-item_refused None ds place sc xs i x v w es all lt e u f h = tt
-item_refused (Some q) ds place sc xs i x v w es all lt e u f h =
-    let d : drop i xs ≡ x ∷ drop (suc i) xs = drop-cons xs i x lt ∙ ap (λ y. y ∷ drop (suc i) xs) (sym e) in
-    let g : typed ds place (ast_view x) sc w ≡ refused q = ap (λ y. typed ds place (ast_view x) sc y) (sym u) ∙ f in
-    let k = rw (d, g) at h in
-    sym k
-
--- from the first of those that are left on
-pub parts_begin : (ds : Declared) (place : Place) (sc : Scope) (xs : List Ast) (i : ℕ) (ws : List Ty)
-    → before_parts [] [] (typed_parts ds place (asts_from (map ast_view (drop i xs))) sc (tys_view (drop (i - i) ws))) ≡ typed_parts ds place (asts_from (map ast_view (drop i xs))) sc (tys_view ws)
-parts_begin ds place sc xs i ws = let z : i - i ≡ 0 = omega arith in rw z (nothing_before (typed_parts ds place (asts_from (map ast_view (drop i xs))) sc (tys_view ws)))
-  where
-    nothing_before : (c : Checked Parts) → before_parts [] [] c ≡ c
-    nothing_before (ok p) = refl
-    nothing_before (refused r) = refl

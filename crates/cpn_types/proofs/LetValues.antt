@@ -1,14 +1,14 @@
 -- The values of a `let`, one after another.
-use Rattle.std.proofs.Common.{◌≡◌, ℕ, ◌+◌, ◌<◌, ◌≤◌, List, [], ◌∷◌, ◌++◌, map, length, get_or, take, drop, min, None, refl, sym, ap, ◌∙◌, subst, string_bytes, arith, rules, add-one, drop-cons, Result, Ok, Err, Vec, Global}
+use Rattle.std.proofs.Common.{◌≡◌, ℕ, ◌+◌, ◌<◌, ◌≤◌, List, [], ◌∷◌, ◌++◌, map, length, get_or, take, drop, min, None, refl, sym, ap, ◌∙◌, subst, string_bytes, arith, add-one, drop-cons, Result, Ok, Err, Vec, Global}
 use Rattle.std.specs.Result.{IsErrAnd}
-use Rattle.std.proofs.Math.ListN.{drop_of_length-le}
 use Rattle.std.proofs.lemmas.List.{map-append, length-take, take-append-le}
 use Rattle.cpn_definitions.specs.Inscription.{PlainExpr, ArcInscription, bound}
 use Rattle.cpn_core.specs.declared.inscriptions.Expr.{Expr}
 use Rattle.cpn_core.specs.Inscriptions.{expr_view}
 use Rattle.cpn_trees.specs.Trees.{PlainAst}
 use Rattle.cpn_trees.specs.AstViews.{ast_view, local_view, locals_from}
-use Rattle.cpn_trees.specs.declared.trees.LocalValue.{LocalValue, the_lemmas}
+use Rattle.cpn_trees.specs.declared.trees.LocalValue.{LocalValue}
+use Rattle.cpn_trees.proofs.FormViews.{view_local}
 use Rattle.cpn_typing.specs.Names.{Name, Scope, local_of, Refusal, Checked, ok, refused, ◌>>=◌}
 use Rattle.cpn_typing.specs.Rules.{Typed}
 use Rattle.cpn_typing.specs.Multisets.{Site, marked_let}
@@ -21,16 +21,9 @@ use Rattle.cpn_forms.specs.declared.scopes.Local.{Local as Here}
 use Rattle.cpn_declared.specs.declared.refusals.TypeError.{TypeError}
 use Rattle.cpn_types.specs.Sites.{value_at, all_bound, LetAnswers}
 
-pub view_local : (v : LocalValue) → local_view v ≡ (string_bytes v.name, ast_view v.value)
-view_local v = search (rules, the_lemmas)
-
 -- around what is checked in the inner scope
 abbrev pub around : List PlainExpr → Checked ArcInscription → Checked ArcInscription
 around es c = c >>= λ m. ok (all_bound es m)
-
-pub around_nothing : (c : Checked ArcInscription) → around [] c ≡ c
-around_nothing (ok m) = refl
-around_nothing (refused r) = refl
 
 one_more : (es : List PlainExpr) (e : PlainExpr) (m : ArcInscription) → all_bound (es ++ e ∷ []) m ≡ all_bound es (bound e m)
 one_more [] e m = refl
@@ -74,10 +67,6 @@ no_value g vs i v sc r es body whole lt at is before =
     before
     ∙ ap (λ ls. around es (marked_let g (locals_from ls) sc body)) (from_place vs i v lt at)
     ∙ value_stops g (string_bytes v.name) (ast_view v.value) (map local_view (drop (i + 1) vs)) sc r es body is
-
-pub last_value : (g : Site) (vs : List LocalValue) (i : ℕ) (sc : Scope) (es : List PlainExpr) (body : Scope → Checked ArcInscription) (whole : Checked ArcInscription)
-    → length vs ≤ i → whole ≡ around es (marked_let g (locals_from (map local_view (drop i vs))) sc body) → whole ≡ around es (body sc)
-last_value g vs i sc es body whole le before = before ∙ ap (λ ls. around es (marked_let g (locals_from (map local_view ls)) sc body)) (drop_of_length-le vs le)
 
 -- ---- answers
 

@@ -1,15 +1,15 @@
-pub mod ArmFronts
-pub mod CallFronts
-pub mod Conjuncts
-pub mod FoldRules
-pub mod FormRules
-pub mod FormViews
-pub mod Fronts
-pub mod LetValues
-pub mod MarkedForms
-pub mod MarkedParts
-pub mod PlainTypes
-pub mod ScopeTypes
-pub mod TokenMeanings
-pub mod ValueFronts
-pub mod ValueMeanings
+mod ArmFronts
+mod CallFronts
+mod Conjuncts
+mod FoldRules
+mod FormRules
+mod FormViews
+mod Fronts
+mod LetValues
+mod MarkedForms
+mod MarkedParts
+mod PlainTypes
+mod ScopeTypes
+mod TokenMeanings
+mod ValueFronts
+mod ValueMeanings

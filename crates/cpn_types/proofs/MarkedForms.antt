@@ -8,15 +8,13 @@ use Rattle.cpn_trees.specs.declared.trees.Form.{the_lemmas}
 use Rattle.cpn_trees.specs.declared.trees.Form.TheVariants as form
 use Rattle.cpn_trees.specs.Trees.{ast, infixed}
 use Rattle.cpn_trees.specs.AstViews.{ast_view, form_view}
+use Rattle.cpn_trees.proofs.FormViews.{view_infix}
 use Rattle.cpn_typing.specs.Names.{Scope}
 use Rattle.cpn_typing.specs.Multisets.{Site, marked}
 use Rattle.cpn_types.specs.Sites.{is_times, many_tokens}
 
 view_tree : (a : Ast) → ast_view a ≡ ast a.at (form_view a.form)
 view_tree a = search (rules, tree.the_lemmas)
-
-view_infix : (o : Infix) (s : ℕ) (a b : Box Ast Global) → form_view (form.Infix o s a b) ≡ infixed o s (ast_view a.value) (ast_view b.value)
-view_infix o s a b = search (rules, the_lemmas)
 
 times_alone : (o : Infix) → is_times o ≡ true → o ≡ sign.Times
 times_alone sign.Times h = refl

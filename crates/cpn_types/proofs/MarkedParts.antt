@@ -1,12 +1,13 @@
 -- The parts of a sum, and the arms of a `case` over tokens, one after another.
-use Rattle.std.proofs.Common.{◌≡◌, ℕ, ◌+◌, ◌<◌, ◌≤◌, List, [], ◌∷◌, ◌++◌, map, length, get_or, drop, refl, sym, ap, ◌∙◌, rules, add-one, drop-cons}
+use Rattle.std.proofs.Common.{◌≡◌, ℕ, ◌+◌, ◌<◌, ◌≤◌, List, [], ◌∷◌, ◌++◌, map, length, get_or, drop, refl, sym, ap, ◌∙◌, add-one, drop-cons}
 use Rattle.std.proofs.Math.ListN.{drop_of_length-le}
 use Rattle.cpn_definitions.specs.Inscription.{PlainPattern, ArcInscription, ArcInscriptions, no_inscriptions, more_inscriptions, inscriptions_from, ArcArms, no_arc_arms, more_arc_arms, arc_arms_from}
 use Rattle.cpn_trees.specs.Trees.{PlainAst, PlainPat, asts_from}
 use Rattle.cpn_trees.specs.PatViews.{pat_view}
 use Rattle.cpn_trees.specs.AstViews.{ast_view, arm_view, arms_from}
 use Rattle.cpn_trees.specs.declared.trees.Ast.{Ast}
-use Rattle.cpn_trees.specs.declared.trees.Arm.{Arm, the_lemmas}
+use Rattle.cpn_trees.specs.declared.trees.Arm.{Arm}
+use Rattle.cpn_trees.proofs.FormViews.{view_arm}
 use Rattle.cpn_typing.specs.Types.{PlainTy}
 use Rattle.cpn_typing.specs.Names.{Scope, Refusal, Checked, ok, refused, ◌>>=◌}
 use Rattle.cpn_typing.specs.PatternRules.{BoundPattern, typed_pattern}
@@ -22,10 +23,6 @@ ahead_of (m ∷ ms) ns = more_inscriptions m (ahead_of ms ns)
 abbrev pub with_front : List ArcInscription → Checked ArcInscriptions → Checked ArcInscriptions
 with_front ms (ok ns) = ok (ahead_of ms ns)
 with_front ms (refused r) = refused r
-
-pub no_front : (c : Checked ArcInscriptions) → with_front [] c ≡ c
-no_front (ok ns) = refl
-no_front (refused r) = refl
 
 one_more : (ms : List ArcInscription) (m : ArcInscription) (ns : ArcInscriptions) → ahead_of (ms ++ m ∷ []) ns ≡ ahead_of ms (more_inscriptions m ns)
 one_more [] m ns = refl
@@ -54,22 +51,11 @@ next_part g ts i t sc ms more m whole lt at is more_is before =
     ∙ front_more ms m (marked_each g (asts_from (map ast_view (drop (i + 1) ts))) sc)
     ∙ ap (λ xs. with_front xs (marked_each g (asts_from (map ast_view (drop (i + 1) ts))) sc)) (sym more_is)
 
-pub no_part : (g : Site) (ts : List Ast) (i : ℕ) (t : Ast) (sc : Scope) (ms : List ArcInscription) (r : Refusal) (whole : Checked ArcInscriptions)
-    → i < length ts → t ≡ get_or ts i t → marked g (ast_view t) sc ≡ refused r
-    → whole ≡ with_front ms (marked_each g (asts_from (map ast_view (drop i ts))) sc) → whole ≡ refused r
-no_part g ts i t sc ms r whole lt at is before =
-    before
-    ∙ ap (λ xs. with_front ms (marked_each g (asts_from xs) sc)) (from_place ts i t lt at)
-    ∙ ap (λ c. with_front ms (c >>= λ first. marked_each g (asts_from (map ast_view (drop (i + 1) ts))) sc >>= λ rest. ok (more_inscriptions first rest))) is
-
 pub last_part : (g : Site) (ts : List Ast) (i : ℕ) (sc : Scope) (ms : List ArcInscription) (whole : Checked ArcInscriptions)
     → length ts ≤ i → whole ≡ with_front ms (marked_each g (asts_from (map ast_view (drop i ts))) sc) → whole ≡ ok (inscriptions_from ms)
 last_part g ts i sc ms whole le before = before ∙ ap (λ xs. with_front ms (marked_each g (asts_from (map ast_view xs)) sc)) (drop_of_length-le ts le) ∙ ap ok (front_alone ms)
 
 -- ---- the arms of a `case`
-
-pub view_arm : (arm : Arm) → arm_view arm ≡ (pat_view arm.pattern, ast_view arm.result)
-view_arm arm = search (rules, the_lemmas)
 
 abbrev pub arms_ahead_of : List (PlainPattern × ArcInscription) → ArcArms → ArcArms
 arms_ahead_of [] rest = rest
@@ -78,10 +64,6 @@ arms_ahead_of (a ∷ made) rest = more_arc_arms a.0 a.1 (arms_ahead_of made rest
 abbrev pub with_arms : List (PlainPattern × ArcInscription) → Checked ArcArms → Checked ArcArms
 with_arms made (ok rest) = ok (arms_ahead_of made rest)
 with_arms made (refused r) = refused r
-
-pub no_arms : (c : Checked ArcArms) → with_arms [] c ≡ c
-no_arms (ok rest) = refl
-no_arms (refused r) = refl
 
 one_arm_more : (made : List (PlainPattern × ArcInscription)) (a : PlainPattern × ArcInscription) (rest : ArcArms) → arms_ahead_of (made ++ a ∷ []) rest ≡ arms_ahead_of made (more_arc_arms a.0 a.1 rest)
 one_arm_more [] a rest = refl

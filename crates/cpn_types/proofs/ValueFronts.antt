@@ -1,10 +1,12 @@
 -- The values of a `let` that are checked already, around what the rules say of the rest.
-use Rattle.std.proofs.Common.{◌≡◌, ℕ, suc, ◌+◌, ◌<◌, ◌≤◌, drop_of_length-le, List, [], ◌∷◌, ◌++◌, length, get_or, drop, map, refl, sym, ap, ◌∙◌, add-one, length-append, arith, rules, take, Bor, string_bytes, drop-cons, Option, Some, None}
+use Rattle.std.proofs.Common.{◌≡◌, ℕ, suc, ◌+◌, ◌<◌, ◌≤◌, List, [], ◌∷◌, ◌++◌, length, get_or, drop, map, refl, sym, ap, ◌∙◌, add-one, length-append, arith, rules, take, Bor, string_bytes, drop-cons, None}
 use Rattle.std.proofs.lemmas.List.{take-append-le}
 use Rattle.cpn_trees.specs.AstViews.{locals_from, local_view, ast_view}
 use Rattle.cpn_trees.specs.declared.trees.LocalValue.{LocalValue}
 use Rattle.cpn_trees.specs.declared.trees.LocalValue as local_value
+use Rattle.cpn_trees.proofs.FormViews.{view_local}
 use Rattle.cpn_definitions.specs.Inscription.{PlainExpr, bind}
+use Rattle.cpn_definitions.proofs.ListItems.{map_more}
 use Rattle.cpn_core.specs.Inscriptions.{expr_view}
 use Rattle.cpn_core.specs.declared.inscriptions.Expr.{Expr}
 use Rattle.cpn_forms.specs.declared.scopes.Local.{Local}
@@ -12,11 +14,10 @@ use Rattle.cpn_forms.specs.declared.typed.Typed as program
 use Rattle.cpn_forms.specs.ScopeViews.{scope_view}
 use Rattle.cpn_forms.specs.TypedViews.{typed_view}
 use Rattle.cpn_declared.specs.TypeViews.{ty_view}
-use Rattle.cpn_typing.specs.Names.{Declared, Scope, local_of, Refusal, Checked, ok, refused, ◌>>=◌}
+use Rattle.cpn_typing.specs.Names.{Declared, Scope, local_of, Checked, ok, refused, ◌>>=◌}
 use Rattle.cpn_typing.specs.Places.{Place}
 use Rattle.cpn_typing.specs.Rules.{Typed}
 use Rattle.cpn_typing.specs.Expressions.{typed, typed_let}
-use Rattle.cpn_typing.specs.Answers.{Refuses}
 use Rattle.cpn_typing.specs.Bindings.{bind_all}
 use Rattle.cpn_typing.proofs.Bindings.{bind_more}
 
@@ -38,32 +39,6 @@ value_step ds place now next values i x es es2 r body all lt e f y n h =
     let k = rw (d, f) at h in
     rw (add-one i, y, n) (value_in_front es r (typed_let ds place (locals_from (map local_view (drop (suc i) values))) (now ++ local_of (local_view x).0 r.type_of ∷ []) body) ∙ k)
 
-pub value_refused : (q : Option Refusal) (ds : Declared) (place : Place) (now : Scope) (values : List LocalValue) (i : ℕ) (x : LocalValue) (es : List PlainExpr) (body : Scope → Checked Typed) (all : Checked Typed)
-    → i < length values → x ≡ get_or values i x → Refuses q (typed ds place (local_view x).1 now None)
-    → around_rest es (typed_let ds place (locals_from (map local_view (drop i values))) now body) ≡ all → Refuses q all
-value_refused None ds place now values i x es body all lt e f h = tt
-value_refused (Some q) ds place now values i x es body all lt e f h =
-    let d : drop i values ≡ x ∷ drop (suc i) values = drop-cons values i x lt ∙ ap (λ z. z ∷ drop (suc i) values) (sym e) in
-    let k = rw (d, f) at h in
-    sym k
-
--- where no value is left, the body is what is around
-pub values_done : (ds : Declared) (place : Place) (now : Scope) (values : List LocalValue) (i : ℕ) (body : Scope → Checked Typed) → length values ≤ i → typed_let ds place (locals_from (map local_view (drop i values))) now body ≡ body now
-values_done ds place now values i body le =
-    let d : drop i values ≡ [] = drop_of_length-le values le in
-    rw d refl
-
-pub body_refused : (q : Option Refusal) (es : List PlainExpr) (c : Checked Typed) → Refuses q c → Refuses q (around_rest es c)
-body_refused None es c h = tt
-body_refused (Some q) es c h = ap (around_rest es) h
-
-map_more : {A B : Type 0} (f : A → B) (xs : List A) (x : A) → map f (xs ++ x ∷ []) ≡ map f xs ++ f x ∷ []
-map_more f [] x = refl
-map_more f (y ∷ xs) x = ap (λ ys. f y ∷ ys) (map_more f xs x)
-
-local_value_is : (x : LocalValue) → local_view x ≡ (string_bytes x.name, ast_view x.value)
-local_value_is x = search (rules, local_value.the_lemmas)
-
 -- one more value, which those behind it see
 pub values_step : (ds : Declared) (place : Place) (now now2 next : List Local) (values : List LocalValue) (i : ℕ) (x : LocalValue) (es es2 : List Expr) (r : program.Typed) (name : Bor (List ℕ)) (body : Scope → Checked Typed) (all : Checked Typed)
     → i < length values → x ≡ get_or values i x → typed ds place (ast_view x.value) (scope_view now) None ≡ ok (typed_view r)
@@ -72,10 +47,10 @@ pub values_step : (ds : Declared) (place : Place) (now now2 next : List Local) (
     → around_rest (map expr_view es2) (typed_let ds place (locals_from (map local_view (drop (i + 1) values))) (scope_view next) body) ≡ all
 values_step ds place now now2 next values i x es es2 r name body all lt e f y m n s h =
     value_step ds place (scope_view now) (scope_view next) values i x (map expr_view es) (map expr_view es2) (typed_view r) body all lt e
-    (ap (λ p. typed ds place p.1 (scope_view now) None) (local_value_is x) ∙ f)
+    (ap (λ p. typed ds place p.1 (scope_view now) None) (view_local x) ∙ f)
     (ap (map expr_view) y ∙ map_more expr_view es r.expr)
     (ap scope_view n ∙ ap (λ l. scope_view (l ++ record { name = name; ty = r.ty } ∷ [])) m ∙ map_more _ now (record { name = name; ty = r.ty })
-    ∙ ap (λ p. scope_view now ++ local_of p (ty_view r.ty) ∷ []) (s ∙ ap (λ p. p.0) (sym (local_value_is x))))
+    ∙ ap (λ p. scope_view now ++ local_of p (ty_view r.ty) ∷ []) (s ∙ ap (λ p. p.0) (sym (view_local x))))
     h
 
 pub take_front : {A : Type 0} (n : ℕ) (xs ys zs ws : List A) (x : A) → n ≤ length xs → ys ≡ xs → zs ≡ ys ++ x ∷ [] → take n xs ≡ ws → take n zs ≡ ws

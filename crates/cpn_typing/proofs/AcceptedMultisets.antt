@@ -6,6 +6,7 @@ use Rattle.cpn_definitions.specs.Outcome.{HasMeaning}
 use Rattle.cpn_definitions.specs.Inscription.{ArcInscription, one, later, stamped, ArcInscriptions, ArcArms}
 use Rattle.cpn_definitions.specs.Bindable.{variables_of}
 use Rattle.cpn_definitions.specs.Terms.{terms_behind}
+use Rattle.cpn_definitions.proofs.RisingLists.{each_appended}
 use Rattle.cpn_trees.specs.declared.operators.Infix.TheVariants as sign
 use Rattle.cpn_trees.specs.Trees.{PlainAst, ast, PlainForm, empty, let_in, infixed, sum, if_else, case_of, PlainAsts, no_ast, more_asts, PlainArms, no_arm, more_arms, PlainLocals, no_local, more_locals}
 use Rattle.cpn_trees.specs.Trees as tree
@@ -18,7 +19,7 @@ use Rattle.cpn_typing.specs.Expressions.{typed}
 use Rattle.cpn_typing.specs.Law.{World, AreBound, IsReadable, IsWanted}
 use Rattle.cpn_typing.specs.Multisets.{Side, input, output, initial, inside, Site, delay_rule, stamp_rule, marked, marked_form, marked_each, marked_arms, marked_let, checked_arc, checked_init, site_of}
 use Rattle.cpn_typing.specs.InscriptionVariables.{inscription_variables, each_variables, arms_variables}
-use Rattle.cpn_typing.proofs.Outcomes.{Accepts, accepts_then, accepts_at, all_both}
+use Rattle.cpn_typing.proofs.Outcomes.{Accepts, accepts_then, accepts_at}
 use Rattle.cpn_typing.proofs.PatternsFit.{PatternFits, pattern_fits}
 use Rattle.cpn_typing.proofs.TermsOfForms.{Valued, there_is_meaning, Marked, one_means, times_means, later_means, stamped_means, chosen_means, bound_means, EachMarked, more_mean, ArmsMarked, more_arms_mean, selected_means}
 use Rattle.cpn_typing.proofs.RulesKept.{Sound}
@@ -58,7 +59,7 @@ record ArmsAreMarked (g : World) (side : Side) (sc : Scope) (t : PlainTy) (arms 
   have_terms : ArmsMarked g sc t arms
 
 both_readable : (g : World) (side : Side) (xs ys : List ℕ) → Readable g side xs → Readable g side ys → Readable g side (xs ++ ys)
-both_readable g side xs ys h k = all_both (IsReadable g.declared (inside side)) xs ys h k
+both_readable g side xs ys h k = each_appended (IsReadable g.declared (inside side)) xs ys h k
 
 -- an inscription of a wanted type
 at_wanted : (g : World) (side : Side) (sc : Scope) (t : PlainTy) (r : Typed) → IsAccepted g (inside side) sc (Some t) r → Valued g sc r.expr t

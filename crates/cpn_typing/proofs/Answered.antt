@@ -1,7 +1,7 @@
 -- Answers that are passed on.
-use Rattle.std.proofs.Common.{◌≡◌, ◌∙◌, Option, Some, None, Result, Ok, Err, sym, subst}
+use Rattle.std.proofs.Common.{◌≡◌, Option, Some, None, Result, Ok, Err, sym, subst}
 use Rattle.std.specs.Result.{IsErrAnd}
-use Rattle.cpn_typing.specs.Names.{Refusal, Checked, ok, refused}
+use Rattle.cpn_typing.specs.Names.{Refusal, Checked, refused}
 use Rattle.cpn_typing.specs.Answers.{Refuses, AnswersWith}
 
 -- an error that is passed on refuses what it refused
@@ -13,8 +13,3 @@ answers_on refusal_of view (Err y) e c h refuses = subst (λ z. Refuses (refusal
 pub refuses_through : {A B : Type 0} (o : Option Refusal) (part : Checked A) (whole : Checked B) → ((r : Refusal) → part ≡ refused r → whole ≡ refused r) → Refuses o part → Refuses o whole
 refuses_through None part whole through h = tt
 refuses_through (Some r) part whole through h = through r h
-
--- what is accepted has no refusal, so its error is want of memory
-pub only_memory : {A B : Type 0} (o : Option Refusal) (part : Checked A) (x : A) (whole : Checked B) → part ≡ ok x → Refuses o part → Refuses o whole
-only_memory None part x whole is h = tt
-only_memory (Some r) part x whole is h = let no : ok x ≡ refused r = sym is ∙ h in cc

@@ -3,15 +3,13 @@ use Rattle.std.proofs.Common.{◌≡◌, ℕ, ◌<◌, ◌≤◌, ◌∙◌, Boo
 use Rattle.std.specs.List.{AllByRecursion}
 use Rattle.cpn_definitions.specs.Net.{PlainTransition, PlainNet, variable_at}
 use Rattle.cpn_definitions.specs.Bindable.{IsBindable}
+use Rattle.cpn_definitions.proofs.ListItems.{head_of}
 use Rattle.cpn_typing.specs.Names.{too_many, variables, not_bindable, Checked, refused}
 use Rattle.cpn_typing.specs.BindableRule.{most_variables, IsFirstNotBindable, FirstIs, IsBindableAnswer, too_many_are_there, one_is_not, all_are}
 use Rattle.cpn_typing.specs.Closure.{is_found, first_unfound, answer_for, answered}
 use Rattle.cpn_typing.proofs.LeastBindable.{IsFirst, found_is_bindable}
 
 -- ---- there is one answer
-
-head_of : {X : Type 0} (x y : X) (xs ys : List X) → x ∷ xs ≡ y ∷ ys → x ≡ y
-head_of x y xs ys e = cc
 
 tail_of : {X : Type 0} (x y : X) (xs ys : List X) → x ∷ xs ≡ y ∷ ys → xs ≡ ys
 tail_of x y xs ys e = cc

@@ -1,15 +1,11 @@
 -- What a colour set admits has the colour set's type.
-use Rattle.std.proofs.Common.{◌≡◌, ◌&&◌, ℕ, zero, suc, ◌<◌, Bool, true, false, Option, Some, None, refl, sym, subst}
-use Rattle.std.proofs.lemmas.Bool.{ltb-true}
+use Rattle.std.proofs.Common.{◌≡◌, ℕ, zero, suc, ◌<◌, true, Option, Some, None, refl, sym, subst}
+use Rattle.std.proofs.lemmas.Bool.{ltb-true, and_parts}
 use Rattle.cpn_definitions.specs.Value.{PlainValue, PlainValues, none, more}
 use Rattle.cpn_definitions.specs.Value as value
 use Rattle.cpn_definitions.specs.Colour.{PlainShape, PlainShapes, Constructors, PlainColour, unit_shape, boolean_shape, int_shape, text_shape, constant_shape, tuple_shape, union_shape, list_shape, no_shapes, more_shapes, no_constructors, without, taking, constructor_at, is_bare, takes, has_shape, have_shapes, all_have_shape, admits}
 use Rattle.cpn_typing.specs.Types.{union, type_of_shape, types_of_shapes}
 use Rattle.cpn_typing.specs.TypedValues.{Sets, HasType, of_unit, of_bool, of_int, of_text, of_constant, of_tuple, of_bare, of_applied, of_list, HaveTypes, of_none, of_more, AllHave, all_none, all_more, argument_types, HasSetsOf, HasSetsOfEach, HasSetsOfArguments}
-
-both : (a b : Bool) → (a && b) ≡ true → (a ≡ true) × (b ≡ true)
-both true b e = (refl, e)
-both false b e = absurd (cc)
 
 -- the sets of the argument of a constructor
 argument_sets : (sets : Sets) (cs : Constructors) (k : ℕ) (s : PlainShape) → HasSetsOfArguments sets cs → constructor_at cs k ≡ Some (Some s) → HasSetsOf sets s
@@ -46,14 +42,14 @@ mutual
   shapes_types : (sets : Sets) (vs : PlainValues) (ss : PlainShapes) → HasSetsOfEach sets ss → have_shapes vs ss ≡ true → HaveTypes sets vs (types_of_shapes ss)
   shapes_types sets none no_shapes h e = of_none
   shapes_types sets (more v vs) (more_shapes s ss) h e =
-      let p = both (has_shape v s) (have_shapes vs ss) e in
+      let p = and_parts (has_shape v s) (have_shapes vs ss) e in
       of_more v vs (type_of_shape s) (types_of_shapes ss) (shape_type sets v s h.0 p.0) (shapes_types sets vs ss h.1 p.1)
   shapes_types sets vs ss h e = absurd (cc)
 
   items_type : (sets : Sets) (vs : PlainValues) (s : PlainShape) → HasSetsOf sets s → all_have_shape vs s ≡ true → AllHave sets vs (type_of_shape s)
   items_type sets none s h e = all_none (type_of_shape s)
   items_type sets (more v vs) s h e =
-      let p = both (has_shape v s) (all_have_shape vs s) e in
+      let p = and_parts (has_shape v s) (all_have_shape vs s) e in
       all_more v vs (type_of_shape s) (shape_type sets v s h p.0) (items_type sets vs s h p.1)
 
 -- A value that a colour set admits is one of its type, where the sets are those that the colour set speaks of.

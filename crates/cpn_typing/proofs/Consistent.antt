@@ -1,5 +1,7 @@
 -- What is declared holds together: each declaration that is accepted keeps this.
 use Rattle.std.proofs.Common.{◌≡◌, ◌⊎◌, ℕ, zero, suc, ◌+◌, ◌<◌, ◌∙◌, Bool, List, [], ◌∷◌, ◌++◌, length, map, slice_get, slice_index_or, append_assoc, Option, Some, None, refl, sym, ap, subst, inl, inr, ⊎_elim, arith}
+use Rattle.std.proofs.lemmas.List.{length-map}
+use Rattle.std.proofs.Math.Nat.{zero-add}
 use Rattle.cpn_definitions.specs.Colour.{PlainColour}
 use Rattle.cpn_definitions.specs.Inscription.{PlainFunction, Functions}
 use Rattle.cpn_definitions.specs.Meaning.{PlainBinding}
@@ -15,7 +17,7 @@ use Rattle.cpn_typing.specs.TypedValues.{Sets, HasSetsOf}
 use Rattle.cpn_typing.specs.Law.{IsKeptBelow, AreKeptBelow}
 use Rattle.cpn_typing.specs.ColourSets.{with_new, with_all_new, colour_names, other_names, Shaped, limited, shape_of_body, with_colour}
 use Rattle.cpn_typing.specs.Declarations.{colour_of, coloured_as, variables_from, with_variables, scope_of, type_named, with_function, with_new_name, declared_form, declared, all_declared}
-use Rattle.cpn_typing.specs.Consistency.{HasSets, ColoursOf, variable_numbered, IsNumbered, IsConsistent}
+use Rattle.cpn_typing.specs.Consistency.{HasSets, IsNumbered, IsConsistent}
 use Rattle.cpn_typing.proofs.Outcomes.{accepts_at}
 use Rattle.cpn_typing.proofs.NamesDeclared.{length_more, index_before, get_at, among_more, colour_more, colour_alone, meant_alone, IsVariable, variable_is}
 use Rattle.cpn_typing.proofs.SetsDeclared.{fewer_sets, sets_of_lists, their_own, IsOfSets, IsShapeOf, body_has}
@@ -77,18 +79,12 @@ colour_consistent ds n timed new good brings none = record {
 -- ---- variables
 
 index_behind : {X : Type 0} (xs ys : List X) (j : ℕ) (d : X) → slice_index_or (xs ++ ys) (length xs + j) d ≡ slice_index_or ys j d
-index_behind [] ys j d = ap (λ k. slice_index_or ys k d) (from_zero j)
+index_behind [] ys j d = ap (λ k. slice_index_or ys k d) (zero-add j)
   where
-    from_zero : (k : ℕ) → 0 + k ≡ k
-    from_zero k = omega arith
 index_behind (x ∷ xs) ys j d = ap (λ k. slice_index_or (x ∷ (xs ++ ys)) k d) (one_more (length xs) j) ∙ index_behind xs ys j d
   where
     one_more : (a k : ℕ) → suc a + k ≡ suc (a + k)
     one_more a k = omega arith
-
-length_mapped : {X Y : Type 0} (f : X → Y) (xs : List X) → length (map f xs) ≡ length xs
-length_mapped f [] = refl
-length_mapped f (x ∷ xs) = ap suc (length_mapped f xs)
 
 coloured_there : (colour : PlainColour) (ns : List Name) (j : ℕ) → j < length ns → (slice_index_or (map (coloured_as colour) ns) j nothing).colour ≡ colour
 coloured_there colour [] j lt = absurd (omega arith)
@@ -112,7 +108,7 @@ variables_consistent ds ns colour good has = record {
       (λ g. subst (λ k. HasSetsOf sets (slice_index_or (ds.variables ++ new) k nothing).colour.shape) g.2
       (subst (λ v. HasSetsOf sets v.colour.shape) (sym (index_behind ds.variables new g.0 nothing))
       (subst (λ c. HasSetsOf sets c.shape) (sym (coloured_there colour ns g.0 g.1)) (has sets h))))
-      (where_it_is (length ds.variables) (length ns) x (subst (λ k. x < k) (length_more ds.variables new ∙ ap (λ k. length ds.variables + k) (length_mapped (coloured_as colour) ns)) lt));
+      (where_it_is (length ds.variables) (length ns) x (subst (λ k. x < k) (length_more ds.variables new ∙ ap (λ k. length ds.variables + k) (length-map ns (coloured_as colour))) lt));
   numbered = λ m x t e. ⊎_elim (λ g. earlier x t (good.numbered m x t g)) (λ g. new_one x t (variable_is m (a_variable x t) (length ds.variables) (type_of_shape colour.shape) ns g))
       (among_more m (a_variable x t) ds.names (variables_from (length ds.variables) (type_of_shape colour.shape) ns) e);
   kept = λ sets funs more b time h is m k e. ⊎_elim (λ g. good.kept sets funs more b time h is m k g)
@@ -150,7 +146,7 @@ variables_consistent ds ns colour good has = record {
     new_one : (x : ℕ) (t : PlainTy) → IsVariable (length ds.variables) (type_of_shape colour.shape) ns (a_variable x t) → IsNumbered (ds.variables ++ map (coloured_as colour) ns) x t
     new_one x t h = record {
       is_below = inside x (length ds.variables) (length ns) (length (ds.variables ++ map (coloured_as colour) ns)) h.position
-          (length_more ds.variables (map (coloured_as colour) ns) ∙ ap (λ k. length ds.variables + k) (length_mapped (coloured_as colour) ns)) h.is_there (ap number_of h.is);
+          (length_more ds.variables (map (coloured_as colour) ns) ∙ ap (λ k. length ds.variables + k) (length-map ns (coloured_as colour))) h.is_there (ap number_of h.is);
       type_is = sym (ap type_of_variable h.is)
           ∙ ap (λ c. type_of_shape c.shape) (sym (coloured_there colour ns h.position h.is_there))
           ∙ ap (λ v. type_of_shape v.colour.shape) (sym (index_behind ds.variables (map (coloured_as colour) ns) h.position nothing))

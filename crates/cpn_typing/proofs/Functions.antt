@@ -8,6 +8,7 @@ use Rattle.cpn_definitions.specs.Outcome.{no_meaning}
 use Rattle.cpn_definitions.specs.Inscription.{PlainFunction, Functions}
 use Rattle.cpn_definitions.specs.Meaning.{PlainBinding, meant, called, calls_below, setting_below}
 use Rattle.cpn_definitions.specs.Bindable.{variables_of}
+use Rattle.cpn_definitions.proofs.RisingLists.{each_implied}
 use Rattle.cpn_trees.specs.Trees.{PlainAst}
 use Rattle.cpn_typing.specs.Types.{PlainTy}
 use Rattle.cpn_typing.specs.Names.{Name, Meant, a_variable, a_constant, a_constructor, a_function, NamedMeaning, Declared, meant_among, Scope, types_of_scope, ok}
@@ -16,7 +17,6 @@ use Rattle.cpn_typing.specs.Rules.{Typed}
 use Rattle.cpn_typing.specs.Expressions.{typed}
 use Rattle.cpn_typing.specs.TypedValues.{Sets, of_more}
 use Rattle.cpn_typing.specs.Law.{Fits, IsKept, AreKept, World, IsBound, IsReadable, IsKeptBelow, AreKeptBelow, NextCallMeans}
-use Rattle.cpn_typing.proofs.Outcomes.{all_so}
 use Rattle.cpn_typing.proofs.Operands.{Gives, AreOperands}
 use Rattle.cpn_typing.proofs.RulesKept.{Sound}
 use Rattle.cpn_typing.proofs.Acceptance.{accepted}
@@ -52,7 +52,7 @@ as_many sets (l ∷ sc) (v ∷ vs) (of_more w ws t ts h k) = ap suc (as_many set
 
 -- in a closed text no variable is read
 pub closed_reads : (ds : Declared) (place : Place) (P : ℕ → Type 0) → is_closed place ≡ true → (xs : List ℕ) → AllByRecursion (IsReadable ds place) xs → AllByRecursion P xs
-closed_reads ds place P c xs h = all_so (IsReadable ds place) P (λ x r. absurd (let e : is_closed place ≡ false = r.0 in cc)) xs h
+closed_reads ds place P c xs h = each_implied (IsReadable ds place) P xs (λ x r. absurd (let e : is_closed place ≡ false = r.0 in cc)) h
 
 -- so there is none in it
 pub closed_has_no_variables : (ds : Declared) (place : Place) → is_closed place ≡ true → (xs : List ℕ) → AllByRecursion (IsReadable ds place) xs → xs ≡ []

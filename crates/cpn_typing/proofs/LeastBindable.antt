@@ -5,7 +5,7 @@ use Rattle.std.proofs.lemmas.Bool.{and_parts}
 use Rattle.cpn_definitions.specs.Inscription.{operation, equality, PlainExpr, variable, apply, no_exprs, more_exprs}
 use Rattle.cpn_definitions.specs.Net.{PlainTransition, PlainNet, variable_at}
 use Rattle.cpn_definitions.specs.Bindable.{variables_of, conjuncts_of, equation, IsInTerm, IsEquated, IsSmall, IsBindable, by_term, by_size, by_guard, AreBindable, no_more, and_more}
-use Rattle.cpn_definitions.proofs.RisingLists.{IsIn, in_from_contains, contains_from_in, in_append_right, in_append_cases, in_flat_map}
+use Rattle.cpn_definitions.proofs.RisingLists.{IsIn, in_from_contains, contains_from_in, in_append_right, in_append_cases, in_flat_map, in_flat_from}
 use Rattle.cpn_typing.specs.Closure.{Equation, equation_with, equations_of_part, equations_of, is_known, with_other, ready_among, stepped, found_in, is_found}
 
 -- ---- the first equation that is ready
@@ -111,10 +111,6 @@ closed (suc k) first found qs few = split (ready_among (is_known first found) qs
 
 -- ---- the equations of a guard
 
-pub in_flat : {X Y : Type 0} (f : X → List Y) (xs : List X) (y : Y) → IsIn y (flat_map f xs) → (x : X) × IsIn x xs × IsIn y (f x)
-in_flat f [] y h = absurd h
-in_flat f (x ∷ xs) y h = ⊎_elim (λ g. (x, inl refl, g)) (λ g. let rest = in_flat f xs y g in (rest.0, inr rest.1, rest.2)) (in_append_cases (f x) (flat_map f xs) y h)
-
 abbrev equation_for : ℕ → PlainExpr → Equation
 equation_for x e = record { target = x; sources = variables_of e }
 
@@ -158,8 +154,8 @@ of_part part q h = absurd h
 
 in_guard_from : (t : PlainTransition) (q : Equation) → IsIn q (equations_of t.guard) → IsFrom t q
 in_guard_from t q h =
-    let outer = in_flat (λ conjunct. flat_map equations_of_part (conjuncts_of conjunct)) t.guard q h in
-    let inner = in_flat equations_of_part (conjuncts_of outer.0) q outer.2 in
+    let outer = in_flat_from (λ conjunct. flat_map equations_of_part (conjuncts_of conjunct)) t.guard q h in
+    let inner = in_flat_from equations_of_part (conjuncts_of outer.0) q outer.2 in
     let part = of_part inner.0 q inner.2 in
     record {
       expr = part.expr;

@@ -1,35 +1,35 @@
-pub mod Outcomes
-pub mod SameTypes
-pub mod NamesKept
-pub mod PatternsFit
-pub mod Operands
-pub mod Meanings
-pub mod RulesKept
+mod Outcomes
+mod SameTypes
+mod NamesKept
+mod PatternsFit
+mod Operands
+mod Meanings
+mod RulesKept
 pub mod Acceptance
-pub mod ColourTypes
+mod ColourTypes
 pub mod Functions
 pub mod LeastBindable
 pub mod BindableAnswers
-pub mod TermsOfForms
-pub mod AcceptedMultisets
-pub mod BothSides
-pub mod NamesDeclared
-pub mod SetsDeclared
+mod TermsOfForms
+mod AcceptedMultisets
+mod BothSides
+mod NamesDeclared
+mod SetsDeclared
 pub mod Consistent
 pub mod MeaningsInNets
-pub mod DeclarationRows
-pub mod FunctionRows
-pub mod ArcRows
-pub mod WorkedNames
-pub mod EmptyListRows
-pub mod OperatorRows
-pub mod CaseRows
-pub mod NameRows
-pub mod PlaceRows
-pub mod BindableRows
+mod DeclarationRows
+mod FunctionRows
+mod ArcRows
+mod WorkedNames
+mod EmptyListRows
+mod OperatorRows
+mod CaseRows
+mod NameRows
+mod PlaceRows
+mod BindableRows
 pub mod MeaningfulTransitions
-pub mod LimitedColours
-pub mod FirstKnown
 pub mod Answered
 pub mod Bindings
 pub mod Grown
+mod AcceptedSides
+pub mod SolvableTransitions

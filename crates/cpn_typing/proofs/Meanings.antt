@@ -3,20 +3,21 @@ use Rattle.std.proofs.Common.{◌≡◌, ℕ, true, false, List, [], ◌∷◌, 
 use Rattle.std.specs.List.{AllByRecursion}
 use Rattle.cpn_definitions.specs.Value.{PlainValue, from_list}
 use Rattle.cpn_definitions.specs.Value as value
-use Rattle.cpn_definitions.specs.Outcome.{Outcome, gives, given}
+use Rattle.cpn_definitions.specs.Outcome.{Outcome, gives}
 use Rattle.cpn_definitions.specs.Outcome as outcome
 use Rattle.cpn_definitions.specs.Inscription.{Operation, Head, operation, tupling, listing, constructing, calling, PlainPattern, PlainExpr, apply, conjunction, disjunction, choose, select, bind, accumulate, PlainExprs, no_exprs, more_exprs, PlainArms, no_arms, more_arms}
 use Rattle.cpn_definitions.specs.Matching.{matched}
 use Rattle.cpn_definitions.specs.Operations.{truth_in, operated}
 use Rattle.cpn_definitions.specs.Meaning.{meant, meant_each, meant_among, done_with, with_first, arm_or, accumulated}
 use Rattle.cpn_definitions.specs.Bindable.{variables_of, variables_of_each, variables_of_arms}
+use Rattle.cpn_definitions.proofs.RisingLists.{each_appended}
 use Rattle.cpn_typing.specs.Types.{PlainTy, bool_type, union, tuples, lists, PlainTys, no_types, more_types}
 use Rattle.cpn_typing.specs.Names.{Name, Scope, local_of}
 use Rattle.cpn_typing.specs.Places.{Place}
 use Rattle.cpn_typing.specs.Rules.{two}
 use Rattle.cpn_typing.specs.TypedValues.{Sets, HasType, of_bool, of_tuple, of_bare, of_applied, of_none, of_more}
 use Rattle.cpn_typing.specs.Law.{Means, Fits, CallMeans, World, AreBound, IsBound, IsReadable}
-use Rattle.cpn_typing.proofs.Outcomes.{means_then, sized_means, chosen, all_front, all_back, all_both}
+use Rattle.cpn_typing.proofs.Outcomes.{means_then, sized_means, chosen, all_front, all_back}
 use Rattle.cpn_typing.proofs.NamesKept.{fits_more}
 use Rattle.cpn_typing.proofs.Operands.{Gives, AreOperands, AreItems, alone, pair_of, with_items, list_of_items}
 
@@ -42,7 +43,7 @@ bound_second : (g : World) (xs ys : List ℕ) → AreBound g (xs ++ ys) → AreB
 bound_second g xs ys h = all_back (IsBound g.sets g.declared.names g.setting.binding) xs ys h
 
 readable_both : (g : World) (place : Place) (xs ys : List ℕ) → AreReadable g place xs → AreReadable g place ys → AreReadable g place (xs ++ ys)
-readable_both g place xs ys h k = all_both (IsReadable g.declared place) xs ys h k
+readable_both g place xs ys h k = each_appended (IsReadable g.declared place) xs ys h k
 
 -- ---- parts
 

@@ -1,6 +1,7 @@
 -- What is so of names and colour sets that are declared one after another.
-use Rattle.std.proofs.Common.{◌≡◌, ◌⊎◌, ℕ, zero, suc, ◌+◌, ◌<◌, ◌∙◌, Bool, true, false, cond, List, [], ◌∷◌, ◌++◌, length, slice_get, slice_index_or, Option, Some, None, refl, ap, inl, inr, ⊎_elim, arith}
+use Rattle.std.proofs.Common.{◌≡◌, ◌⊎◌, ℕ, zero, suc, ◌+◌, ◌<◌, ◌∙◌, Bool, true, false, cond, List, [], ◌∷◌, ◌++◌, length, slice_get, slice_index_or, Option, Some, None, refl, ap, inl, inr, ⊎_elim, arith, add-zero}
 use Rattle.std.specs.Str.{bytes_eq}
+use Rattle.std.proofs.lemmas.Option.{same_Some}
 use Rattle.cpn_definitions.specs.Colour.{PlainColour}
 use Rattle.cpn_typing.specs.Types.{PlainTy}
 use Rattle.cpn_typing.specs.Names.{Name, Meant, a_variable, a_constant, a_constructor, NamedColour, NamedMeaning, NamedConstructor, meant_among, colour_among}
@@ -28,12 +29,9 @@ get_at (x ∷ xs) y ys = get_at xs y ys
 
 -- ---- names with more behind
 
-some_same : {X : Type 0} (x y : X) → Some x ≡ Some y → x ≡ y
-some_same x y e = cc
-
 -- where a test holds the first is there, else the other
 by_test : {X : Type 0} (b : Bool) (x m : X) (o : Option X) → cond b (Some x) o ≡ Some m → (x ≡ m) ⊎ (o ≡ Some m)
-by_test true x m o e = inl (some_same x m e)
+by_test true x m o e = inl (same_Some x m e)
 by_test false x m o e = inr e
 
 pub among_more : (n : Name) (m : Meant) (xs ys : List NamedMeaning) → meant_among n (xs ++ ys) ≡ Some m → (meant_among n xs ≡ Some m) ⊎ (meant_among n ys ≡ Some m)
@@ -59,14 +57,14 @@ pub colour_alone : (n : Name) (c : PlainColour) (x : NamedColour) → colour_amo
 colour_alone n c x e = split (bytes_eq n x.name) e
   where
     split : (b : Bool) → cond b (Some x.colour) None ≡ Some c → x.colour ≡ c
-    split true h = some_same x.colour c h
+    split true h = same_Some x.colour c h
     split false h = cc
 
 pub meant_alone : (n : Name) (m : Meant) (x : NamedMeaning) → meant_among n (x ∷ []) ≡ Some m → x.meant ≡ m
 meant_alone n m x e = split (bytes_eq n x.name) e
   where
     split : (b : Bool) → cond b (Some x.meant) None ≡ Some m → x.meant ≡ m
-    split true h = some_same x.meant m h
+    split true h = same_Some x.meant m h
     split false h = cc
 
 -- ---- constants, constructors, variables
@@ -81,14 +79,11 @@ pub constant_is : (n : Name) (m : Meant) (id first : ℕ) (ns : List Name) → m
 constant_is n m id first [] e = cc
 constant_is n m id first (c ∷ ns) e =
     ⊎_elim
-    (λ h. record { position = 0; is_there = omega arith; is = ap (a_constant id) (nothing_more first) ∙ h })
+    (λ h. record { position = 0; is_there = omega arith; is = ap (a_constant id) (add-zero first) ∙ h })
     (λ h. let rest = constant_is n m id (first + 1) ns h in
     record { position = suc rest.position; is_there = let lt = rest.is_there in omega arith; is = ap (a_constant id) (one_more first rest.position) ∙ rest.is })
     (by_test (bytes_eq n c) (a_constant id first) m (meant_among n (constants_from id (first + 1) ns)) e)
   where
-    nothing_more : (k : ℕ) → k + 0 ≡ k
-    nothing_more k = omega arith
-
     one_more : (k j : ℕ) → k + suc j ≡ (k + 1) + j
     one_more k j = omega arith
 
@@ -103,14 +98,11 @@ pub constructor_is : (n : Name) (m : Meant) (id first : ℕ) (cs : List NamedCon
 constructor_is n m id first [] e = cc
 constructor_is n m id first (c ∷ cs) e =
     ⊎_elim
-    (λ h. record { position = 0; constructor = c; is_there = refl; is = ap (λ k. a_constructor id k c.argument) (nothing_more first) ∙ h })
+    (λ h. record { position = 0; constructor = c; is_there = refl; is = ap (λ k. a_constructor id k c.argument) (add-zero first) ∙ h })
     (λ h. let rest = constructor_is n m id (first + 1) cs h in
     record { position = suc rest.position; constructor = rest.constructor; is_there = rest.is_there; is = ap (λ k. a_constructor id k rest.constructor.argument) (one_more first rest.position) ∙ rest.is })
     (by_test (bytes_eq n c.name) (a_constructor id first c.argument) m (meant_among n (constructors_from id (first + 1) cs)) e)
   where
-    nothing_more : (k : ℕ) → k + 0 ≡ k
-    nothing_more k = omega arith
-
     one_more : (k j : ℕ) → k + suc j ≡ (k + 1) + j
     one_more k j = omega arith
 
@@ -124,13 +116,10 @@ pub variable_is : (n : Name) (m : Meant) (first : ℕ) (t : PlainTy) (ns : List 
 variable_is n m first t [] e = cc
 variable_is n m first t (x ∷ ns) e =
     ⊎_elim
-    (λ h. record { position = 0; is_there = omega arith; is = ap (λ k. a_variable k t) (nothing_more first) ∙ h })
+    (λ h. record { position = 0; is_there = omega arith; is = ap (λ k. a_variable k t) (add-zero first) ∙ h })
     (λ h. let rest = variable_is n m (first + 1) t ns h in
     record { position = suc rest.position; is_there = let lt = rest.is_there in omega arith; is = ap (λ k. a_variable k t) (one_more first rest.position) ∙ rest.is })
     (by_test (bytes_eq n x) (a_variable first t) m (meant_among n (variables_from (first + 1) t ns)) e)
   where
-    nothing_more : (k : ℕ) → k + 0 ≡ k
-    nothing_more k = omega arith
-
     one_more : (k j : ℕ) → k + suc j ≡ (k + 1) + j
     one_more k j = omega arith

@@ -3,18 +3,19 @@ use Rattle.std.proofs.Common.{◌≡◌, ℕ, zero, suc, ℤ, pos, negsuc, ◌+�
 use Rattle.std.proofs.lemmas.List.{reverse-append}
 use Rattle.std.specs.List.{AllByRecursion, list_any}
 use Rattle.std.specs.declared.cmp.Ordering.{Ordering}
-use Rattle.cpn_definitions.specs.Value.{PlainValue, PlainValues, none, more, to_list, from_list}
+use Rattle.cpn_definitions.specs.Value.{PlainValue, PlainValues, to_list, from_list}
 use Rattle.cpn_definitions.specs.Value as value
 use Rattle.cpn_definitions.specs.Order.{same_value}
 use Rattle.cpn_definitions.specs.Outcome.{Outcome, gives, faults, overflow, given}
 use Rattle.cpn_definitions.specs.Outcome as outcome
 use Rattle.cpn_definitions.specs.Inscription.{addition, subtraction, multiplication, division, remainder, negation, concatenation, equality, inequality, complement, cons, appending, head, tail, list_length, reversal, membership, string_size, component}
 use Rattle.cpn_definitions.specs.Operations.{integer_in, truth_in, string_in, items_in, components_in, within, floor_div, floor_mod, divided, on_integers, compared, concatenated, consed, appended, head_in, tail_in, member_of, component_at, on_one, on_two, operated}
+use Rattle.cpn_definitions.proofs.RisingLists.{each_appended}
 use Rattle.cpn_typing.specs.Types.{PlainTy, bool_type, int_type, text_type, tuples, lists, PlainTys, no_types, more_types, type_at}
 use Rattle.cpn_typing.specs.Rules.{part_of, part_number}
 use Rattle.cpn_typing.specs.TypedValues.{Sets, HasType, of_bool, of_int, of_text, of_tuple, of_list, HaveTypes, of_none, of_more, AllHave, all_none, all_more}
 use Rattle.cpn_typing.specs.Law.{Means}
-use Rattle.cpn_typing.proofs.Outcomes.{chosen, sized_means, all_both}
+use Rattle.cpn_typing.proofs.Outcomes.{chosen, sized_means}
 
 -- a value of the type, or a fault
 abbrev pub Gives : Sets → PlainTy → Outcome PlainValue → Type 0
@@ -54,7 +55,7 @@ with_items sets P t f p v (of_list vs u h) = p (to_list vs) (items_are sets t vs
 reversed_items : (sets : Sets) (t : PlainTy) (vs : List PlainValue) → AreItems sets t vs → AreItems sets t (reverse vs)
 reversed_items sets t [] h = tt
 reversed_items sets t (v ∷ vs) h =
-    subst (AreItems sets t) (sym (reverse-append (v ∷ []) vs)) (all_both (λ x. HasType sets x t) (reverse vs) (v ∷ []) (reversed_items sets t vs h.1) (h.0, tt))
+    subst (AreItems sets t) (sym (reverse-append (v ∷ []) vs)) (each_appended (λ x. HasType sets x t) (reverse vs) (v ∷ []) (reversed_items sets t vs h.1) (h.0, tt))
 
 -- ---- one and two operands
 
@@ -165,7 +166,7 @@ appended_means : (sets : Sets) (t : PlainTy) (v w : PlainValue) → HasType sets
 appended_means sets t v w h k =
     with_items sets (λ x. HasType sets x (lists t)) t _
     (λ xs p. with_items sets (λ x. HasType sets x (lists t)) t _
-    (λ ys q. sized_means (λ x. HasType sets x (lists t)) (value.list (from_list (xs ++ ys))) (list_of_items sets t (xs ++ ys) (all_both (λ x. HasType sets x t) xs ys p q))) w k) v h
+    (λ ys q. sized_means (λ x. HasType sets x (lists t)) (value.list (from_list (xs ++ ys))) (list_of_items sets t (xs ++ ys) (each_appended (λ x. HasType sets x t) xs ys p q))) w k) v h
 
 pub appends : (sets : Sets) (t : PlainTy) (vs : List PlainValue) → AreOperands sets (pair_of (lists t) (lists t)) vs → Gives sets (lists t) (operated appending vs)
 appends sets t = two_mean sets (lists t) (lists t) (lists t) appended (appended_means sets t)

@@ -1,11 +1,7 @@
 -- The test whether two types are one tells the truth.
-use Rattle.std.proofs.Common.{◌≡◌, ◌&&◌, Bool, true, false, refl, ap}
-use Rattle.std.proofs.lemmas.Bool.{eqb-true}
+use Rattle.std.proofs.Common.{◌≡◌, true, refl, ap}
+use Rattle.std.proofs.lemmas.Bool.{eqb-true, and_parts}
 use Rattle.cpn_typing.specs.Types.{PlainTy, unit_type, bool_type, int_type, text_type, enumeration, union, tuples, lists, PlainTys, no_types, more_types, same_type, same_types}
-
-both : (a b : Bool) → (a && b) ≡ true → (a ≡ true) × (b ≡ true)
-both true b e = (refl, e)
-both false b e = absurd (cc)
 
 mutual
   pub same_type_is : (t u : PlainTy) → same_type t u ≡ true → t ≡ u
@@ -22,7 +18,7 @@ mutual
   pub same_types_is : (ts us : PlainTys) → same_types ts us ≡ true → ts ≡ us
   same_types_is no_types no_types e = refl
   same_types_is (more_types t ts) (more_types u us) e =
-      let p = both (same_type t u) (same_types ts us) e in
+      let p = and_parts (same_type t u) (same_types ts us) e in
       let h : t ≡ u = same_type_is t u p.0 in
       let k : ts ≡ us = same_types_is ts us p.1 in
       cc

@@ -1,6 +1,7 @@
 -- The sets behind the types, as colour sets are declared one after another: what is there stays, and each colour set that is
 -- declared is of these sets.
 use Rattle.std.proofs.Common.{◌≡◌, ℕ, zero, suc, ◌+◌, ◌<◌, ◌∙◌, List, [], ◌∷◌, ◌++◌, length, slice_get, slice_index_or, Option, Some, None, option_map, refl, ap, subst, arith}
+use Rattle.std.proofs.Math.Nat.{zero-add}
 use Rattle.cpn_definitions.specs.Colour.{PlainShape, PlainColour, constructor_at}
 use Rattle.cpn_trees.specs.DeclTrees.{PlainAlternative, PlainBody, unit, bool, int, int_range, string, enumeration, product, list, union, named}
 use Rattle.cpn_typing.specs.Names.{Name, Meant, a_variable, a_constant, a_constructor, a_function, Refusal, NamedConstructor, Declared, colour_named, meant_among, unknown, empty_colour, Checked, ok, refused, required}
@@ -131,13 +132,10 @@ union_has sets ds a p h = record {
   names_of = λ n m e. constructor_of n m (constructor_is n m (length ds.unions) 0 a.constructors e);
 }
   where
-    from_zero : (k : ℕ) → 0 + k ≡ k
-    from_zero k = omega arith
-
     constructor_of : (n : Name) (m : Meant) → IsConstructor (length ds.unions) 0 a.constructors m → IsOfSets sets m
     constructor_of n m c =
         subst (IsOfSets sets) c.is
-        (ap (λ k. sets.constructor (length ds.unions) k) (from_zero c.position) ∙ last_constructors sets (ds.enumerations ++ []) ds.unions a.constructors c.position h ∙ ap (option_map argument_of) c.is_there)
+        (ap (λ k. sets.constructor (length ds.unions) k) (zero-add c.position) ∙ last_constructors sets (ds.enumerations ++ []) ds.unions a.constructors c.position h ∙ ap (option_map argument_of) c.is_there)
 
 pub body_has : (sets : Sets) (ds : Declared) (n : Name) (body : PlainBody) → ColoursOf sets ds → Accepts (BodyHas sets ds) (shape_of_body ds n body)
 body_has sets ds n unit p = λ h. only_has sets _ tt

@@ -17,3 +17,4 @@ pub mod Closure
 pub mod AcceptedTransitions
 pub mod Answers
 pub mod Bindings
+pub mod Sides

@@ -1,6 +1,6 @@
-pub mod ThreeMeanings
-pub mod SolvableGuards
-pub mod LoneVariables
-pub mod TwoPlaceNets
-pub mod PrintedNets
-pub mod PlayedNet
+mod ThreeMeanings
+mod SolvableGuards
+mod LoneVariables
+mod TwoPlaceNets
+mod PrintedNets
+mod PlayedNet

@@ -1,7 +1,6 @@
 -- A variable that stands alone on an input arc is bindable.
-use Rattle.std.proofs.Common.{◌≡◌, ℕ, ◌==◌, Bool, true, false, [], ◌∷◌, refl, sym, ap, subst, inl, arith, Contains}
+use Rattle.std.proofs.Common.{◌≡◌, ℕ, ◌==◌, Bool, true, false, [], ◌∷◌, refl, sym, ap, subst, inl, Contains, eqb-true}
 use Rattle.std.specs.List.{list_all, list_any}
-use Rattle.std.proofs.lemmas.Bool.Decides.{nat_tests}
 use Rattle.cpn_definitions.specs.Inscription.{literal, variable, local, the_time, apply, conjunction, disjunction, choose, select, bind, accumulate, variable_pattern, ArcInscription, no_token, one, times, sum_of, later, stamped, chosen, selected, bound}
 use Rattle.cpn_definitions.specs.Net.{BindingTerm, PlainArc, PlainTransition, PlainNet}
 use Rattle.cpn_definitions.specs.Bindable.{binding_terms, IsBindable, by_term}
@@ -16,12 +15,9 @@ is_variable x m = false
 abbrev pub stands_alone : PlainTransition → ℕ → Bool
 stands_alone t x = list_any (λ arc. is_variable x arc.expr) t.inputs
 
-number_same : (x y : ℕ) → (x == y) ≡ true → x ≡ y
-number_same x y h = grind (arith, nat_tests)
-
 -- the inscription that a variable is
 pub variable_alone : (x : ℕ) (m : ArcInscription) → is_variable x m ≡ true → m ≡ one (variable x)
-variable_alone x (one (variable y)) h = ap (λ (k : ℕ). one (variable k)) (sym (number_same x y h))
+variable_alone x (one (variable y)) h = ap (λ (k : ℕ). one (variable k)) (sym (eqb-true x y h))
 variable_alone x (one (literal v)) h = cc
 variable_alone x (one (local k)) h = cc
 variable_alone x (one the_time) h = cc

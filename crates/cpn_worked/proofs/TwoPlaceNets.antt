@@ -1,9 +1,10 @@
 -- The nets of two places are sound, and what is added to their markings leaves them markings.
-use Rattle.std.proofs.Common.{◌≡◌, ◌⊎◌, ℕ, zero, suc, ◌+◌, ◌-◌, ◌<◌, ◌≤◌, ◌^◌, ◌==◌, pos, Bool, true, false, cond, ◌&&◌, ◌||◌, nat_lt, List, [], ◌∷◌, ◌++◌, map, length, slice_index_or, slice_set, Option, Some, None, refl, replicate, sym, ap, ap₂, ◌∙◌, subst, inl, inr, ⊎_elim, true≢false, arith, Less, nat_cmp}
+use Rattle.std.proofs.Common.{◌≡◌, ◌⊎◌, ℕ, zero, suc, ◌+◌, ◌-◌, ◌<◌, ◌≤◌, ◌^◌, ◌==◌, pos, Bool, true, false, cond, ◌&&◌, ◌||◌, nat_lt, List, [], ◌∷◌, ◌++◌, map, length, slice_index_or, slice_set, Option, Some, None, refl, replicate, sym, ap, ap₂, ◌∙◌, subst, inl, inr, ⊎_elim, true≢false, arith, Less, nat_cmp, ltb-true, eqb-true, lt-ltb}
 use Rattle.std.specs.List.{flat_map, list_all, list_any, range_with_len, AllByRecursion}
 use Rattle.std.proofs.lemmas.Bool.{and_parts, and_from, cases_lt, cond-true}
 use Rattle.std.proofs.lemmas.Bool.Decides.{nat_tests}
 use Rattle.std.proofs.lemmas.List.{length-map, length-replicate}
+use Rattle.std.proofs.Math.Bool.{or-true}
 use Rattle.cpn_definitions.specs.Value.{PlainValue, int}
 use Rattle.cpn_definitions.specs.Colour.{PlainColour, admits}
 use Rattle.cpn_definitions.specs.Lists.{Rises}
@@ -19,13 +20,11 @@ use Rattle.cpn_definitions.specs.Sound.{IsSound, IsSoundTransition, IsSoundInput
 use Rattle.cpn_definitions.proofs.RisingLists.{IsIn, in_map, of_one_in, each_implied, passes_at, one_that_passes, some_passes, all_pass, each_in, each_mapped}
 use Rattle.cpn_definitions.proofs.Terms.{one_token}
 use Rattle.cpn_definitions.proofs.Markings.{added_marking}
+use Rattle.cpn_definitions.proofs.NumberTests.{compared_less}
 use Rattle.cpn_stages.specs.Stages.{equations_at}
 use Rattle.cpn_worked.specs.TwoPlaces.{numbers, inscription_of, arc_of, has_arc, are_fit, two_places, IsWorked}
 use Rattle.cpn_worked.proofs.LoneVariables.{is_variable, stands_alone, are_bindable_alone}
 use Rattle.cpn_worked.proofs.SolvableGuards.{without_variables}
-
-number_same : (x y : ℕ) → (x == y) ≡ true → x ≡ y
-number_same x y h = grind (arith, nat_tests)
 
 number_itself : (x y : ℕ) → x ≡ y → (x == y) ≡ true
 number_itself x y h = grind (arith, nat_tests)
@@ -37,7 +36,7 @@ is_given n [] b x is h = absurd h
 is_given n (y ∷ xs) [] x is h = cc
 is_given n (y ∷ xs) (pair ∷ b) x is h =
     let all = and_parts ((y == pair.0) && admits (variable_at n y).colour pair.1) (binds n xs b) is in
-    let first : y ≡ pair.0 = number_same y pair.0 (and_parts (y == pair.0) (admits (variable_at n y).colour pair.1) all.0).0 in
+    let first : y ≡ pair.0 = eqb-true y pair.0 (and_parts (y == pair.0) (admits (variable_at n y).colour pair.1) all.0).0 in
     split first (is_given n xs b x all.1) (x == pair.0) refl h
   where
     split : y ≡ pair.0 → (IsIn x xs → (v : PlainValue) × (bound_value x b ≡ Some v)) → (c : Bool) → (x == pair.0) ≡ c → (y ≡ x) ⊎ IsIn x xs → (v : PlainValue) × (cond c (Some pair.1) (bound_value x b) ≡ Some v)
@@ -47,15 +46,6 @@ is_given n (y ∷ xs) (pair ∷ b) x is h =
 
 -- ---- the numbers of the variables
 
-before : (a x : ℕ) → a < x → nat_cmp a x ≡ Less
-before a x lt = grind (arith, nat_tests)
-
-below : (x n : ℕ) → x < n → nat_lt x n ≡ true
-below x n lt = grind (arith, nat_tests)
-
-is_below : (x n : ℕ) → nat_lt x n ≡ true → x < n
-is_below x n lt = grind (arith, nat_tests)
-
 -- each number of a range is in it
 range_within : (a n : ℕ) → AllByRecursion (λ x. (a ≤ x) × (x < a + n)) (range_with_len a n)
 range_within a zero = tt
@@ -63,10 +53,10 @@ range_within a (suc n) = ((omega arith, omega arith), each_implied (λ x. (a + 1
 
 range_rises : (a n : ℕ) → Rises nat_cmp (range_with_len a n)
 range_rises a zero = tt
-range_rises a (suc n) = (each_implied (λ x. (a + 1 ≤ x) × (x < a + 1 + n)) (λ x. nat_cmp a x ≡ Less) (range_with_len (a + 1) n) (λ x h. before a x (omega (arith, h.0))) (range_within (a + 1) n), range_rises (a + 1) n)
+range_rises a (suc n) = (each_implied (λ x. (a + 1 ≤ x) × (x < a + 1 + n)) (λ x. nat_cmp a x ≡ Less) (range_with_len (a + 1) n) (λ x h. compared_less a x (omega (arith, h.0))) (range_within (a + 1) n), range_rises (a + 1) n)
 
 range_below : (n : ℕ) → list_all (λ x. nat_lt x n) (range_with_len 0 n) ≡ true
-range_below n = all_pass (λ x. nat_lt x n) (range_with_len 0 n) (λ x h. let is = of_one_in (λ x. (0 ≤ x) × (x < 0 + n)) (range_with_len 0 n) x (range_within 0 n) h in below x n (omega (arith, is.1)))
+range_below n = all_pass (λ x. nat_lt x n) (range_with_len 0 n) (λ x h. let is = of_one_in (λ x. (0 ≤ x) × (x < 0 + n)) (range_with_len 0 n) x (range_within 0 n) h in lt-ltb x n (omega (arith, is.1)))
 
 in_range_from : (x a n : ℕ) → a ≤ x → x < a + n → IsIn x (range_with_len a n)
 in_range_from x a zero from lt = absurd (omega arith)
@@ -118,7 +108,7 @@ inscription_means n funs vars x colour b time is = by_number (nat_lt x vars) ref
 
     by_number : (b' : Bool) → nat_lt x vars ≡ b' → HasMeaning (terms_of funs (one (cond b' (variable x) (literal (int (pos 7))))) colour b time)
     by_number true lt =
-        let v = is_given n (range_with_len 0 vars) b x is (in_range_from x 0 vars (omega arith) (omega (arith, is_below x vars lt))) in
+        let v = is_given n (range_with_len 0 vars) b x is (in_range_from x 0 vars (omega arith) (omega (arith, ltb-true x vars lt))) in
         subst HasMeaning (sym (one_token funs (variable x) colour b time)) (by_value (bound_value x b) v.0 v.1)
     by_number false ge = subst HasMeaning (sym (one_token funs (literal (int (pos 7))) colour b time)) (in_the_colour (int (pos 7)) (admits colour (int (pos 7))))
 
@@ -145,7 +135,7 @@ module _ (timed guard : Bool) (vars : ℕ) (arcs : List (ℕ × ℕ)) (n : Plain
     where
       this_one : (x : ℕ) (a : ℕ × ℕ) → nat_lt x vars ≡ true → (a.1 == x) ≡ true → is_variable x (arc_of timed vars a).expr ≡ true
       this_one x a lt same =
-          let e : a.1 ≡ x = number_same a.1 x same in
+          let e : a.1 ≡ x = eqb-true a.1 x same in
           subst (λ inscription. is_variable x (one inscription) ≡ true) (sym (cond-true (nat_lt a.1 vars) (variable a.1) (literal (int (pos 7))) (subst (λ (k : ℕ). nat_lt k vars ≡ true) (sym e) lt))) (number_itself x a.1 (sym e))
 
       each : (x : ℕ) → IsIn x (range_with_len 0 vars) → stands_alone t x ≡ true
@@ -164,7 +154,7 @@ module _ (timed guard : Bool) (vars : ℕ) (arcs : List (ℕ × ℕ)) (n : Plain
 
       one_sound : (a : ℕ × ℕ) → IsIn a arcs → IsSoundInput n t (arc_of timed vars a)
       one_sound a h =
-          let lt : a.0 < 2 = is_below a.0 2 (passes_at (λ (b : ℕ × ℕ). nat_lt b.0 2) arcs a fit_parts.0 h) in
+          let lt : a.0 < 2 = ltb-true a.0 2 (passes_at (λ (b : ℕ × ℕ). nat_lt b.0 2) arcs a fit_parts.0 h) in
           record {
             sound = record {
               place_known = subst (λ (k : ℕ). a.0 < k) (sym two) lt;
@@ -199,14 +189,6 @@ module _ (timed guard : Bool) (vars : ℕ) (arcs : List (ℕ × ℕ)) (n : Plain
 
 -- ---- markings
 
--- a marking of the two places without tokens is one
-pub empty_marking : (timed : Bool) → IsMarking (two_places timed) ([] ∷ [] ∷ [])
-empty_marking timed = (tt, refl, (tt, refl, tt))
-
-or_true : (b : Bool) → (b || true) ≡ true
-or_true true = refl
-or_true false = refl
-
 -- and it stays one with a token more that the place may hold
 pub marking_with
     : (timed : Bool) (p stamp : ℕ) (v : PlainValue) (m : Marking)
@@ -216,7 +198,7 @@ marking_with timed p stamp v m lt fits stamped is = added_marking (two_places ti
   where
     its : (timed ≡ true) ⊎ (stamp ≡ 0) → (timed || (stamp == 0)) ≡ true
     its (inl e) = ap (λ b. b || (stamp == 0)) e
-    its (inr e) = ap (λ (k : ℕ). timed || (k == 0)) e ∙ or_true timed
+    its (inr e) = ap (λ (k : ℕ). timed || (k == 0)) e ∙ or-true timed
 
     held : (p : ℕ) → p < 2 → may_hold (slice_index_or (two_places timed) p nothing).colour (token_at v stamp) ≡ true
     held zero lt = and_from (admits (numbers timed) v) (timed || (stamp == 0)) (sym fits) (its stamped)

@@ -2,7 +2,7 @@
 use Rattle.std.proofs.Common.{sym, ◌∙◌, Some, ap, arith}
 use Rattle.cpn_definitions.specs.Inscription.{cons_pattern}
 use Rattle.cpn_core.specs.Inscriptions.{pattern_view}
-use Rattle.cpn_levels.proofs.InscriptionLevels.{view_cons_pattern}
+use Rattle.cpn_core.proofs.InscriptionLevels.{view_cons_pattern}
 use Rattle.cpn_bindable.proofs.BindingTermForms.{not_two, just_two}
 use Rattle.cpn_bindable.proofs.input_terms.head_and_tail.Goals as goal
 

@@ -9,7 +9,6 @@ use Rattle.cpn_runs.specs.State.{claim_made}
 use Rattle.cpn_runs.specs.Views.{event_view}
 use Rattle.cpn_runs.specs.declared.events.Event.{Event}
 use Rattle.cpn_runs.specs.declared.events.Event.TheVariants as events
-use Rattle.cpn_runs.proofs.Items.{map_more, last_is_at}
 use Rattle.cpn_book.specs.DrawnClaims.{undrawn}
 use Rattle.cpn_book.specs.Standings.{job_for}
 use Rattle.cpn_book.proofs.ClaimedStandings.{claimed}
@@ -17,6 +16,7 @@ use Rattle.cpn_book.proofs.CommittedStandings.{still_at}
 use Rattle.cpn_book.proofs.CountedClaims.{heads_counted}
 use Rattle.cpn_book.proofs.DrawnClaims.{drawn_now, drawn_element, drawn_in_time, drawn_covered, still_drawn}
 use Rattle.cpn_book.proofs.claiming.make_claim.Goals as goal
+use Rattle.cpn_definitions.proofs.ListItems.{map_more, last_is_at}
 
 -- the claim is noted in the journal
 claim_noted : (mid old new : List Event) (seat number : ℕ) → mid ≡ old → new ≡ mid ++ events.Claim seat number ∷ [] → map event_view new ≡ map event_view old ++ claim_made seat number ∷ []

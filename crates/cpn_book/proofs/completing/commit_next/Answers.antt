@@ -5,6 +5,7 @@ use Rattle.std.specs.declared.sync.Arc.{Arc}
 use Rattle.cpn_core.specs.declared.bindings.Element.{Element}
 use Rattle.cpn_core.specs.Elements.{element_view}
 use Rattle.cpn_definitions.specs.Occurrence.{PlainElement}
+use Rattle.cpn_definitions.proofs.ListItems.{map_more}
 use Rattle.cpn_jobs.specs.declared.work.Job.{Job}
 use Rattle.cpn_log.specs.Logs.{PlainLog, stands_done, standings, head_of, begin_done}
 use Rattle.cpn_log.specs.LogViews.{log_view, jobs_in}
@@ -13,7 +14,6 @@ use Rattle.cpn_log.specs.declared.states.ClaimState.{ClaimState}
 use Rattle.cpn_log.specs.declared.states.ClaimState.TheVariants as states
 use Rattle.cpn_runs.specs.declared.occurrences.Occurrence.{Occurrence}
 use Rattle.cpn_runs.specs.Views.{occurrence_view}
-use Rattle.cpn_runs.proofs.Items.{map_more}
 use Rattle.cpn_book.proofs.CommittedStandings.{has_committed_at, still_at, committed_told}
 use Rattle.cpn_book.proofs.NextClaims.{IsNext, next_stands, not_begun, is_done_next, begins_done, committed_next, element_next, time_next}
 use Rattle.cpn_book.proofs.completing.commit_next.Goals as goal

@@ -4,11 +4,11 @@ use Rattle.cpn_runs.specs.FinishedViews.{setup_view}
 use Rattle.cpn_runs.specs.State.{claim_completed}
 use Rattle.cpn_runs.specs.Views.{event_view}
 use Rattle.cpn_runs.specs.declared.events.Event.TheVariants as events
-use Rattle.cpn_runs.proofs.Items.{map_more}
 use Rattle.cpn_book.specs.Tickets.{evaluated_job}
 use Rattle.cpn_book.proofs.CommittedStandings.{still_at}
 use Rattle.cpn_book.proofs.FilledStandings.{IsBrought, held_known, open_in_log, outputs_fit, none_cut_now, filled}
 use Rattle.cpn_book.proofs.completing.fill_claim.Goals as goal
+use Rattle.cpn_definitions.proofs.ListItems.{map_more}
 
 pub complete_in-requires : goal.complete_in-requires
 complete_in-requires c =

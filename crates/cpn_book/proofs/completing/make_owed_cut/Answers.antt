@@ -7,6 +7,7 @@ use Rattle.cpn_core.specs.Elements.{element_view}
 use Rattle.cpn_core.specs.declared.faults.EvalFault.{EvalFault}
 use Rattle.cpn_core.specs.Faults.{fault_view}
 use Rattle.cpn_definitions.specs.Outcome.{Fault}
+use Rattle.cpn_definitions.proofs.ListItems.{map_more}
 use Rattle.cpn_log.specs.Logs.{stands_failed, standings, claims_made}
 use Rattle.cpn_log.specs.LogViews.{log_view, jobs_in}
 use Rattle.cpn_log.specs.States.{state_view}
@@ -15,7 +16,6 @@ use Rattle.cpn_log.specs.declared.states.ClaimState.TheVariants as states
 use Rattle.cpn_runs.specs.State.{cut_at, cut_made, fault_end}
 use Rattle.cpn_runs.specs.Views.{event_view}
 use Rattle.cpn_runs.specs.declared.events.Event.TheVariants as events
-use Rattle.cpn_runs.proofs.Items.{map_more}
 use Rattle.cpn_book.specs.Standings.{cut_view, events_in}
 use Rattle.cpn_book.specs.States.{cut_events}
 use Rattle.cpn_book.proofs.CommittedStandings.{stands_so, cut_stands, still_at}

@@ -4,6 +4,7 @@ use Rattle.std.proofs.Math.Path.{ap₂}
 use Rattle.std.specs.declared.sync.Arc.{Arc}
 use Rattle.cpn_core.specs.declared.bindings.Element.{Element}
 use Rattle.cpn_definitions.specs.Occurrence.{PlainElement}
+use Rattle.cpn_definitions.proofs.ListItems.{map_more}
 use Rattle.cpn_runs.specs.declared.occurrences.Occurrence.{Occurrence}
 use Rattle.cpn_core.specs.Elements.{element_view}
 use Rattle.cpn_jobs.specs.declared.work.Job.{Job}
@@ -12,7 +13,6 @@ use Rattle.cpn_runs.specs.State.{claim_made, claim_completed}
 use Rattle.cpn_runs.specs.Views.{event_view, occurrence_view}
 use Rattle.cpn_runs.specs.declared.events.Event.{Event}
 use Rattle.cpn_runs.specs.declared.events.Event.TheVariants as events
-use Rattle.cpn_runs.proofs.Items.{map_more}
 use Rattle.cpn_book.proofs.DrawnClaims.{drawn_in_time, drawn_covered}
 use Rattle.cpn_book.proofs.OccurredStandings.{HasOccurred, all_in, few_outputs, occurred, still_occurred, one_more}
 use Rattle.cpn_book.proofs.occurring.occur.Goals.{After-drop-needs-inside-2}

@@ -2,7 +2,6 @@
 use Rattle.std.proofs.Common.{[], ◌∷◌, ◌++◌, Some, ap, ◌∙◌, append_assoc, arith, slice_get}
 use Rattle.std.specs.Option.{option_map}
 use Rattle.cpn_runs.specs.FinishedViews.{setup_view}
-use Rattle.cpn_standing.proofs.SetItems.{set_there}
 use Rattle.cpn_runs.specs.State.{claim_made, claim_completed}
 use Rattle.cpn_book.specs.Standings.{cut_view, events_in}
 use Rattle.cpn_book.specs.States.{cut_events}
@@ -11,6 +10,7 @@ use Rattle.cpn_book.proofs.HeldSeats.{where_ok}
 use Rattle.cpn_book.proofs.OccurredStandings.{free_now}
 use Rattle.cpn_book.proofs.PlayedRounds.{none_open_after}
 use Rattle.cpn_book.proofs.occurring.play_drawn.Goals as goal
+use Rattle.cpn_definitions.proofs.ListItems.{set_there}
 
 pub make_claim-requires-clause-free : goal.make_claim-requires-clause-free
 make_claim-requires-clause-free c = free_now (setup_view c.args.setup.now) c.args.standing.now c.args.done.number c.args.done.job.value c.args.needs c.requires.drawn c.requires.playable c.requires.none_open

@@ -7,13 +7,13 @@ use Rattle.cpn_log.specs.Logs.{started, heads}
 use Rattle.cpn_log.specs.LogViews.{log_view}
 use Rattle.cpn_jobs.specs.Views.{job_view}
 use Rattle.cpn_runs.specs.Views.{event_view, occurrence_view}
-use Rattle.cpn_standing.specs.Standing.{IsTold, StandsAt}
+use Rattle.cpn_book.specs.StandingRuns.{IsTold, StandsAt}
 use Rattle.cpn_book.specs.Standings.{job_for}
 use Rattle.std.proofs.lemmas.List.{length-replicate}
 use Rattle.cpn_runs.specs.HoleRun.{PlainClaim}
 use Rattle.cpn_runs.specs.State.{first_state, numbered}
 use Rattle.cpn_runs.specs.FinishedViews.{setup_view}
-use Rattle.cpn_standing.proofs.StartedRuns.{stands_at_start}
+use Rattle.cpn_book.proofs.StartedRuns.{stands_at_start}
 use Rattle.cpn_book.proofs.standings.at_start.Goals as goal
 
 pub start-requires-clause-sorted : goal.start-requires-clause-sorted

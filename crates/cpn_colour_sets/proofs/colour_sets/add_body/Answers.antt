@@ -6,7 +6,7 @@ use Rattle.cpn_trees.specs.declared.declaration_trees.Body.TheVariants as bodies
 use Rattle.cpn_typing.specs.ColourSets.{component, components}
 use Rattle.cpn_declared.specs.DeclsViews.{decls_view}
 use Rattle.cpn_colour_sets.proofs.Bodies.{alone, shape_unit, shape_bool, shape_text, shape_int, product_accepted, list_accepted, named_accepted, range_accepted, le_same}
-use Rattle.cpn_levels.proofs.ShapeLevels.{shape_list, shape_tuple}
+use Rattle.cpn_core.proofs.ShapeLevels.{shape_list, shape_tuple}
 use Rattle.cpn_colour_sets.proofs.colour_sets.add_body.Goals as goal
 
 pub returns-in-Unit-clause-exact : goal.returns-in-Unit-clause-exact

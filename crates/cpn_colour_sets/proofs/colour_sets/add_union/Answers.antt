@@ -4,7 +4,7 @@ use Rattle.cpn_trees.specs.DeclTrees.{alternative_view}
 use Rattle.cpn_colour_sets.specs.Alternatives.{alternatives_seen}
 use Rattle.cpn_declared.specs.DeclsViews.{decls_view}
 use Rattle.cpn_colour_sets.proofs.Bodies.{union_added}
-use Rattle.cpn_levels.proofs.ShapeLevels.{shape_union}
+use Rattle.cpn_core.proofs.ShapeLevels.{shape_union}
 use Rattle.cpn_colour_sets.proofs.colour_sets.add_union.Goals as goal
 
 pub returns-clause-exact : goal.returns-clause-exact

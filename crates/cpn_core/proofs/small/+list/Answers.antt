@@ -4,7 +4,7 @@ use Rattle.cpn_definitions.specs.Value.{bare, applied}
 use Rattle.cpn_core.specs.declared.colours.Shape.{the_lemmas}
 use Rattle.cpn_core.specs.Views.{value_view, rows_view}
 use Rattle.cpn_core.specs.Colours.{shapes_view}
-use Rattle.cpn_core.proofs.Levels.{view_con}
+use Rattle.cpn_core.proofs.ValueLevels.{view_con}
 use Rattle.cpn_core.proofs.ListedValues.{pushed}
 use Rattle.cpn_core.proofs.ListedParts.{no_rows, few_of_each, few_of_constructor, constructed_grows, alone}
 use Rattle.cpn_core.proofs.small.+list.Goals as goal

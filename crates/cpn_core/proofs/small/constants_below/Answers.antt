@@ -1,6 +1,6 @@
 -- The constant that is pushed is the next one.
 use Rattle.cpn_core.proofs.NumberedItems.{constants_more}
-use Rattle.cpn_core.proofs.Levels.{view_enum}
+use Rattle.cpn_core.proofs.ValueLevels.{view_enum}
 use Rattle.cpn_core.proofs.ListedValues.{pushed}
 use Rattle.cpn_core.proofs.small.constants_below.Goals as goal
 

@@ -3,7 +3,7 @@ use Rattle.std.proofs.Common.{ap, ◌∙◌, arith, to_z, of_z, w64}
 use Rattle.std.proofs.lemmas.Int.{ints}
 use Rattle.cpn_definitions.specs.Value.{int}
 use Rattle.cpn_core.proofs.NumberedItems.{integers_more}
-use Rattle.cpn_core.proofs.Levels.{view_int}
+use Rattle.cpn_core.proofs.ValueLevels.{view_int}
 use Rattle.cpn_core.proofs.ShapeMembers.{within_bounds}
 use Rattle.cpn_core.proofs.ListedValues.{pushed}
 use Rattle.cpn_core.proofs.small.integers_between.Goals as goal

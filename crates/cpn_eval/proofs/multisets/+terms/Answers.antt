@@ -2,7 +2,7 @@
 use Rattle.std.proofs.Common.{ap, sym, ◌∙◌, true, false, rules, ◌≡◌, ◌+◌, ◌-◌, ◌^◌, ◌≤◌, min, map, arith, refl}
 use Rattle.cpn_definitions.specs.Inscription.{later, stamped, selected, arc_arms_from, inscriptions_from}
 use Rattle.cpn_core.specs.Inscriptions.{expr_view, multiset_view, arc_arm_view}
-use Rattle.cpn_levels.proofs.InscriptionLevels.{tokens_later, tokens_at, tokens_if, tokens_case}
+use Rattle.cpn_core.proofs.InscriptionLevels.{tokens_later, tokens_at, tokens_if, tokens_case}
 use Rattle.cpn_eval.proofs.SumTerms.{form_told, chosen_told, kept_twice, sum_goes, sum_stops, few_with, count_is, count_goes}
 use Rattle.std.proofs.lemmas.Result.{err_from_is_err_and}
 use Rattle.cpn_definitions.specs.Terms.{tokens_in, most_tokens}

@@ -4,12 +4,13 @@ use Rattle.std.proofs.lemmas.List.{length-map}
 use Rattle.std.specs.List.{list_all}
 use Rattle.cpn_definitions.specs.Sound.{may_hold}
 use Rattle.cpn_definitions.specs.Named.{is_named}
+use Rattle.cpn_definitions.proofs.Markings.{marking_length}
 use Rattle.cpn_core.specs.Nets.{net_view, place_view}
-use Rattle.cpn_report.proofs.PrintableNets.{seen_at, passes_seen, held_at, entries_count}
+use Rattle.cpn_report.proofs.PrintableNets.{seen_at, passes_seen, held_at}
 use Rattle.cpn_report.proofs.places.push_place_lines.Goals as goal
 
 pub unwrap-tokens-requires : goal.unwrap-tokens-requires
-unwrap-tokens-requires c = c.get.ensures.present.1 (omega (arith, simp length-map at (entries_count (map place_view c.args.places.now) c.args.marking.now c.requires.marking)))
+unwrap-tokens-requires c = c.get.ensures.present.1 (omega (arith, simp length-map at (marking_length (map place_view c.args.places.now) c.args.marking.now c.requires.marking)))
 
 pub push_place_line-requires-clause-held : goal.push_place_line-requires-clause-held
 push_place_line-requires-clause-held c =

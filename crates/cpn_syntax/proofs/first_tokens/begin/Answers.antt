@@ -7,7 +7,7 @@ use Rattle.cpn_syntax.specs.ReadForms.{want, have, Takes}
 use Rattle.cpn_syntax.specs.Steps.{Comes}
 use Rattle.cpn_syntax.specs.Unread.{unread}
 use Rattle.cpn_syntax.proofs.Wants.{begins_never}
-use Rattle.cpn_syntax.proofs.FormViews as levels
+use Rattle.cpn_trees.proofs.FormViews as levels
 use Rattle.cpn_syntax.proofs.FirstSteps as starting
 use Rattle.cpn_syntax.proofs.first_tokens.begin.Goals as goal
 

@@ -2,7 +2,7 @@
 use Rattle.std.proofs.Common.{refl}
 use Rattle.cpn_lex.specs.Token as token
 use Rattle.cpn_lex.specs.declared.symbols.Symbol.TheVariants as sign
-use Rattle.cpn_syntax.proofs.FormViews as levels
+use Rattle.cpn_trees.proofs.FormViews as levels
 use Rattle.cpn_syntax.proofs.FirstSteps as starting
 use Rattle.cpn_syntax.proofs.first_tokens.begin_bracket.Goals as goal
 

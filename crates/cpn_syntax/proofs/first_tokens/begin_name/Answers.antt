@@ -1,7 +1,7 @@
 -- A name alone, or with the parenthesis of a call behind it.
 use Rattle.std.proofs.Common.{refl}
 use Rattle.cpn_lex.specs.Token as token
-use Rattle.cpn_syntax.proofs.FormViews as levels
+use Rattle.cpn_trees.proofs.FormViews as levels
 use Rattle.cpn_syntax.proofs.FirstSteps as starting
 use Rattle.cpn_syntax.proofs.first_tokens.begin_name.Goals as goal
 

@@ -8,7 +8,7 @@ use Rattle.cpn_syntax.specs.ReadForms.{want}
 use Rattle.cpn_syntax.specs.Steps.{Comes}
 use Rattle.cpn_syntax.specs.Unread.{unread}
 use Rattle.cpn_syntax.proofs.Wants.{begins_with}
-use Rattle.cpn_syntax.proofs.FormViews as levels
+use Rattle.cpn_trees.proofs.FormViews as levels
 use Rattle.cpn_syntax.proofs.FirstSteps as starting
 use Rattle.cpn_syntax.proofs.first_tokens.begin_symbol.Goals as goal
 use Rattle.cpn_syntax.proofs.first_tokens.begin_symbol.Goals.{in_default-via-in-If+else-least-le1, in_default-via-in-Case+else-least-eq0, in_default-via-in-Foldl+else-least-le1-2, in_default-via-in_default}

@@ -5,7 +5,7 @@ use Rattle.cpn_lex.specs.declared.symbols.Symbol.TheVariants as sign
 use Rattle.cpn_syntax.specs.Texts.{Is}
 use Rattle.cpn_syntax.specs.Unread.{unread, Begins}
 use Rattle.cpn_trees.specs.AstViews.{ast_view}
-use Rattle.cpn_syntax.proofs.FormViews as levels
+use Rattle.cpn_trees.proofs.FormViews as levels
 use Rattle.cpn_syntax.proofs.LastParts.{arms_with_last}
 use Rattle.cpn_syntax.proofs.PartSteps as going
 use Rattle.cpn_syntax.proofs.following_tokens.close_arm.Goals as goal

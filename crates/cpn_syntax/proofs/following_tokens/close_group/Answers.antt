@@ -4,7 +4,7 @@ use Rattle.std.proofs.lemmas.Result.{err_from_is_err_and}
 use Rattle.std.proofs.lemmas.List.{nil_from_length, length-map}
 use Rattle.std.proofs.lemmas.Bool.Decides.{nat_tests}
 use Rattle.cpn_trees.specs.AstViews.{ast_view}
-use Rattle.cpn_syntax.proofs.FormViews as levels
+use Rattle.cpn_trees.proofs.FormViews as levels
 use Rattle.cpn_syntax.proofs.PartSteps as going
 use Rattle.cpn_syntax.proofs.following_tokens.close_group.Goals as goal
 

@@ -1,7 +1,7 @@
 -- The next item behind a comma, or the whole list.
 use Rattle.std.proofs.lemmas.Result.{err_from_is_err_and}
 use Rattle.cpn_trees.specs.AstViews.{ast_view}
-use Rattle.cpn_syntax.proofs.FormViews as levels
+use Rattle.cpn_trees.proofs.FormViews as levels
 use Rattle.cpn_syntax.proofs.LastParts.{asts_with_last}
 use Rattle.cpn_syntax.proofs.PartSteps as going
 use Rattle.cpn_syntax.proofs.following_tokens.close_items.Goals as goal

@@ -1,6 +1,6 @@
 -- A prefix operator with its operand.
 use Rattle.cpn_trees.specs.AstViews.{ast_view}
-use Rattle.cpn_syntax.proofs.FormViews as levels
+use Rattle.cpn_trees.proofs.FormViews as levels
 use Rattle.cpn_syntax.proofs.PartSteps as going
 use Rattle.cpn_syntax.proofs.following_tokens.end_prefix.Goals as goal
 

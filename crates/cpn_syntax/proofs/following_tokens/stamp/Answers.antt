@@ -3,7 +3,7 @@ use Rattle.std.proofs.Common.{rules, ap}
 use Rattle.cpn_trees.specs.Trees.{ast, stamped}
 use Rattle.cpn_syntax.specs.ReadForms.{have}
 use Rattle.cpn_trees.specs.AstViews.{ast_view}
-use Rattle.cpn_syntax.proofs.FormViews as levels
+use Rattle.cpn_trees.proofs.FormViews as levels
 use Rattle.cpn_syntax.proofs.following_tokens.stamp.Goals as goal
 
 pub returns-clause-stamped : goal.returns-clause-stamped

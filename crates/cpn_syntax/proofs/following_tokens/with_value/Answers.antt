@@ -2,7 +2,7 @@
 use Rattle.std.proofs.Common.{map, ap, ◌++◌, ◌∷◌, []}
 use Rattle.std.proofs.lemmas.List.{map-append}
 use Rattle.cpn_trees.specs.AstViews.{local_view}
-use Rattle.cpn_syntax.proofs.FormViews as levels
+use Rattle.cpn_trees.proofs.FormViews as levels
 use Rattle.cpn_syntax.proofs.following_tokens.with_value.Goals as goal
 
 pub returns : goal.returns

@@ -4,6 +4,7 @@ use Rattle.std.specs.List.Sorted.{IsStrictlySortedBy}
 use Rattle.std.specs.Option.{unwrap_or}
 use Rattle.std.specs.Map.{keys_of, remove_entry}
 use Rattle.std.specs.BTreeMap.{BTreeMap, is_at}
+use Rattle.std.proofs.lemmas.List.{nil_from_length}
 use Rattle.cpn_definitions.specs.Lists.{IsInOrder}
 use Rattle.cpn_definitions.specs.Order.{same_value}
 use Rattle.cpn_definitions.specs.Marking.{without_latest}
@@ -13,7 +14,7 @@ use Rattle.cpn_core.specs.Views.{value_view}
 use Rattle.cpn_tmset.specs.Stamps.{latest_of}
 use Rattle.cpn_tmset.specs.TMSets.{stamps_in}
 use Rattle.cpn_tmset.specs.Views.{entries_view}
-use Rattle.cpn_tmset.proofs.EntryStamps.{changed, unchanged, held, held_in_order, held_some, in_entries, written, written_kept, removed, removed_kept, removed_written, without_in_order, none_without, found_in}
+use Rattle.cpn_tmset.proofs.EntryStamps.{changed, unchanged, held, held_in_order, held_some, in_entries, written, written_kept, removed, removed_kept, removed_written, without_in_order, none_without}
 use Rattle.cpn_tmset.proofs.tmsets.take_stamp.Goals as goal
 
 -- ---- the value has no entry
@@ -79,7 +80,7 @@ returns-then-number-eq0-clause-taken c = λ v.
     let old = c.args.entries.now.entries in
     let gone : c.remove.new.self.entries ≡ remove_entry (is_at (value_order c.args.value.now)) old =
     c.remove.ensures.entries ∙ ap (remove_entry (is_at (value_order c.args.value.now))) (c.get_mut.follows.holds c.take_latest.new.self).0 ∙ removed_written c.args.value.now old c.take_latest.new.self in
-    let left : [] ≡ without_latest c.args.latest c.in_ok-stamps.stamps.now = sym (found_in c.take_latest.new.self (sym c.number.ensures.number ∙ c.if-number-eq0.true)) ∙ c.take_latest.ensures.taken in
+    let left : [] ≡ without_latest c.args.latest c.in_ok-stamps.stamps.now = sym (nil_from_length c.take_latest.new.self (sym c.number.ensures.number ∙ c.if-number-eq0.true)) ∙ c.take_latest.ensures.taken in
     rw gone
     (removed c.args.value.now old c.requires.kept v
     ∙ ap (λ (ss : List ℕ). cond (same_value v (value_view c.args.value.now)) ss (stamps_in v (entries_view old))) left

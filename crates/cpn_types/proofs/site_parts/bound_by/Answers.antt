@@ -2,7 +2,7 @@
 use Rattle.std.proofs.Common.{◌∙◌, ap}
 use Rattle.cpn_definitions.specs.Inscription.{bound}
 use Rattle.cpn_core.specs.Inscriptions.{expr_view, multiset_view}
-use Rattle.cpn_levels.proofs.InscriptionLevels.{tokens_let}
+use Rattle.cpn_core.proofs.InscriptionLevels.{tokens_let}
 use Rattle.cpn_types.proofs.LetValues.{bound_in}
 use Rattle.cpn_types.proofs.site_parts.bound_by.Goals as goal
 

@@ -2,9 +2,9 @@
 use Rattle.std.proofs.Common.{ap, ◌∙◌, map}
 use Rattle.cpn_runs.specs.Views.{event_view}
 use Rattle.cpn_runs.specs.declared.events.Event.TheVariants as events
-use Rattle.cpn_runs.proofs.Items.{map_more}
 use Rattle.cpn_book.proofs.MovedBooks.{moved_runs, moved_ready}
 use Rattle.cpn_book.proofs.books.Book.move_to.Goals as goal
+use Rattle.cpn_definitions.proofs.ListItems.{map_more}
 
 pub returns-clause-running : goal.returns-clause-running
 returns-clause-running c =

@@ -7,7 +7,7 @@ use Rattle.cpn_definitions.specs.Legal.{Legal}
 use Rattle.cpn_definitions.specs.Sound.{IsMarking}
 use Rattle.cpn_runs.specs.State.{settled_in, unclaimed_in, committed_occurrences, timed}
 use Rattle.cpn_runs.proofs.Journals.{Settles, every_journal_settles, marking_is_start}
-use Rattle.cpn_standing.proofs.OpenClaims.{none_counted}
+use Rattle.cpn_book.proofs.OpenClaims.{none_counted}
 use Rattle.cpn_book.specs.Books.{setup_in, journal_in}
 use Rattle.cpn_book.specs.States.{open_claims}
 use Rattle.cpn_book.proofs.BoundedBooks.{settled_kept}

@@ -4,7 +4,7 @@ use Rattle.cpn_definitions.specs.Inscription.{operation, apply, tupling, listing
 use Rattle.cpn_core.specs.declared.inscriptions.Expr.TheViews as exprs
 use Rattle.cpn_core.specs.Inscriptions.{op_view, expr_view, exprs_view}
 use Rattle.cpn_eval.specs.Frames.{after_outcome, meant_at, locals_of}
-use Rattle.cpn_levels.proofs.InscriptionLevels.{view_op, view_tuple, view_list, view_call, view_applied, view_and, view_or, view_if, view_case, view_let, view_fold}
+use Rattle.cpn_core.proofs.InscriptionLevels.{view_op, view_tuple, view_list, view_call, view_applied, view_and, view_or, view_if, view_case, view_let, view_fold}
 use Rattle.cpn_eval.proofs.Turns.{goes_same, all_parts_goes, argument_goes, also_goes, otherwise_goes, if_goes, let_goes, case_goes, begin_fold_goes}
 use Rattle.cpn_eval.proofs.frames.Machine.open.Goals as goal
 

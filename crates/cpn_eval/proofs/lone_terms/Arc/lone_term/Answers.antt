@@ -1,5 +1,5 @@
 -- A lone term is the definition's.
-use Rattle.cpn_levels.proofs.InscriptionLevels.{tokens_times}
+use Rattle.cpn_core.proofs.InscriptionLevels.{tokens_times}
 use Rattle.cpn_eval.proofs.lone_terms.Arc.lone_term.Goals as goal
 
 pub returns-in-Times-clause-terms : goal.returns-in-Times-clause-terms

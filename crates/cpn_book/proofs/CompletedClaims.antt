@@ -1,0 +1,144 @@
+-- A claim is completed, what can be committed is committed, and the cut that is owed is made: where the run stands then.
+use Rattle.std.proofs.Common.{◌≡◌, ℕ, zero, suc, ◌+◌, ◌<◌, ◌≤◌, ◌==◌, Bool, true, false, List, [], ◌∷◌, ◌++◌, length, take, Option, Some, None, refl, sym, ap, ◌∙◌, subst, arith, slice_get, slice_set, eqb-true, count_by}
+use Rattle.std.proofs.lemmas.List.{length-map, append-nil}
+use Rattle.std.proofs.lemmas.Bool.{eqb-false, and_parts}
+use Rattle.cpn_definitions.specs.Outcome.{Fault}
+use Rattle.cpn_definitions.specs.Occurrence.{outputs_of}
+use Rattle.cpn_definitions.proofs.ListItems.{set_there, set_elsewhere, set_long}
+use Rattle.cpn_runs.specs.HoleRun.{PlainClaim, Status, faulted_with, is_open, is_done, marking_left}
+use Rattle.cpn_runs.specs.State.{PlainSetup, PlainState, PlainEvent, claim_completed, cut_made, fault_end, PlainCut, is_held_by, status_after, MayComplete, MayCut, first_state, cut_at, cut_by}
+use Rattle.cpn_runs.proofs.Cuts.{AreDone, done_owe_none, open_is_not_done}
+use Rattle.cpn_runs.proofs.Sequences.{left_parts}
+use Rattle.cpn_runs.proofs.States.{leads_more, every_state, closed_status}
+use Rattle.cpn_book.specs.Held.{held_from, AreHeld}
+use Rattle.cpn_log.specs.Kept.{IsKept}
+use Rattle.cpn_log.specs.Logs.{PlainLog, head_of, begin_done, with_status, with_committed}
+use Rattle.cpn_book.specs.StandingRuns.{IsTold, StandsAt}
+use Rattle.cpn_book.proofs.HeldClaims.{held_changed, held_closed, done_hold_none}
+use Rattle.cpn_book.proofs.LoggedClaims.{has_changed, has_committed, has_first, owed_is}
+
+-- an open claim stands behind those that are done
+pub behind_done : (done rest : List PlainClaim) (i : ℕ) (claim : PlainClaim) → AreDone done → slice_get (done ++ rest) i ≡ Some claim → is_open claim.status ≡ true → length done ≤ i
+behind_done [] rest i claim done at is = omega arith
+behind_done (c ∷ front) rest zero claim done at is =
+    let same : c ≡ claim = cc in
+    let no : true ≡ false = sym done.0 ∙ ap (λ (k : PlainClaim). is_done k.status) same ∙ open_is_not_done claim.status is in
+    absurd cc
+behind_done (c ∷ front) rest (suc i) claim done at is = let deeper = behind_done front rest i claim done.1 at is in omega (arith, deeper)
+
+-- ---- what seats hold
+
+module _ (seats : ℕ) (claims : List PlainClaim) (held : List (Option ℕ)) (are : AreHeld seats claims held) (seat : ℕ) (known : seat < seats) (number : ℕ) (old new : PlainClaim) (stood : slice_get claims number ≡ Some old) (own : is_held_by seat old ≡ true) (closed : is_open new.status ≡ false) (one : count_by (is_held_by seat) claims ≤ 1) where
+  not_held : (s : ℕ) → is_held_by s new ≡ false
+  not_held s = rw closed refl
+
+  of_another : (s : ℕ) → (seat ≡ s → ⊥) → is_held_by s old ≡ false
+  of_another s other = split (is_held_by s old) refl
+    where
+      split : (b : Bool) → is_held_by s old ≡ b → is_held_by s old ≡ false
+      split true is =
+          let mine = eqb-true old.seat seat (and_parts (is_open old.status) (old.seat == seat) own).1 in
+          let theirs = eqb-true old.seat s (and_parts (is_open old.status) (old.seat == s) is).1 in
+          absurd (other (sym mine ∙ theirs))
+      split false is = is
+
+  at : (s : ℕ) → s < seats → (b : Bool) → (seat == s) ≡ b → slice_get (slice_set held seat None) s ≡ Some (held_from 0 s (slice_set claims number new))
+  at s lt true is =
+      let same : seat ≡ s = eqb-true seat s is in
+      subst (λ t. slice_get (slice_set held seat None) t ≡ Some (held_from 0 t (slice_set claims number new))) same
+      (set_there held seat None (omega (arith, known, are.each)) ∙ ap Some (sym (held_closed 0 seat number claims old new stood own (not_held seat) one)))
+  at s lt false is =
+      let other : seat ≡ s → ⊥ = eqb-false seat s is in
+      set_elsewhere held seat s None other ∙ are.numbers s lt ∙ ap Some (sym (held_changed 0 s number claims old new stood (of_another s other) (not_held s)))
+
+  pub held_one_less : AreHeld seats (slice_set claims number new) (slice_set held seat None)
+  held_one_less = record { each = set_long held seat None ∙ are.each; numbers = λ s lt. at s lt (seat == s) refl }
+
+-- ---- a claim is completed
+
+-- What a completion needs: the seat is one of the run's and holds the claim of the number, and the status is what the outputs of its
+-- element are.
+pub record IsItsCompletion (setup : PlainSetup) (state : PlainState) (seat number : ℕ) (claim : PlainClaim) (status : Status) : Type 0 where
+  pub known : seat < setup.limits.seats
+  pub stands : slice_get state.claims number ≡ Some claim
+  pub held : is_held_by seat claim ≡ true
+  pub status_is : status_after (outputs_of setup.net claim.element claim.time) ≡ Some status
+
+module _ (setup : PlainSetup) (journal : List PlainEvent) (state : PlainState) (log new : PlainLog) (held : List (Option ℕ)) (stands : StandsAt setup journal state log held) (seat number : ℕ) (claim : PlainClaim) (status : Status) (done : IsItsCompletion setup state seat number claim status) where
+  abbrev pub completed_claim : PlainClaim
+  completed_claim = record claim { status = status }
+
+  abbrev pub completed_state : PlainState
+  completed_state = record state { claims = slice_set state.claims number completed_claim }
+
+  pub may_complete : MayComplete setup state seat number completed_state
+  may_complete = record { none_owed = stands.none_owed; held_claim = claim; claim_is = done.stands; held = done.held; status = status; status_is = done.status_is; new_is = refl }
+
+  -- it stands behind the committed claims
+  pub is_behind : length log.committed ≤ number
+  is_behind =
+      let has = stands.told.has in
+      let open_now = (and_parts (is_open claim.status) (claim.seat == seat) done.held).0 in
+      let at : slice_get (has.committed ++ log.claims) number ≡ Some claim = ap (λ cs. slice_get cs number) (sym has.claims_are) ∙ done.stands in
+      let le = behind_done has.committed log.claims number claim has.done at open_now in
+      let many : length has.committed ≡ length log.committed = sym (length-map has.committed head_of) ∙ ap length has.heads in
+      omega (arith, le, many)
+
+  pub told_completed : (place : ℕ) → number ≡ length log.committed + place → new.claims ≡ with_status status place log.claims → new.committed ≡ log.committed → new.settled ≡ log.settled → IsKept new
+      → IsTold setup (journal ++ claim_completed seat number ∷ []) completed_state new (slice_set held seat None)
+  told_completed place where_is is heads_same settled_same kept = record {
+    reached = leads_more setup (first_state setup) journal (claim_completed seat number ∷ []) state completed_state stands.told.reached (completed_state, may_complete, refl);
+    has = has_changed setup.start state.claims log new stands.told.has heads_same settled_same status number place claim where_is done.stands is;
+    kept = kept;
+    holds = held_one_less setup.limits.seats state.claims held stands.told.holds seat done.known number claim completed_claim done.stands done.held (closed_status (outputs_of setup.net claim.element claim.time) status done.status_is) ((every_state setup journal state stands.told.reached).one_each seat);
+  }
+
+-- ---- the next claim is committed
+
+pub told_committed : (setup : PlainSetup) (journal : List PlainEvent) (state : PlainState) (log : PlainLog) (held : List (Option ℕ)) (claim : PlainClaim) (rest : List PlainClaim) → IsTold setup journal state log held → log.claims ≡ claim ∷ rest → is_done claim.status ≡ true → IsKept (with_committed log claim rest) → IsTold setup journal state (with_committed log claim rest) held
+told_committed setup journal state log held claim rest told is done kept =
+    let covers = (left_parts log.settled claim rest log.unclaimed (ap (marking_left log.settled) (sym is) ∙ told.kept.left)).0 in
+    record { reached = told.reached; has = has_committed setup.start state.claims log claim rest told.has is done covers; kept = kept; holds = told.holds }
+
+-- ---- nothing more can be committed
+
+module _ (setup : PlainSetup) (journal : List PlainEvent) (state : PlainState) (log new : PlainLog) (held : List (Option ℕ)) (told : IsTold setup journal state log held) (stops : begin_done log.claims ≡ false) where
+  -- no cut is owed where the next claim is open, or there is none
+  pub stands_committed : cut_at (length log.committed) (slice_get log.claims 0) ≡ None → StandsAt setup journal state log held
+  stands_committed none = record { told = told; stops = stops; none_owed = owed_is setup.start state.claims log new told.has stops ∙ none }
+
+  module _ (claim : PlainClaim) (fault : Fault) (next : slice_get log.claims 0 ≡ Some claim) (failed : claim.status ≡ faulted_with fault) where
+    abbrev pub owed : PlainCut
+    owed = record { number = length log.committed; cause = fault_end claim.element fault }
+
+    abbrev pub cut_state : PlainState
+    cut_state = record state { claims = take (length log.committed) state.claims; cut = Some owed }
+
+    may_cut : MayCut setup state (length log.committed) cut_state
+    may_cut = record {
+      cut = owed;
+      owed = owed_is setup.start state.claims log new told.has stops ∙ ap (cut_at (length log.committed)) next ∙ ap (cut_by (length log.committed) claim.element) failed;
+      number_is = refl;
+      new_is = refl;
+    }
+
+    all_none : (seats : ℕ) (claims : List PlainClaim) (none : List (Option ℕ)) → AreDone claims → length none ≡ seats → ((s : ℕ) → s < seats → slice_get none s ≡ Some None) → AreHeld seats claims none
+    all_none seats claims none done each are = record { each = each; numbers = λ s lt. are s lt ∙ ap Some (sym (done_hold_none 0 s claims done)) }
+
+    -- the cut is made: just the committed claims stand
+    pub stands_cut : new.claims ≡ [] → new.committed ≡ log.committed → new.settled ≡ log.settled → IsKept new → (none : List (Option ℕ)) → length none ≡ setup.limits.seats → ((s : ℕ) → s < setup.limits.seats → slice_get none s ≡ Some None)
+        → StandsAt setup (journal ++ cut_made (length log.committed) ∷ []) cut_state new none
+    stands_cut is heads_same settled_same kept none each are =
+        let has = has_first setup.start state.claims log new told.has heads_same settled_same (length log.committed) 0 (omega arith) is in
+        let all : cut_state.claims ≡ has.committed = has.claims_are ∙ ap (λ cs. has.committed ++ cs) is ∙ append-nil has.committed in
+        let done : AreDone cut_state.claims = subst AreDone (sym all) has.done in
+        record {
+          told = record {
+            reached = leads_more setup (first_state setup) journal (cut_made (length log.committed) ∷ []) state cut_state told.reached (cut_state, may_cut, refl);
+            has = has;
+            kept = kept;
+            holds = all_none setup.limits.seats cut_state.claims none done each are;
+          };
+          stops = ap begin_done is;
+          none_owed = done_owe_none cut_state.claims done;
+        }

@@ -1,2 +1,0 @@
-pub mod InscriptionLevels
-pub mod ShapeLevels

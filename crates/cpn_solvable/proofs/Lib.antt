@@ -1,2 +1,0 @@
-pub mod AcceptedSides
-pub mod SolvableTransitions
