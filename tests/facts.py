@@ -674,6 +674,7 @@ def the_gate_is_raised_too_early(runs):
 allocator = Group("resource_allocator")
 memory = Group("shared_memory")
 robot = Group("choice_loop", steps=60)
+bridge = Group("weight_limit", draws=False)
 tokens = Group("three_tokens", draws=False)
 sorter = Group("parcel_sorter", draws=False)
 mail = Group("message_header", draws=False)
@@ -707,6 +708,18 @@ def two_only_where_one_follows_the_other(run):
 def the_robot_does_one_thing(state):
     """the robot is idle, works or rests"""
     return sum(state.number(f"Robot/{it}") for it in ("Idle", "Working", "Resting")) == 1
+
+
+@bridge.marking
+def no_car_is_lost(state):
+    """each car is on one side or the other"""
+    return state.counted("Bridge/Waiting") + state.counted("Bridge/Across") == count(7, 7, 7, 12)
+
+
+@bridge.run
+def the_heavy_car_waits(run):
+    """the car of 12 tonnes stays, and the others cross"""
+    return run.end == "dead" and run.last.counted("Bridge/Waiting") == count(12)
 
 
 @tokens.marking
