@@ -1,0 +1,100 @@
+"""What is to be said of a refused text of a net document: the places that are meant, what is wanted there, and what stands there."""
+import difflib
+import functools
+import os
+import re
+
+from net_document import TOKEN
+
+TOP = os.path.dirname(os.path.dirname(os.path.abspath(__file__)))
+ROOTS = {"guard": "A guard is a truth value, or several in [ ].", "delay": "A delay is an integer."}
+PREDECLARED = {"hd": "a list", "tl": "a list", "length": "a list", "rev": "a list", "mem": "a list and an item", "size": "a string"}
+
+
+@functools.cache
+def rows(heading):
+    """Returns the rows of the table below a heading of docs/REFUSALS.md, as plain text: the other cells by the first."""
+    with open(f"{TOP}/docs/REFUSALS.md", encoding="utf-8") as page:
+        section = page.read().partition(f"\n## {heading}\n")[2].partition("\n## ")[0]
+    lines = [re.split(r"(?<!\\)\|", line)[1:-1] for line in section.splitlines() if line.startswith("|")]
+    cells = [[re.sub(r"(`+) ?(.*?) ?\1(?!`)", r"\2", cell.strip()).replace(r"\|", "|") for cell in line] for line in lines[2:]]
+    return {first: others for first, *others in cells}
+
+
+def nearest(name, names):
+    """Returns the name that was probably meant, or those that there are."""
+    names = sorted({it for it in names if isinstance(it, str)})
+    close = [it for it in names if it.lower() == name.lower()] or difflib.get_close_matches(name, names, 1, 0.5)
+    there = f"There is {', '.join(names[:12])}{' and others' * (len(names) > 12)}." if names else "There is none."
+    return f"Did you mean {close[0]}?" if close else there
+
+
+def name_facts(net, name):
+    """Returns what a name is that is predeclared or declared."""
+    if name in PREDECLARED:
+        return [f"{name} is a function of the language: it takes {PREDECLARED[name]}, in parentheses."]
+    return [f"{name} is declared by {net.declaration(name)}"] if re.fullmatch(r"\w+", name) and net.declaration(name) else []
+
+
+def mismatch_facts(net, parts, text, at):
+    """Yields what is wanted at a place of a text, by what is beside it, and what stands there."""
+    tokens, i = TOKEN.findall(text), len(TOKEN.findall(text[:at]))
+    it, before, after = tokens[i], tokens[i - 1] if i else "", (*tokens, "")[i + 1]
+    if it == "empty" or it.isdigit() and after == "`":
+        yield f"{it} begins a form for tokens, and one value is wanted here."
+    elif not i and parts[-1] in ROOTS:
+        yield ROOTS[parts[-1]]
+    for signs, (left, right) in rows("What stands beside a sign").items():
+        yield from [f"After {before} stands {right}."] if right and before in signs.split() else []
+        yield from [f"Before {after} stands {left}."] if left and after in signs.split() and not it.isdigit() else []
+    if tokens[i - 2 : i - 1] == ["#"]:
+        yield f"After #{before} stands a product with at least so many parts."
+    opened = [j for j in range(1, i) if tokens[j] == "(" and tokens[j:i].count("(") > tokens[j:i].count(")")]
+    yield from name_facts(net, tokens[opened[-1] - 1]) if opened else []
+    if parts[-1] in ("expr", "initial"):
+        owner = net.get(parts[:-1])
+        place = next(one for one in net.get(parts[:2])["places"] if one["name"] == owner.get("place", owner.get("name")))
+        yield f"The colour set of place {place['name']} is {place['colour']}: {net.declaration(place['colour'])}"
+    kind = "a string" if it[0] == '"' else "an integer" if it.strip("~").isdigit() else "a truth value" if it in ("true", "false") else ""
+    yield from [f"{it} is {kind}."] if kind else name_facts(net, it)
+
+
+def form_facts(text, at):
+    """Returns how a form of another language, which stands at a place of a text or ends before it, is written here."""
+    for form, (why, write) in rows("Forms of other languages").items():
+        for found in re.finditer(re.escape(form).replace(r"\ ", r"\s*"), text):
+            ends_before = (form.isalpha() or form == ";") and found.end() <= at and not text[found.end() : at].strip()
+            if found.start() <= at < found.end() or ends_before:
+                return [f"{form} is no form of this language: {why}. Here it is written {write}."]
+    return []
+
+
+def variable_facts(net, parts, name):
+    """Yields where a variable of a transition stands."""
+    module, transition = net.get(parts[:2]), net.get(parts)
+    texts = [[*parts, key] for key in ("guard", "delay") if key in transition]
+    texts += [[*parts[:2], "arcs", str(i), "expr"] for i, it in enumerate(module["arcs"]) if it["transition"] == transition["name"] and "expr" in it]
+    yield from (f"It stands in {net.words(it)}: {net.get(it)}" for it in texts if name in TOKEN.findall(net.get(it)))
+    yield from name_facts(net, name)
+
+
+def text_facts(net, parts, key, detail):
+    """Returns the places of a text that a refusal means, and what is to be said."""
+    text = net.get(parts)
+    if key == "type 5 not_bindable":
+        return [], [*variable_facts(net, parts, detail)]
+    if key in ("lex 4 too_long", "syntax 2 end_of_text"):
+        return [len(text)], [f"It has {len(text.encode()):,} bytes."] if key == "lex 4 too_long" else []
+    if key == "type 3 mismatch":
+        at = int(detail)
+        return [at], [*mismatch_facts(net, parts, text, at)]
+    if detail.isdigit():
+        at = len(text.encode()[: int(detail)].decode(errors="ignore"))
+        before = TOKEN.findall(text[:at])[-1:] if key == "syntax 1 unexpected" else []
+        return [at], form_facts(text, at) or name_facts(net, *before or [""])
+    ats = [it.start() for it in TOKEN.finditer(text) if it[0] == detail] if isinstance(text, str) else []
+    said = name_facts(net, detail)
+    if key == "type 1 unknown" and not said:
+        known = [it for it in {*TOKEN.findall(" ".join(net.document["declarations"])), *PREDECLARED} if name_facts(net, it)]
+        said = (form_facts(text, ats[0]) if ats else []) or [nearest(detail, known)]
+    return ats, said
