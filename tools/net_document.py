@@ -1,4 +1,4 @@
-"""A net document as its author sees it: where each value stands in the file, which keys stand twice, and what each object is in words."""
+"""A net document as its author sees it: where each value stands in the file, which keys stand twice, what an object is called."""
 import collections
 import functools
 import json
@@ -14,7 +14,13 @@ CLOSED = {"}": re.compile(BLANKS + "(}?)"), "]": re.compile(BLANKS + r"(\]?)")}
 UNIT = re.compile(r"\\u[dD][89abAB]..\\u....|\\u....|\\.|.", re.S)  # one character of a JSON string
 NAME = r"[A-Za-z](?:[A-Za-z0-9_ -]{0,62}[A-Za-z0-9_-])?"
 TOKEN = re.compile(r'"(?:[^"\\]|\\.)*"?|[A-Za-z]\w*|~?\d+|::|\^\^|\+\+|@\+|<>|<=|>=|=>|\.\.|\S')
-THINGS = {"modules": "module", "places": "place", "transitions": "transition", "subs": "substitution transition", "fusions": "fusion set"}
+THINGS = {
+    "modules": "module",
+    "places": "place",
+    "transitions": "transition",
+    "subs": "substitution transition",
+    "fusions": "fusion set",
+}
 KEYS = {"assign": "assignments", "expr": "inscription", "initial": "initial marking", "colour": "colour set", "to": "direction"}
 
 
@@ -138,7 +144,7 @@ class Net:
         if form != r"\.\.":
             return re.search(form, self.unfolded(self.get(pointer.split("/")[1:]), "val|fun"))
         places = {it["name"]: it["colour"] for it in module["places"]}
-        return "place" in owner and ".." in self.unfolded(places[owner["place"]], "colset") or ".." in self.unfolded(owner.get("colour", ""), "colset")
+        return ".." in self.unfolded(owner.get("colour") or places.get(owner.get("place"), ""), "colset")
 
     # ---- the flat net
 
@@ -181,7 +187,7 @@ def join(beside, one, other):
 
 
 def marked(text, ats):
-    """Yields the line of a text that has the first of some places, and a line with a mark under each of them."""
+    """Yields the line of a text that has the first of some of its characters, and a line with a mark under each of them."""
     start = max(text.rfind("\n", 0, ats[0]) + 1, ats[0] - 60)
     line = text[start : start + 110].partition("\n")[0]
     yield "    " + "".join(it if it.isprintable() else "?" for it in line)

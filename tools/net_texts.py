@@ -1,4 +1,7 @@
-"""What is to be said of a refused text of a net document: the places that are meant, what is wanted there, and what stands there."""
+"""What is to be said of a refused text of a net document: which of its characters are meant, and what is wanted there.
+
+The causes, the cures, and what stands beside a sign are the tables of docs/REFUSALS.md.
+"""
 import difflib
 import functools
 import os
@@ -7,8 +10,9 @@ import re
 from net_document import TOKEN
 
 TOP = os.path.dirname(os.path.dirname(os.path.abspath(__file__)))
-ROOTS = {"guard": "A guard is a truth value, or several in [ ].", "delay": "A delay is an integer."}
-PREDECLARED = {"hd": "a list", "tl": "a list", "length": "a list", "rev": "a list", "mem": "a list and an item", "size": "a string"}
+ROOTS = {"guard": "In a guard a truth value is wanted, or several in [ ].", "delay": "In a delay an integer is wanted."}
+TABLES = ("The document", "The texts", "The modules and the flat net", "How a run ends")
+PREDECLARED = {**dict.fromkeys(("hd", "tl", "length", "rev"), "a list"), "mem": "a list and an item", "size": "a string"}
 
 
 @functools.cache
@@ -19,6 +23,11 @@ def rows(heading):
     lines = [re.split(r"(?<!\\)\|", line)[1:-1] for line in section.splitlines() if line.startswith("|")]
     cells = [[re.sub(r"(`+) ?(.*?) ?\1(?!`)", r"\2", cell.strip()).replace(r"\|", "|") for cell in line] for line in lines[2:]]
     return {first: others for first, *others in cells}
+
+
+def refusals():
+    """Returns what each refusal and each end of a run says, its usual cause and its cure."""
+    return {key: cells for heading in TABLES for key, cells in rows(heading).items()}
 
 
 def nearest(name, names):
@@ -37,7 +46,7 @@ def name_facts(net, name):
 
 
 def mismatch_facts(net, parts, text, at):
-    """Yields what is wanted at a place of a text, by what is beside it, and what stands there."""
+    """Yields what is wanted at a character of a text, by what is beside it, and what stands there."""
     tokens, i = TOKEN.findall(text), len(TOKEN.findall(text[:at]))
     it, before, after = tokens[i], tokens[i - 1] if i else "", (*tokens, "")[i + 1]
     if it == "empty" or it.isdigit() and after == "`":
@@ -45,27 +54,27 @@ def mismatch_facts(net, parts, text, at):
     elif not i and parts[-1] in ROOTS:
         yield ROOTS[parts[-1]]
     for signs, (left, right) in rows("What stands beside a sign").items():
-        yield from [f"After {before} stands {right}."] if right and before in signs.split() else []
-        yield from [f"Before {after} stands {left}."] if left and after in signs.split() and not it.isdigit() else []
+        yield from [f"After {before} {right} is wanted."] if right and before in signs.split() else []
+        yield from [f"Before {after} {left} is wanted."] if left and after in signs.split() and not it.isdigit() else []
     if tokens[i - 2 : i - 1] == ["#"]:
-        yield f"After #{before} stands a product with at least so many parts."
+        yield f"After #{before} a product with at least so many parts is wanted."
     opened = [j for j in range(1, i) if tokens[j] == "(" and tokens[j:i].count("(") > tokens[j:i].count(")")]
     yield from name_facts(net, tokens[opened[-1] - 1]) if opened else []
     if parts[-1] in ("expr", "initial"):
         owner = net.get(parts[:-1])
         place = next(one for one in net.get(parts[:2])["places"] if one["name"] == owner.get("place", owner.get("name")))
         yield f"The colour set of place {place['name']} is {place['colour']}: {net.declaration(place['colour'])}"
-    kind = "a string" if it[0] == '"' else "an integer" if it.strip("~").isdigit() else "a truth value" if it in ("true", "false") else ""
-    yield from [f"{it} is {kind}."] if kind else name_facts(net, it)
+    kinds = (r'".*', "a string"), (r"~?\d+", "an integer"), ("true|false", "a truth value")
+    yield from [f"{it} is {kind}." for form, kind in kinds if re.fullmatch(form, it)] or name_facts(net, it)
 
 
 def form_facts(text, at):
-    """Returns how a form of another language, which stands at a place of a text or ends before it, is written here."""
+    """Returns how a form of another language, which stands at a character of a text or ends before it, is written here."""
     for form, (why, write) in rows("Forms of other languages").items():
         for found in re.finditer(re.escape(form).replace(r"\ ", r"\s*"), text):
             ends_before = (form.isalpha() or form == ";") and found.end() <= at and not text[found.end() : at].strip()
             if found.start() <= at < found.end() or ends_before:
-                return [f"{form} is no form of this language: {why}. Here it is written {write}."]
+                return [f"{form} is no form of this language: {why}. Write {write}."]
     return []
 
 
@@ -73,13 +82,14 @@ def variable_facts(net, parts, name):
     """Yields where a variable of a transition stands."""
     module, transition = net.get(parts[:2]), net.get(parts)
     texts = [[*parts, key] for key in ("guard", "delay") if key in transition]
-    texts += [[*parts[:2], "arcs", str(i), "expr"] for i, it in enumerate(module["arcs"]) if it["transition"] == transition["name"] and "expr" in it]
+    arcs = [(i, it) for i, it in enumerate(module["arcs"]) if it["transition"] == transition["name"]]
+    texts += [[*parts[:2], "arcs", str(i), "expr"] for i, it in arcs if "expr" in it]
     yield from (f"It stands in {net.words(it)}: {net.get(it)}" for it in texts if name in TOKEN.findall(net.get(it)))
     yield from name_facts(net, name)
 
 
 def text_facts(net, parts, key, detail):
-    """Returns the places of a text that a refusal means, and what is to be said."""
+    """Returns which characters of a text a refusal means, and what is to be said."""
     text = net.get(parts)
     if key == "type 5 not_bindable":
         return [], [*variable_facts(net, parts, detail)]
