@@ -12,6 +12,8 @@ from net_document import TOKEN
 TOP = os.path.dirname(os.path.dirname(os.path.abspath(__file__)))
 ROOTS = {"guard": "In a guard a truth value is wanted, or several in [ ].", "delay": "In a delay an integer is wanted."}
 TABLES = ("The document", "The texts", "The modules and the flat net", "How a run ends")
+TYPES = {"int": "an integer", "string": "a string", "bool": "a truth value"}
+LITERALS = ((r'".*', "a string"), (r"~?\d+", "an integer"), ("true|false", "a truth value"))
 PREDECLARED = {**dict.fromkeys(("hd", "tl", "length", "rev"), "a list"), "mem": "a list and an item", "size": "a string"}
 
 
@@ -45,6 +47,20 @@ def name_facts(net, name):
     return [f"{name} is declared by {net.declaration(name)}"] if re.fullmatch(r"\w+", name) and net.declaration(name) else []
 
 
+def type_of(net, token):
+    """Returns the type of a literal or a variable in words, where it is one of the simple ones."""
+    for form, kind in LITERALS:
+        if re.fullmatch(form, token):
+            return kind
+    text = net.declaration(token) if re.fullmatch(r"\w+", token) else ""
+    for _ in net.document["declarations"]:
+        found = re.match(r"var\b[^:]*:\s*(\w+)|colset\s+\w+\s*=\s*(\w+)", text)
+        if not found or (found[2] or "") in TYPES:
+            return TYPES[found[2]] if found else ""
+        text = net.declaration(found[1] or found[2])
+    return ""
+
+
 def mismatch_facts(net, parts, text, at):
     """Yields what is wanted at a character of a text, by what is beside it, and what stands there."""
     tokens, i = TOKEN.findall(text), len(TOKEN.findall(text[:at]))
@@ -55,7 +71,9 @@ def mismatch_facts(net, parts, text, at):
         yield ROOTS[parts[-1]]
     for signs, (left, right) in rows("What stands beside a sign").items():
         yield from [f"After {before} {right} is wanted."] if right and before in signs.split() else []
-        yield from [f"Before {after} {left} is wanted."] if left and after in signs.split() and not it.isdigit() else []
+        if left and after in signs.split() and it != "empty" and not (after == "`" and it.isdigit()):
+            is_whole = f"All of {it} {after} .. is of another type than its context wants."
+            yield is_whole if type_of(net, it) == left else f"Before {after} {left} is wanted."
     if tokens[i - 2 : i - 1] == ["#"]:
         yield f"After #{before} a product with at least so many parts is wanted."
     opened = [j for j in range(1, i) if tokens[j] == "(" and tokens[j:i].count("(") > tokens[j:i].count(")")]
@@ -64,8 +82,8 @@ def mismatch_facts(net, parts, text, at):
         owner = net.get(parts[:-1])
         place = next(one for one in net.get(parts[:2])["places"] if one["name"] == owner.get("place", owner.get("name")))
         yield f"The colour set of place {place['name']} is {place['colour']}: {net.declaration(place['colour'])}"
-    kinds = (r'".*', "a string"), (r"~?\d+", "an integer"), ("true|false", "a truth value")
-    yield from [f"{it} is {kind}." for form, kind in kinds if re.fullmatch(form, it)] or name_facts(net, it)
+    yield from [f"{it} is {type_of(net, it)}."] if type_of(net, it) else []
+    yield from name_facts(net, it)
 
 
 def form_facts(text, at):
@@ -95,11 +113,10 @@ def text_facts(net, parts, key, detail):
         return [], [*variable_facts(net, parts, detail)]
     if key in ("lex 4 too_long", "syntax 2 end_of_text"):
         return [len(text)], [f"It has {len(text.encode()):,} bytes."] if key == "lex 4 too_long" else []
-    if key == "type 3 mismatch":
-        at = int(detail)
-        return [at], [*mismatch_facts(net, parts, text, at)]
     if detail.isdigit():
-        at = len(text.encode()[: int(detail)].decode(errors="ignore"))
+        at = int(detail)  # in bytes, which are characters: a text is refused at its first character past ASCII
+        if key == "type 3 mismatch":
+            return [at], [*mismatch_facts(net, parts, text, at)]
         before = TOKEN.findall(text[:at])[-1:] if key == "syntax 1 unexpected" else []
         return [at], form_facts(text, at) or name_facts(net, *before or [""])
     ats = [it.start() for it in TOKEN.finditer(text) if it[0] == detail] if isinstance(text, str) else []
