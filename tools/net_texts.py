@@ -71,7 +71,7 @@ def mismatch_facts(net, parts, text, at):
         yield ROOTS[parts[-1]]
     for signs, (left, right) in rows("What stands beside a sign").items():
         yield from [f"After {before} {right} is wanted."] if right and before in signs.split() else []
-        if left and after in signs.split() and it != "empty" and not (after == "`" and it.isdigit()):
+        if left and after in signs.split() and not (after == "`" and it.isdigit()):
             is_whole = f"All of {it} {after} .. is of another type than its context wants."
             yield is_whole if type_of(net, it) == left else f"Before {after} {left} is wanted."
     if tokens[i - 2 : i - 1] == ["#"]:
