@@ -1,9 +1,9 @@
 """The rows of tests/texts/*.txt and of the blocks ```texts of docs/*.md: a text of the inscription language at one place of
 nets/every_colour.json, and what becomes of it.
 
-    PLACE: TEXT ==> ANSWER
+    WHERE: TEXT ==> ANSWER
 
-PLACE   decl            a further declaration, behind the others
+WHERE   decl            a further declaration, after the others
         colour          the colour set of the place Here
         init COLOUR     the initial marking of Here, of that colour set
         out COLOUR      the arc from t to Here, of that colour set
@@ -11,16 +11,20 @@ PLACE   decl            a further declaration, behind the others
         both COLOUR     an arc both ways instead
         guard           the guard of t
         delay           the delay of t
-ANSWER  TOKENS          the document is served, t occurs once, and these tokens are on Here at the end
+        transition      a further key of t with its value, in JSON
+        place           such a key of Here, in place of its own where it has that key
+ANSWER  TOKENS          the document is accepted, t occurs once, and these tokens are on Here at the end
         ok              the same with 1`7 on Here, as without the text
         .. of N         the same, and t is enabled with N bindings at first. They are ordered by their values, numbered from 0,
                         and word 0 of seed 0, which is 2354861276966075475, modulo N is the number of the one that occurs
-        idle            it is served, and t is not enabled
+        accepted        the document is accepted, whatever the report says
+        idle            it is accepted, and t is not enabled
         fault NAME      the inscription of the arc, or the initial marking, has that fault
         PART K NAME ..  the text is refused: error inscription POINTER PART K NAME .., with the pointer of the text, or with
                         that of t where its variables are refused
+        document ..     the document is refused: error document .., with the whole pointer
 
-A line `declared: DECLARATION; DECLARATION; ..` puts declarations behind those of the net, for the rows that follow it, up to
+A line `declared: DECLARATION; DECLARATION; ..` puts declarations after those of the net, for the rows that follow it, up to
 a blank line; each ends with its `;`, and no other `;` stands in it. A line `tokens: TOKENS` makes these the initial marking of
 Here, written as a report prints it, for the rows that follow it, up to a blank line or the next such line. A line that begins
 with # is a comment. In declarations, texts and answers \\xNN stands for a byte, and <1..3: a#> stands for a1a2a3.
@@ -110,8 +114,11 @@ def document_of(row, net, written):
         arc |= {"to": {"out": "place", "in": "transition", "both": "both"}[row.kind], "expr": text(row.text)}
     elif row.kind in ("guard", "delay"):
         module["transitions"][0][row.kind] = text(row.text)
+    elif row.kind in ("transition", "place"):
+        module[f"{row.kind}s"][0] |= json.loads("{" + text(row.text) + "}")
+        arc["place"] = here["name"]
     else:
-        raise ValueError(f"{row.kind} is no place of a text")
+        raise ValueError(f"a text does not stand at {row.kind}")
     return document
 
 
@@ -122,6 +129,8 @@ def answer_of(row, document, written):
         answer, ways = found[1], int(found[2])
     if re.match("(lex|syntax|type) ", answer):
         return f"error inscription {pointer_of(row, document)} {answer}\n", 4
+    if answer.startswith("document "):
+        return f"error {answer}\n", 3
     if answer.startswith("fault "):
         name = answer.removeprefix("fault ")
         if row.kind == "init":
