@@ -1,0 +1,5 @@
+pub mod Monitors
+pub mod Steps
+pub mod MonitorValues
+pub mod Stops
+pub mod Views

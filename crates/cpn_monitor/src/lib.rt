@@ -1,0 +1,12 @@
+//! Monitors: what is to be measured of a run, and what was measured.
+//!
+//! `specs/` says what a monitor's values are, as functions of the occurrences of a run with the marking after each, of its start and its
+//! last clock; the data of the program stands for the plain data there. The crate has no function: it reads no text, makes no run, and
+//! knows nothing of claims.
+#![tactic(auto)]
+
+mod monitors;
+mod values;
+
+pub use monitors::{Bound, Measure, Monitor, Monitors};
+pub use values::{Measured, MonitorValue, Values14};
