@@ -44,7 +44,7 @@ pub fn simulate<S: Source, K: Sink>(
     ensures read { result ≡ Status.ReadFault → GiveOptions (map string_bytes words.now) × Rose (S.faults source.old) (S.faults source.new) }
     ensures long { result ≡ Status.TooLong → GiveOptions (map string_bytes words.now) × IfSome (S.left source.old) (λ bytes. most_bytes < length bytes) }
     // The document is refused: as no JSON value, for its form, or as not served yet; for a text or the variables of a
-    // transition; or for an initial marking.
+    // transition; or for its modules, for too many instances, or for an initial marking.
     ensures document { result ≡ Status.BadDocument → GiveOptions (map string_bytes words.now) × ((refusal : DocumentRefusal)
         × (status_of_document refusal ≡ Status.BadDocument) × Appends (K.held sink.old) (K.held sink.new) (refusal_line refusal)
         × IfSome (S.left source.old) (λ bytes. (length bytes ≤ most_bytes) × IsReadAs bytes (refused refusal))) }

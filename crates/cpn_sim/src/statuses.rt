@@ -19,7 +19,7 @@ pub enum Status {
     BadDocument = 3,
     /// A text of the document, or the variables of a transition, are not accepted.
     BadInscription = 4,
-    /// An initial marking of the document has a fault.
+    /// The modules of the document make no hierarchy, it has too many instances, or an initial marking has a fault or differs from another.
     BadNet = 5,
     /// The whole report was written, and its run ended by the fault of an element's outputs.
     RunFault = 6,
