@@ -1,4 +1,4 @@
-//! Of which values on which places the stamps changed.
+//! How the changes of a marking are gathered.
 
 ghost use Rattle.std.specs.Prelude.{◌≡◌, map, length, IfOk, OnOk};
 ghost use Rattle.std.specs.List.{filter, slice_get};
@@ -6,93 +6,63 @@ ghost use Rattle.cpn_definitions.specs.Lists.{IsInOrder};
 ghost use Rattle.cpn_definitions.specs.Marking.{stamps, tokens_at};
 ghost use Rattle.cpn_definitions.specs.Occurrence.{made_cmp, needed_cmp};
 ghost use Rattle.cpn_core.specs.Views.{value_view};
-ghost use Rattle.cpn_log.specs.Changed.{and_then, differs, each_once, ends_with, made_change, need_change, same_stamps};
-ghost use Rattle.cpn_log.specs.ChangedViews.{change_views, changes_view};
+ghost use Rattle.cpn_tmset.specs.ChangedViews.{change_views, changes_view};
+ghost use Rattle.cpn_log.specs.Gathered.{and_then, differs, each_once, ends_with, made_change, need_change, same_stamps};
 
 use cpn_core::{Memory, Needs, Outputs, Value};
-use cpn_tmset::Marking;
-use smallvec::SmallVec;
+use cpn_tmset::{Change, Changes, Marking};
 use std::alloc::Global;
 
-/// A value on a place.
-#[derive(Default, Drop)]
-pub struct Change {
-    /// The number of the place.
-    pub place: u32,
-    /// The value.
-    pub value: Value,
+/// The places and values of needs, each once.
+pub(crate) fn changes_of_needs(alloc: Global, needs: &Needs) -> Result<Changes, Memory>
+    ensures told { IfOk result (λ changes. changes_view changes ≡ each_once (map need_change needs.now)) }
+    ensures in_order { IsInOrder needed_cmp needs.now }
+{
+    let tokens = needs.tokens();
+    let mut changes = Changes::new(alloc);
+    for need in tokens {
+        tell(&mut changes, need.place, &need.value)?;
+    }
+    Ok(changes)
 }
 
-/// The places and values whose time stamps changed, each once, by place and then by value.
-///
-/// Source: own choice.
-#[derive(Drop)]
-pub struct Changes {
-    items: SmallVec<Change, 2>,
+/// Those of outputs, each once.
+pub(crate) fn changes_of_outputs(alloc: Global, outputs: &Outputs) -> Result<Changes, Memory>
+    ensures told { IfOk result (λ changes. changes_view changes ≡ each_once (map made_change outputs.now)) }
+    ensures in_order { IsInOrder made_cmp outputs.now }
+{
+    let tokens = outputs.tokens();
+    let mut changes = Changes::new(alloc);
+    for made in tokens {
+        tell(&mut changes, made.place, &made.value)?;
+    }
+    Ok(changes)
 }
 
-impl Changes {
-    /// The places and values, in their order.
-    pub fn items(&self) -> &[Change]
-        ensures { change_views result.now ≡ changes_view self.now }
-    {
-        self.items.as_slice()
-    }
-
-    /// Those of needs, each once.
-    pub(crate) fn of_needs(alloc: Global, needs: &Needs) -> Result<Changes, Memory>
-        ensures told { IfOk result (λ changes. changes_view changes ≡ each_once (map need_change needs.now)) }
-        ensures in_order { IsInOrder needed_cmp needs.now }
-    {
-        let tokens = needs.tokens();
-        let mut items = SmallVec::new(alloc);
-        for need in tokens {
-            tell(&mut items, need.place, &need.value)?;
+/// Those of the items whose stamps differ in the two markings, each once.
+pub(crate) fn changes_among(
+    alloc: Global,
+    touched: &[Change],
+    old: &Marking,
+    new: &Marking,
+) -> Result<Changes, Memory>
+    ensures { IfOk result (λ changes. changes_view changes ≡ each_once (filter (differs old.now new.now) (change_views touched.now))) }
+{
+    let mut changes = Changes::new(alloc);
+    for change in touched {
+        if !have_same_stamps(old, new, change) {
+            tell(&mut changes, change.place, &change.value)?;
         }
-        Ok(Changes { items })
     }
-
-    /// Those of outputs, each once.
-    pub(crate) fn of_outputs(alloc: Global, outputs: &Outputs) -> Result<Changes, Memory>
-        ensures told { IfOk result (λ changes. changes_view changes ≡ each_once (map made_change outputs.now)) }
-        ensures in_order { IsInOrder made_cmp outputs.now }
-    {
-        let tokens = outputs.tokens();
-        let mut items = SmallVec::new(alloc);
-        for made in tokens {
-            tell(&mut items, made.place, &made.value)?;
-        }
-        Ok(Changes { items })
-    }
-
-    /// Those of the items whose stamps differ in the two markings, each once.
-    pub(crate) fn among(
-        alloc: Global,
-        touched: &[Change],
-        old: &Marking,
-        new: &Marking,
-    ) -> Result<Changes, Memory>
-        ensures { IfOk result (λ changes. changes_view changes ≡ each_once (filter (differs old.now new.now) (change_views touched.now))) }
-    {
-        let mut items = SmallVec::new(alloc);
-        for change in touched {
-            if !have_same_stamps(old, new, change) {
-                tell(&mut items, change.place, &change.value)?;
-            }
-        }
-        Ok(Changes { items })
-    }
+    Ok(changes)
 }
 
 // Appends the value on the place, unless it stands last already.
-fn tell(items: &mut SmallVec<Change, 2>, place: u32, value: &Value) -> Result<(), Memory>
-    ensures { OnOk result (change_views items.new.items ≡ and_then (record { place = place; value = value_view value.now }) (change_views items.old.items)) }
+fn tell(changes: &mut Changes, place: u32, value: &Value) -> Result<(), Memory>
+    ensures { OnOk result (changes_view changes.new ≡ and_then (record { place = place; value = value_view value.now }) (changes_view changes.old)) }
 {
-    if !stands_last(items.as_slice(), place, value) {
-        items.push(Change {
-            place,
-            value: value.copy()?,
-        })?;
+    if !stands_last(changes.items(), place, value) {
+        changes.push(place, value.copy()?)?;
     }
     Ok(())
 }

@@ -1,9 +1,9 @@
 -- Those so far stand there, each once.
 use Rattle.std.proofs.Common.{◌≡◌, map, take}
 use Rattle.cpn_core.specs.OutputsViews.{made_views}
-use Rattle.cpn_log.specs.Changed.{each_once, made_change}
-use Rattle.cpn_log.specs.ChangedViews.{change_views}
-use Rattle.cpn_log.proofs.changed.Changes.of_outputs.Given as goal
+use Rattle.cpn_log.specs.Gathered.{each_once, made_change}
+use Rattle.cpn_tmset.specs.ChangedViews.{changes_view}
+use Rattle.cpn_log.proofs.gathered.changes_of_outputs.Given as goal
 
 abbrev pub invariant-loop-made : goal.invariant-loop-made
-invariant-loop-made l = change_views l.items.items ≡ each_once (map made_change (made_views (take l.made-index l.tokens)))
+invariant-loop-made l = changes_view l.changes ≡ each_once (map made_change (made_views (take l.made-index l.tokens)))
