@@ -18,7 +18,8 @@ use Rattle.cpn_log.specs.Logs.{PlainLog, head_of, heads, claims_made, made_and_d
 use Rattle.cpn_log.specs.LogViews.{log_view, jobs_in}
 use Rattle.cpn_runs.specs.HoleRun.{PlainClaim, done_with, marking_left}
 use Rattle.cpn_runs.specs.Playable.{IsPlayable}
-use Rattle.cpn_runs.specs.State.{PlainSetup, PlainState, PlainOccurrence, claim_made, claim_completed, given_needs, new_claim, numbered, status_after}
+use Rattle.cpn_definitions.specs.Legal.{PlainOccurrence}
+use Rattle.cpn_runs.specs.State.{PlainSetup, PlainState, claim_made, claim_completed, given_needs, new_claim, numbered, status_after}
 use Rattle.cpn_runs.proofs.BoundedStates.{claim_has_few_outputs}
 use Rattle.cpn_book.specs.StandingRuns.{StandsAt}
 use Rattle.cpn_book.proofs.MadeClaims.{IsNextClaim}

@@ -6,7 +6,7 @@ use Rattle.std.specs.Prelude.{MatchOption}
 use Rattle.std.proofs.lemmas.Option.{same_Some}
 use Rattle.cpn_core.specs.Elements.{entry_view}
 use Rattle.cpn_definitions.specs.Enabled.{Enabled, ready, next_time, IsDead}
-use Rattle.cpn_definitions.specs.Legal.{LeastTime}
+use Rattle.cpn_definitions.specs.Legal.{LeastTime, PlainOccurrence}
 use Rattle.cpn_definitions.specs.Marking.{Marking}
 use Rattle.cpn_log.specs.Logs.{claims_made}
 use Rattle.cpn_log.specs.LogViews.{log_view}
@@ -15,7 +15,7 @@ use Rattle.cpn_jobs.specs.Work.{PlainWork}
 use Rattle.cpn_runs.specs.HoleRun.{is_open, marking_left}
 use Rattle.cpn_runs.specs.Playable.{IsPlayable}
 use Rattle.cpn_runs.specs.Run.{Outlook, HasOutlook, PlainFinished, IsRun}
-use Rattle.cpn_runs.specs.State.{PlainSetup, PlainState, PlainEvent, PlainCut, PlainEnd, dead, steps_made, until_passed, fault_end, IsState, PlainOccurrence, EndsBy, HasCause, unclaimed_in, settled_in}
+use Rattle.cpn_runs.specs.State.{PlainSetup, PlainState, PlainEvent, PlainCut, PlainEnd, dead, steps_made, until_passed, fault_end, IsState, EndsBy, HasCause, unclaimed_in, settled_in}
 use Rattle.cpn_runs.specs.FinishedViews.{setup_view, outlook_view}
 use Rattle.cpn_runs.proofs.Journals.{marking_is_start}
 use Rattle.cpn_runs.proofs.States.{one_state, least_is_unique}

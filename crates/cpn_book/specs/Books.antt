@@ -7,7 +7,8 @@ use Rattle.cpn_jobs.specs.Work.{PlainWork}
 use Rattle.cpn_log.specs.LogViews.{log_view}
 use Rattle.cpn_runs.specs.Playable.{IsPlayable}
 use Rattle.cpn_runs.specs.Run.{HasOutlook, PlainFinished}
-use Rattle.cpn_runs.specs.State.{PlainSetup, PlainEvent, PlainState, PlainEnd, PlainOccurrence, IsState}
+use Rattle.cpn_definitions.specs.Legal.{PlainOccurrence}
+use Rattle.cpn_runs.specs.State.{PlainSetup, PlainEvent, PlainState, PlainEnd, IsState}
 use Rattle.cpn_runs.specs.FinishedViews.{setup_view, outlook_view}
 use Rattle.cpn_search.specs.CoveredNeeds.{StandBeside}
 use Rattle.cpn_book.specs.Standings.{events_in, occurrences_in, IsAt, HasCommitted}

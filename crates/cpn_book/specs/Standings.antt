@@ -10,8 +10,10 @@ use Rattle.cpn_jobs.specs.Work.{PlainJob, work_of}
 use Rattle.cpn_log.specs.Logs.{PlainHead, head_of, heads, begin_done}
 use Rattle.cpn_log.specs.LogViews.{log_view, jobs_in}
 use Rattle.cpn_runs.specs.HoleRun.{PlainClaim, is_done, marking_left}
-use Rattle.cpn_runs.specs.State.{PlainSetup, PlainEvent, PlainState, PlainCut, PlainOccurrence, given_needs, status_after, numbered, owed_cut}
-use Rattle.cpn_runs.specs.Views.{end_view, event_view, occurrence_view}
+use Rattle.cpn_definitions.specs.Legal.{PlainOccurrence}
+use Rattle.cpn_runs.specs.State.{PlainSetup, PlainEvent, PlainState, PlainCut, given_needs, status_after, numbered, owed_cut}
+use Rattle.cpn_core.specs.Occurrences.{occurrence_view}
+use Rattle.cpn_runs.specs.Views.{end_view, event_view}
 use Rattle.cpn_book.specs.StandingRuns.{IsTold}
 use Rattle.cpn_book.specs.declared.standings.Cut.{Cut}
 use Rattle.cpn_book.specs.declared.standings.Standing.{Standing}

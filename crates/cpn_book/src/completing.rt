@@ -20,9 +20,9 @@ ghost use Rattle.cpn_book.specs.Tickets.{evaluated_number, evaluated_job};
 
 use crate::standings::{Cut, Standing};
 use crate::tickets::Evaluated;
-use cpn_core::{EvalFault, Memory, Outputs};
+use cpn_core::{EvalFault, Memory, Occurrence, Outputs};
 use cpn_log::{ClaimState, Log};
-use cpn_runs::{End, Event, Occurrence, Setup};
+use cpn_runs::{End, Event, Setup};
 
 /// Completes the claim that a seat holds: with its outputs, or with their fault. Then what can be committed is committed, and a cut
 /// that is owed is made. It leaves room in the journal for one event more.

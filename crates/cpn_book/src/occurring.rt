@@ -20,9 +20,9 @@ use crate::claiming::make_claim;
 use crate::completing::complete_claim;
 use crate::standings::Standing;
 use crate::tickets::Evaluated;
-use cpn_core::{Memory, Needs, Outputs};
+use cpn_core::{Memory, Needs, Occurrence, Outputs};
 use cpn_jobs::Job;
-use cpn_runs::{Event, Occurrence, Setup};
+use cpn_runs::{Event, Setup};
 use std::sync::Arc;
 
 /// Makes the claim of seat 0 that is drawn and evaluated, where no claim is open, and completes it. It leaves room in the journal for one

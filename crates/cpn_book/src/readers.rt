@@ -2,10 +2,10 @@
 
 ghost use Rattle.std.specs.Prelude.{◌≡◌, ◌≤◌, ◌-◌, ◌^◌, Some, false, map};
 ghost use Rattle.cpn_definitions.specs.Bounds.{IsBounded};
-ghost use Rattle.cpn_definitions.specs.Legal.{Legal};
+ghost use Rattle.cpn_definitions.specs.Legal.{Legal, timed};
 ghost use Rattle.cpn_definitions.specs.Sound.{IsMarking};
 ghost use Rattle.cpn_runs.specs.FinishedViews.{setup_view};
-ghost use Rattle.cpn_runs.specs.State.{unclaimed_in, settled_in, committed_occurrences, timed};
+ghost use Rattle.cpn_runs.specs.State.{unclaimed_in, settled_in, committed_occurrences};
 ghost use Rattle.cpn_runs.specs.Views.{event_view};
 ghost use Rattle.cpn_book.specs.Books.{setup_in, journal_in, is_spent_in, InState, IsBook};
 ghost use Rattle.cpn_book.specs.States.{AreReady, IsNextTime, open_claims};

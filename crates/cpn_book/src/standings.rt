@@ -12,11 +12,11 @@ ghost use Rattle.cpn_book.specs.Standings.{IsAt};
 ghost use Rattle.cpn_book.specs.Tickets.{evaluated_number, evaluated_job};
 
 use crate::tickets::Evaluated;
-use cpn_core::Memory;
+use cpn_core::{Memory, Occurrence};
 use cpn_draw::Draw;
 use cpn_jobs::Job;
 use cpn_log::{ClaimState, Log};
-use cpn_runs::{End, Event, Occurrence, Setup};
+use cpn_runs::{End, Event, Setup};
 use std::alloc::Global;
 use std::sync::Arc;
 

@@ -7,6 +7,7 @@ pub mod BindingCode
 pub mod Inscriptions
 pub mod Nets
 pub mod Elements
+pub mod Occurrences
 pub mod Code
 pub mod Faults
 pub mod NeedsViews

@@ -1,5 +1,5 @@
 //! The data of nets: values with their order, colour sets with the values that they admit, nets with their
-//! inscriptions, bindings, and the tokens that a binding element needs and makes. Each stands for the plain data
+//! inscriptions, bindings, occurrences, and the tokens that a binding element needs and makes. Each stands for the plain data
 //! of the definitions, and its calls answer exactly what the definitions say. `Memory` and `Text` of `cpn_memory`
 //! are passed on. The crate evaluates no inscription, knows nothing of what is enabled, and reads and writes
 //! nothing outside the program.
@@ -14,6 +14,7 @@ mod inscriptions;
 mod needed;
 mod needs;
 mod nets;
+mod occurrences;
 mod outputs;
 mod small;
 mod values;
@@ -30,5 +31,6 @@ pub use inscriptions::{
 pub use needed::Needed;
 pub use needs::Needs;
 pub use nets::{Net, Place, PlaceArc, Transition, Variable};
+pub use occurrences::Occurrence;
 pub use outputs::{Made, Outputs};
 pub use values::{Value, Values, copy_values};

@@ -28,15 +28,15 @@ thresholds_for latest p v needs = map latest (filter (is_for p v) needs)
 pub sorted_without : (p : ℕ) (v : PlainValue) (t : ℕ) (m : Marking) → AllAreSorted m → AllAreSorted (on_place p (without_token v t) m)
 sorted_without p v t m sorted = tokens_on_place (λ q ks. AreSorted ks) p (without_token v t) m sorted (λ at. without_token_sorted v t (tokens_at m p) at)
 
--- the stamps of a value on a place after one token was taken
-pub taken : (p : ℕ) (v : PlainValue) (latest : Needed → ℕ) (need : Needed) (m : Marking) → AllAreSorted m → (b : Bool) → is_for p v need ≡ b → stamps v (tokens_at (on_place need.place (without_token need.value (latest need)) m) p) ≡ cond b (without_latest (latest need) (stamps v (tokens_at m p))) (stamps v (tokens_at m p))
+-- the stamps of a value on a place after one token was taken from a place that is sorted
+pub taken : (p : ℕ) (v : PlainValue) (latest : Needed → ℕ) (need : Needed) (m : Marking) → AreSorted (tokens_at m need.place) → (b : Bool) → is_for p v need ≡ b → stamps v (tokens_at (on_place need.place (without_token need.value (latest need)) m) p) ≡ cond b (without_latest (latest need) (stamps v (tokens_at m p))) (stamps v (tokens_at m p))
 taken p v latest need m sorted true is =
     let parts = and_parts (p == need.place) (same_value v need.value) is in
     let at : p ≡ need.place = eqb-true p need.place parts.0 in
     let value : v ≡ need.value = same_value_true v need.value parts.1 in
     subst (λ (q : ℕ). stamps v (tokens_at (on_place need.place (without_token need.value (latest need)) m) q) ≡ without_latest (latest need) (stamps v (tokens_at m q))) (sym at)
     (subst (λ (w : PlainValue). stamps w (tokens_at (on_place need.place (without_token need.value (latest need)) m) need.place) ≡ without_latest (latest need) (stamps w (tokens_at m need.place))) (sym value)
-    (ap (stamps need.value) (changed_place need.place (without_token need.value (latest need)) m (λ _. refl)) ∙ stamps_without need.value (latest need) (tokens_at m need.place) (sorted need.place)))
+    (ap (stamps need.value) (changed_place need.place (without_token need.value (latest need)) m (λ _. refl)) ∙ stamps_without need.value (latest need) (tokens_at m need.place) sorted))
 taken p v latest need m sorted false is = split (p == need.place) refl
   where
     split : (b : Bool) → (p == need.place) ≡ b → stamps v (tokens_at (on_place need.place (without_token need.value (latest need)) m) p) ≡ stamps v (tokens_at m p)
@@ -56,5 +56,5 @@ subtract_is_less latest (need ∷ needs) m p v sorted =
   where
     split : (b : Bool) → is_for p v need ≡ b
         → less (stamps v (tokens_at (on_place need.place (without_token need.value (latest need)) m) p)) (thresholds_for latest p v needs) ≡ less (stamps v (tokens_at m p)) (map latest (cond b (need ∷ filter (is_for p v) needs) (filter (is_for p v) needs)))
-    split true is = ap (λ ss. less ss (thresholds_for latest p v needs)) (taken p v latest need m sorted true is)
-    split false is = ap (λ ss. less ss (thresholds_for latest p v needs)) (taken p v latest need m sorted false is)
+    split true is = ap (λ ss. less ss (thresholds_for latest p v needs)) (taken p v latest need m (sorted need.place) true is)
+    split false is = ap (λ ss. less ss (thresholds_for latest p v needs)) (taken p v latest need m (sorted need.place) false is)

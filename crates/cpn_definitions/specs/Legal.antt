@@ -15,6 +15,16 @@ pub record TimedElement : Type 0 where
   pub element : PlainElement
   pub time : ℕ
 
+-- An occurrence: its number among those of a sequence, from 0, its time, and its element.
+pub record PlainOccurrence : Type 0 where
+  pub number : ℕ
+  pub time : ℕ
+  pub element : PlainElement
+
+-- what an occurrence is in a legal sequence
+abbrev pub timed : PlainOccurrence → TimedElement
+timed o = record { element = o.element; time = o.time }
+
 -- Legal: from a marking at a clock, the elements may occur in this order at their times, and lead to the
 -- last marking and clock. Each occurs at the least time, not before that of the one before it (of the first:
 -- not before the clock), at which any element is covered. The last clock is the time of the last occurrence

@@ -66,6 +66,7 @@ impl PartialEq for Job {
     fn eq(&self, other: &Job) -> bool
         ensures exact { result ≡ are_same_jobs self.now other.now }
         ensures same { IsTrue result ↔ (job_view self.now ≡ job_view other.now) }
+        ensures time { IsTrue result → self.now.time ≡ other.now.time }
     {
         is_same(self, other)
     }

@@ -1,31 +1,22 @@
--- The order of places with values: it is total, those of needs and of outputs stand in it, and so does what is sorted by it.
+-- The order of places with values: those of needs and of outputs stand in it, and so does what is sorted by it.
 use Rattle.std.proofs.Common.{◌≡◌, ℕ, suc, ◌+◌, ◌==◌, Bool, true, false, ◌&&◌, List, [], ◌∷◌, map, get_or, refl, sym, ap, subst, ◌∙◌, eqb-true, arith, Ordering, Less, Equal, Greater, nat_cmp, is_lt, is_gt}
 use Rattle.std.proofs.Math.Path.{ap₂}
-use Rattle.std.specs.Cmp.{IsTotalOrder}
 use Rattle.std.specs.List.{AllByRecursion}
 use Rattle.std.specs.List.Sorted.{IsSortedBy}
 use Rattle.std.specs.Ordering.{ordering_reverse}
 use Rattle.std.proofs.lemmas.Bool.{and_parts}
-use Rattle.std.proofs.lemmas.Cmp.{ranked, on_total, nat_cmp_total, then_total, alike_right}
+use Rattle.std.proofs.lemmas.Cmp.{alike_right}
 use Rattle.std.proofs.lemmas.List.Sorted.{ranks_by, sorted_far}
 use Rattle.cpn_definitions.specs.Order.{value_cmp, same_value}
-use Rattle.cpn_definitions.specs.ValueOrder.{value_cmp_total, value_same, same_value_true, same_value_refl, then_first, then_second}
+use Rattle.cpn_definitions.specs.ValueOrder.{same_value_true, same_value_refl}
 use Rattle.cpn_definitions.specs.Lists.{IsInOrder}
 use Rattle.cpn_definitions.specs.Occurrence.{Needed, Made, needed_cmp, made_cmp}
 use Rattle.cpn_definitions.proofs.RisingLists.{each_in, contains_from_in}
 use Rattle.cpn_definitions.proofs.NumberTests.{equals_itself}
 use Rattle.cpn_definitions.proofs.InsertPlaces.{not_after}
-use Rattle.cpn_log.specs.Changed.{PlainChange, change_cmp, same_change, need_change, made_change}
-
-pub change_cmp_total : IsTotalOrder change_cmp
-change_cmp_total = then_total (on_total (λ (x : PlainChange). x.place) nat_cmp_total) (on_total (λ (x : PlainChange). x.value) value_cmp_total)
-
--- two that are equal in it are the same
-pub change_same : (x y : PlainChange) → change_cmp x y ≡ Equal → x ≡ y
-change_same x y h =
-    let places : x.place ≡ y.place = ranked x.place y.place Equal (sym (then_first _ _ h)) in
-    let values : x.value ≡ y.value = value_same x.value y.value (then_second (nat_cmp x.place y.place) _ h) in
-    let e : record { place = x.place; value = x.value } ≡ y = ap₂ (λ p v. record { place = p; value = v }) places values in e
+use Rattle.cpn_tmset.specs.Changed.{PlainChange, change_cmp}
+use Rattle.cpn_tmset.proofs.ChangeOrder.{change_cmp_total, change_same}
+use Rattle.cpn_log.specs.Gathered.{same_change, need_change, made_change}
 
 pub same_change_true : (x y : PlainChange) → same_change x y ≡ true → x ≡ y
 same_change_true x y h =

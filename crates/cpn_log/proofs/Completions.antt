@@ -1,6 +1,7 @@
 -- When an open claim of a log is completed: the log stays kept, and the changes are those told.
 use Rattle.std.proofs.Common.{◌≡◌, ℕ, ◌+◌, ◌-◌, ◌<◌, ◌≤◌, List, [], ◌∷◌, map, length, take, drop, refl, sym, ap, subst, ◌∙◌, arith}
-use Rattle.std.specs.List.{AllByRecursion, filter}
+use Rattle.std.proofs.Math.Path.{ap₂}
+use Rattle.std.specs.List.{AllByRecursion}
 use Rattle.std.proofs.Math.Seq.{take-length}
 use Rattle.std.proofs.lemmas.List.{length-append, length-take, take-append-drop}
 use Rattle.cpn_definitions.specs.Bounds.{most_made}
@@ -8,16 +9,17 @@ use Rattle.cpn_definitions.specs.Lists.{IsInOrder}
 use Rattle.cpn_definitions.specs.Marking.{Marking}
 use Rattle.cpn_definitions.specs.Occurrence.{Made, made_cmp, add_made}
 use Rattle.cpn_definitions.proofs.ListItems.{all_parts}
+use Rattle.cpn_tmset.specs.Changed.{PlainChange, change_cmp, AreChanges}
 use Rattle.cpn_tmset.specs.Limits.{HaveRoomFor}
+use Rattle.cpn_runs.specs.Filling.{IsLeftFor, EachTwo}
 use Rattle.cpn_runs.specs.HoleRun.{PlainClaim, Status, done_with, added}
 use Rattle.cpn_log.specs.Logs.{PlainLog, claims_made, with_status}
 use Rattle.cpn_log.specs.Kept.{IsInRange, IsKept}
-use Rattle.cpn_log.specs.Changed.{each_once, differs, made_change, AreChanges}
+use Rattle.cpn_log.specs.Gathered.{each_once, made_change}
 use Rattle.cpn_log.specs.Exchanges.{after_claims, number_added}
 use Rattle.cpn_log.proofs.ChangeOrder.{outputs_stand_in_order}
-use Rattle.cpn_log.proofs.EachOnce.{told_once, once_in_order}
-use Rattle.cpn_log.proofs.TouchedStamps.{added_changes, differing_changes}
-use Rattle.cpn_log.proofs.KeptLogs.{IsAmong, among_at, unclaimed_sorted, room_for_all, with_completed, kept_with_completed, left_where_nothing_is_added, left_where_last, room_where_last, others_stay}
+use Rattle.cpn_log.proofs.TouchedStamps.{added_changes}
+use Rattle.cpn_log.proofs.KeptLogs.{IsAmong, among_at, unclaimed_sorted, room_for_all, with_completed, kept_with_completed, left_where_nothing_is_added, left_where_last, room_where_last, left_where_earlier}
 use Rattle.cpn_log.proofs.LogParts.{IsOpen}
 use Rattle.cpn_log.proofs.LogSteps.{kept_alike}
 
@@ -38,6 +40,19 @@ room_for_taken log n kept =
 -- all of them
 pub all_taken : (cs : List PlainClaim) (n : ℕ) → n ≡ length cs → take n cs ≡ cs
 all_taken cs n is = ap (λ (k : ℕ). take k cs) is ∙ take-length cs
+
+-- ---- the places and values of outputs
+
+-- they are those of the tokens that are left for them
+same_places : (outputs tokens : List Made) → EachTwo IsLeftFor outputs tokens → map made_change tokens ≡ map made_change outputs
+same_places [] [] each = refl
+same_places [] (left ∷ tokens) each = absurd each
+same_places (made ∷ outputs) [] each = absurd each
+same_places (made ∷ outputs) (left ∷ tokens) each = ap₂ (λ c cs. c ∷ cs) (ap₂ (λ p v. record { place = p; value = v }) each.0.place each.0.value) (same_places outputs tokens each.1)
+
+places_within : (number : ℕ) (outputs : List Made) → AllByRecursion (λ (made : Made). made.place < number) outputs → AllByRecursion (λ (c : PlainChange). c.place < number) (map made_change outputs)
+places_within number [] within = tt
+places_within number (made ∷ outputs) within = (within.0, places_within number outputs within.1)
 
 -- ---- an open claim
 
@@ -83,17 +98,17 @@ module _ (log : PlainLog) (number : ℕ) (kept : IsKept log) (o : IsOpen log num
 
   -- what changes then
   pub last_changes : (outputs : List Made) → IsInOrder made_cmp outputs → AllByRecursion (λ (made : Made). made.place < length log.unclaimed) outputs → AreChanges log.unclaimed (add_made outputs log.unclaimed) (each_once (map made_change outputs))
-  last_changes outputs ordered within = added_changes outputs log.unclaimed (unclaimed_sorted log kept) ordered within
+  last_changes outputs ordered within = added_changes outputs log.unclaimed (unclaimed_sorted log kept) (outputs_stand_in_order outputs ordered) (places_within (length log.unclaimed) outputs within)
 
-  -- and what changes by the outputs of an earlier claim
-  pub earlier_changes : (outputs : List Made) (left : Marking) → IsInOrder made_cmp outputs → left ≡ after_claims (with_status (done_with outputs) place log.claims) log.settled
-      → AreChanges log.unclaimed left (each_once (filter (differs log.unclaimed left) (each_once (map made_change outputs))))
-  earlier_changes outputs left ordered is =
-      let P : Marking → Type 0 = λ m. AreChanges log.unclaimed m (each_once (filter (differs log.unclaimed m) (each_once (map made_change outputs)))) in
-      let made = after_claims (with_status (done_with outputs) place log.claims) log.settled in
-      subst P (sym is)
-      (differing_changes log.unclaimed made (each_once (map made_change outputs)) (once_in_order (map made_change outputs) (outputs_stand_in_order outputs ordered))
-      (λ p v none. others_stay log place o.claim kept parts o.is_open outputs p v (sym (told_once p v (map made_change outputs)) ∙ none)))
+  -- and what changes by the outputs of an earlier claim: the same, since a token more is left for each of them
+  pub earlier_changes : (outputs : List Made) (left : Marking) → IsInOrder made_cmp outputs → AllByRecursion (λ (made : Made). made.place < length log.unclaimed) outputs → left ≡ after_claims (with_status (done_with outputs) place log.claims) log.settled → AreChanges log.unclaimed left (each_once (map made_change outputs))
+  earlier_changes outputs left ordered within is =
+      let richer = left_where_earlier log place o.claim kept parts o.is_open outputs in
+      let same = same_places outputs richer.tokens richer.each in
+      let changes =
+      added_changes richer.tokens log.unclaimed (unclaimed_sorted log kept) (subst (IsInOrder change_cmp) (sym same) (outputs_stand_in_order outputs ordered))
+      (subst (AllByRecursion (λ (c : PlainChange). c.place < length log.unclaimed)) (sym same) (places_within (length log.unclaimed) outputs within)) in
+      subst (λ m. AreChanges log.unclaimed m (each_once (map made_change outputs))) (sym (is ∙ richer.is)) (subst (λ cs. AreChanges log.unclaimed (add_made richer.tokens log.unclaimed) (each_once cs)) same changes)
 
   -- all the claims with one completed leave what they leave one after another
   pub left_by_all : (new : PlainLog) (status : Status) (n : ℕ) (left : Marking) → new.claims ≡ with_status status place log.claims → new.settled ≡ log.settled → n ≡ length new.claims → left ≡ after_claims (take n new.claims) new.settled

@@ -7,7 +7,8 @@ use Rattle.cpn_definitions.specs.Lists.{IsInOrder}
 use Rattle.cpn_definitions.specs.Marking.{Marking}
 use Rattle.cpn_log.specs.Logs.{PlainLog}
 use Rattle.cpn_log.specs.Kept.{IsKept}
-use Rattle.cpn_log.specs.Changed.{PlainChange, change_cmp, is_change, each_once, differs, touched, AreChanges}
+use Rattle.cpn_tmset.specs.Changed.{PlainChange, change_cmp, is_change, AreChanges}
+use Rattle.cpn_log.specs.Gathered.{each_once, differs, touched}
 use Rattle.cpn_log.specs.Exchanges.{after_claims}
 use Rattle.cpn_log.proofs.TouchedStamps.{differing_changes}
 use Rattle.cpn_log.proofs.KeptLogs.{cut_stays}

@@ -5,7 +5,8 @@ use Rattle.cpn_definitions.specs.Value.{PlainValue}
 use Rattle.cpn_definitions.specs.Lists.{Rises, IsInOrder}
 use Rattle.cpn_definitions.proofs.RisingLists.{each_implied}
 use Rattle.std.specs.Ordering.{is_gt}
-use Rattle.cpn_log.specs.Changed.{PlainChange, change_cmp, is_change, is_told, same_change, begins_with, ends_with, and_then, each_once}
+use Rattle.cpn_tmset.specs.Changed.{PlainChange, change_cmp, is_change, is_told}
+use Rattle.cpn_log.specs.Gathered.{same_change, begins_with, ends_with, and_then, each_once}
 use Rattle.cpn_log.proofs.ChangeOrder.{same_change_true, same_change_sym, less_up_to, less_where_differ}
 
 -- ---- one more at the end
@@ -108,12 +109,3 @@ filtered_in_order test (c ∷ cs) ordered = split (test c) (filtered_in_order te
     split : (b : Bool) → IsInOrder change_cmp (filter test cs) → IsInOrder change_cmp (cond b (c ∷ filter test cs) (filter test cs))
     split true rest = (filtered_all (λ d. is_gt (change_cmp c d) ≡ false) test cs ordered.0, rest)
     split false rest = rest
-
--- and so does telling each once
-pub once_in_order : (cs : List PlainChange) → IsInOrder change_cmp cs → IsInOrder change_cmp (each_once cs)
-once_in_order [] ordered = tt
-once_in_order (c ∷ cs) ordered = split (begins_with c cs) (once_in_order cs ordered.1)
-  where
-    split : (b : Bool) → IsInOrder change_cmp (each_once cs) → IsInOrder change_cmp (cond b (each_once cs) (c ∷ each_once cs))
-    split true rest = rest
-    split false rest = (all_once (λ d. is_gt (change_cmp c d) ≡ false) cs ordered.0, rest)

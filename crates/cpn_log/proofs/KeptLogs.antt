@@ -1,6 +1,7 @@
 -- What a log keeps true stays true: at its start, with one more claim, when a claim is completed, cut or committed.
-use Rattle.std.proofs.Common.{◌≡◌, ℕ, zero, suc, ◌+◌, ◌<◌, ◌≤◌, Bool, true, false, cond, List, [], ◌∷◌, ◌++◌, length, take, drop, map, Some, refl, sym, ap, subst, ◌∙◌, slice_get, arith}
+use Rattle.std.proofs.Common.{◌≡◌, ℕ, zero, suc, ◌+◌, ◌<◌, ◌≤◌, Bool, true, false, cond, List, [], ◌∷◌, ◌++◌, length, take, drop, Some, refl, sym, ap, subst, ◌∙◌, slice_get, arith}
 use Rattle.std.specs.List.{AllByRecursion}
+use Rattle.std.specs.Option.{option_map}
 use Rattle.std.proofs.lemmas.List.{length-append, take-append-drop}
 use Rattle.std.proofs.lemmas.Option.{same_Some}
 use Rattle.cpn_definitions.specs.Bounds.{most_made}
@@ -12,19 +13,21 @@ use Rattle.cpn_definitions.specs.Times.{last_time}
 use Rattle.cpn_definitions.proofs.PlaceCounts.{HasUpTo, taken_up_to}
 use Rattle.cpn_definitions.proofs.Subtraction.{AllAreSorted}
 use Rattle.cpn_definitions.proofs.RisingLists.{each_implied, each_appended}
-use Rattle.cpn_definitions.proofs.Addition.{places_added, sorted_added}
 use Rattle.cpn_definitions.proofs.RicherMarkings.{sorted_subtracted}
-use Rattle.cpn_definitions.proofs.ListItems.{split_at, all_parts}
+use Rattle.cpn_definitions.proofs.ListItems.{split_at, all_parts, made_of}
 use Rattle.cpn_tmset.specs.Limits.{HaveRoomFor}
 use Rattle.cpn_runs.specs.Bounds.{most_steps, most_after}
-use Rattle.cpn_runs.specs.HoleRun.{PlainClaim, Status, open_claim, done_with, added, after_claim, marking_left, is_done}
+use Rattle.cpn_runs.specs.Filling.{left_over, filled_run, IsLeftFor, EachTwo}
+use Rattle.cpn_runs.specs.HoleRun.{PlainClaim, Status, PlainHoleRun, open_claim, done_with, added, after_claim, hole_run, marking_left, is_done}
 use Rattle.cpn_runs.proofs.Sequences.{left_parts, left_split, marking_left_more}
-use Rattle.cpn_runs.proofs.FilledRuns.{filled_leaves, completed, sorted_after}
+use Rattle.cpn_runs.proofs.FilledRuns.{filled_leaves, filling_run, completed, sorted_after}
+use Rattle.cpn_runs.proofs.KeptPicks.{each_is_left}
 use Rattle.cpn_log.specs.Logs.{PlainLog, claims_made, head_of, with_status, changed_to, opened, with_committed, with_occurred, next_committed_of, next_committed}
 use Rattle.cpn_log.specs.Kept.{IsInRange, IsKept}
-use Rattle.cpn_log.specs.Changed.{is_told, made_change, touched}
+use Rattle.cpn_tmset.specs.Changed.{is_told}
+use Rattle.cpn_log.specs.Gathered.{touched}
 use Rattle.cpn_log.specs.Exchanges.{after_claims, number_added}
-use Rattle.cpn_log.proofs.TouchedStamps.{untouched_after, alike_after, untouched_added}
+use Rattle.cpn_log.proofs.TouchedStamps.{untouched_after}
 use Rattle.cpn_log.proofs.LeftMarkings.{left_is_after, left_sorted, after_joined, left_up_to, few_added, room_for}
 
 -- ---- what the claims leave
@@ -57,6 +60,12 @@ kept_with_one_more log seat element time needs kept room early ordered all = rec
 }
 
 -- ---- a claim is completed
+
+-- A marking with one token more than another for each of outputs, of its value on its place.
+pub record IsRicherBy (outputs : List Made) (poor rich : Marking) : Type 0 where
+  pub tokens : List Made
+  pub each : EachTwo IsLeftFor outputs tokens
+  pub is : rich ≡ add_made tokens poor
 
 -- An open claim among those of a log, with those ahead of it and behind it.
 pub record IsAmong (log : PlainLog) (place : ℕ) (claim : PlainClaim) : Type 0 where
@@ -152,15 +161,28 @@ module _ (log : PlainLog) (place : ℕ) (claim : PlainClaim) (kept : IsKept log)
       let lengths : length log.claims ≡ length parts.before + length (claim ∷ parts.later) = ap (λ (cs : List PlainClaim). length cs) parts.is ∙ length-append parts.before (claim ∷ parts.later) in
       subst (HaveRoomFor (length outputs)) own (room_for ahead (most_after (length log.committed) + number_added parts.before) (length outputs) up_to (omega (arith, added_before, number, lengths, few)))
 
-  -- of a value on a place for which nothing is added the stamps stay
-  pub others_stay : (outputs : List Made) (p : ℕ) (v : PlainValue) → is_told p v (map made_change outputs) ≡ false → stamps v (tokens_at (after_claims (with_status (done_with outputs) place log.claims) log.settled) p) ≡ stamps v (tokens_at log.unclaimed p)
-  others_stay outputs p v none =
-      ap (λ m. stamps v (tokens_at m p)) (left_is (done_with outputs))
-      ∙ (alike_after parts.later (add_made outputs ahead) ahead p v (added_sorted) ahead_sorted (record { places = places_added outputs ahead; stamps_are = untouched_added outputs ahead p v ahead_sorted none })).stamps_are
-      ∙ ap (λ m. stamps v (tokens_at m p)) unclaimed_is
+  -- wherever it stands, it leaves a token more for each output, of its value on its place
+  pub left_where_earlier : (outputs : List Made) → IsRicherBy outputs log.unclaimed (after_claims (with_status (done_with outputs) place log.claims) log.settled)
+  left_where_earlier outputs = record {
+    tokens = over;
+    each = each_is_left outputs (drop (suc (length parts.before)) run.0.picks);
+    is =
+        ap (λ cs. after_claims cs log.settled) (parts.changed (done_with outputs))
+        ∙ left_is_after log.settled (parts.before ++ completed (done_with outputs) claim ∷ parts.later) (add_made over run.0.marking) (ap (option_map (λ (r : PlainHoleRun). r.marking)) filled)
+        ∙ ap (add_made over) run.2;
+  }
     where
-      added_sorted : AllAreSorted (add_made outputs ahead)
-      added_sorted = sorted_added outputs ahead ahead_sorted
+      run : (r : PlainHoleRun) × (hole_run log.settled log.claims ≡ Some r) × (r.marking ≡ log.unclaimed)
+      run = made_of (λ (r : PlainHoleRun). r.marking) (hole_run log.settled log.claims) log.unclaimed kept.left
+
+      over : List Made
+      over = left_over (length parts.before) outputs run.0
+
+      ordered : AllByRecursion (λ (c : PlainClaim). IsInOrder needed_cmp c.needs) parts.later
+      ordered = have_order parts.later (all_parts IsInRange parts.before (claim ∷ parts.later) (subst (AllByRecursion IsInRange) parts.is kept.each)).1.1
+
+      filled : hole_run log.settled (parts.before ++ completed (done_with outputs) claim ∷ parts.later) ≡ Some (filled_run (length parts.before) outputs run.0)
+      filled = filling_run log.settled parts.before claim parts.later (done_with outputs) run.0 kept.sorted ordered (ap added is_open) (ap (hole_run log.settled) (sym parts.is) ∙ run.1)
 
 -- ---- claims are cut off
 

@@ -10,3 +10,4 @@ mod LogParts
 mod LogSteps
 mod Completions
 mod CutClaims
+mod ClaimStandings

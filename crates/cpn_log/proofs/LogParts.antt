@@ -81,7 +81,7 @@ stands_committed log number within below =
     all_done (h ∷ hs) (suc n) lt = all_done hs n (omega arith)
 
 -- how one behind the committed part stands
-stands_in_second : (log : PlainLog) (place : ℕ) → slice_get (standings log) (length log.committed + place) ≡ option_map (λ (c : PlainClaim). standing_of c.status) (slice_get log.claims place)
+pub stands_in_second : (log : PlainLog) (place : ℕ) → slice_get (standings log) (length log.committed + place) ≡ option_map (λ (c : PlainClaim). standing_of c.status) (slice_get log.claims place)
 stands_in_second log place =
     in_second_part (map (λ head. stands_done) log.committed) (map (λ (c : PlainClaim). standing_of c.status) log.claims) (length log.committed + place) place
     (let lengths = length-map log.committed (λ (head : PlainHead). stands_done) in omega (arith, lengths))

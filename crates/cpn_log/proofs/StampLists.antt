@@ -9,7 +9,7 @@ use Rattle.cpn_definitions.specs.Marking.{Tokens, stamps, covers, begins_by, wit
 use Rattle.cpn_definitions.proofs.Stamps.{AreRising}
 use Rattle.cpn_definitions.proofs.RicherMarkings.{covers_first, without_rising}
 use Rattle.cpn_definitions.proofs.NumberTests.{equals_itself}
-use Rattle.cpn_log.specs.Changed.{same_stamps}
+use Rattle.cpn_log.specs.Gathered.{same_stamps}
 
 -- ---- the same
 

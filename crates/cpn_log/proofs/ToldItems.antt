@@ -4,7 +4,8 @@ use Rattle.std.specs.List.{filter}
 use Rattle.std.proofs.lemmas.List.{take_more}
 use Rattle.std.proofs.lemmas.Option.{slice_get_within}
 use Rattle.cpn_runs.specs.HoleRun.{PlainClaim}
-use Rattle.cpn_log.specs.Changed.{PlainChange, and_then, each_once, same_change, ends_with, touched_by, touched}
+use Rattle.cpn_tmset.specs.Changed.{PlainChange}
+use Rattle.cpn_log.specs.Gathered.{and_then, each_once, same_change, ends_with, touched_by, touched}
 use Rattle.cpn_log.proofs.EachOnce.{each_once_more}
 use Rattle.cpn_definitions.proofs.ListItems.{map_more}
 

@@ -7,18 +7,19 @@ use Rattle.cpn_definitions.specs.Order.{same_value}
 use Rattle.cpn_definitions.specs.ValueOrder.{same_value_true}
 use Rattle.cpn_definitions.specs.Lists.{IsInOrder}
 use Rattle.cpn_definitions.specs.Marking.{Marking, tokens_at, stamps, less}
-use Rattle.cpn_definitions.specs.Occurrence.{Needed, Made, needed_cmp, made_cmp, threshold, are_covered, subtract, add_made}
+use Rattle.cpn_definitions.specs.Occurrence.{Needed, Made, needed_cmp, threshold, are_covered, subtract, add_made}
 use Rattle.cpn_definitions.proofs.Stamps.{stamps_rise}
 use Rattle.cpn_definitions.proofs.PlaceCounts.{length-with_items}
 use Rattle.cpn_definitions.proofs.RisingLists.{IsIn, in_filter, in_filter_from, some_passes, one_that_passes}
 use Rattle.cpn_definitions.proofs.Subtraction.{AllAreSorted, is_for, thresholds_for, subtract_is_less}
 use Rattle.cpn_definitions.proofs.Addition.{is_made_for, stamps_for, with_stamps, places_added, add_made_is_more}
-use Rattle.cpn_definitions.proofs.RicherMarkings.{covered_in_turn, places_subtracted, sorted_subtracted, past_the_last}
+use Rattle.cpn_definitions.proofs.RicherMarkings.{covered_in_turn, sorted_subtracted, past_the_last}
 use Rattle.cpn_runs.specs.HoleRun.{PlainClaim, added, after_claim}
 use Rattle.cpn_runs.proofs.FilledRuns.{sorted_after}
-use Rattle.cpn_log.specs.Changed.{PlainChange, change_cmp, is_change, is_told, each_once, same_stamps, differs, need_change, made_change, touched_by, touched, AreChanges}
+use Rattle.cpn_tmset.specs.Changed.{PlainChange, change_cmp, is_change, is_told, AreChanges}
+use Rattle.cpn_log.specs.Gathered.{each_once, same_stamps, differs, need_change, made_change, touched_by, touched}
 use Rattle.cpn_log.specs.Exchanges.{after_claims}
-use Rattle.cpn_log.proofs.ChangeOrder.{needs_stand_in_order, outputs_stand_in_order}
+use Rattle.cpn_log.proofs.ChangeOrder.{needs_stand_in_order}
 use Rattle.cpn_log.proofs.EachOnce.{told_once, rises_once, filtered_in_order}
 use Rattle.cpn_log.proofs.StampLists.{same_stamps_true, same_stamps_refl, fewer_by}
 
@@ -60,18 +61,18 @@ some_made p v (made ∷ outputs) h = split (λ g. some_made p v outputs g) (is_m
     split rest true g = omega arith
     split rest false g = rest g
 
--- a place on which something is made is one of the marking
-made_within : (p : ℕ) (v : PlainValue) (outputs : List Made) (number : ℕ) → AllByRecursion (λ (made : Made). made.place < number) outputs → is_told p v (map made_change outputs) ≡ true → p < number
-made_within p v [] number each h = cc
-made_within p v (made ∷ outputs) number each h = split (λ g. made_within p v outputs number each.1 g) (is_made_for p v made) refl h
+-- a place that is told is one of the marking, where all are
+told_within : (p : ℕ) (v : PlainValue) (cs : List PlainChange) (number : ℕ) → AllByRecursion (λ c. c.place < number) cs → is_told p v cs ≡ true → p < number
+told_within p v [] number each h = cc
+told_within p v (c ∷ cs) number each h = split (λ g. told_within p v cs number each.1 g) (is_change p v c) refl h
   where
-    split : (is_told p v (map made_change outputs) ≡ true → p < number) → (b : Bool) → is_made_for p v made ≡ b → (b || is_told p v (map made_change outputs)) ≡ true → p < number
-    split rest true is g = let at : p ≡ made.place = eqb-true p made.place (and_parts (p == made.place) (same_value v made.value) is).0 in let within = each.0 in omega (arith, at, within)
+    split : (is_told p v cs ≡ true → p < number) → (b : Bool) → is_change p v c ≡ b → (b || is_told p v cs) ≡ true → p < number
+    split rest true is g = let at : p ≡ c.place = eqb-true p c.place (and_parts (p == c.place) (same_value v c.value) is).0 in let within = each.0 in omega (arith, at, within)
     split rest false is g = rest g
 
--- ---- markings that are alike in a value on a place
+-- ---- what stays as it was
 
--- what was taken for it, and what was put in
+-- where what is put in for a value on a place changes nothing
 added_stamps : (outputs : List Made) (m : Marking) (p : ℕ) (v : PlainValue) → AllAreSorted m → (p < length m → with_stamps (stamps_for p v outputs) (stamps v (tokens_at m p)) ≡ stamps v (tokens_at m p)) → stamps v (tokens_at (add_made outputs m) p) ≡ stamps v (tokens_at m p)
 added_stamps outputs m p v sorted same = ⊎_elim (λ lt. add_made_is_more outputs m p v sorted lt ∙ same lt) (λ ge. past ge) (cases_lt p (length m))
   where
@@ -95,51 +96,6 @@ untouched_after (claim ∷ claims) m p v sorted none =
     ∙ untouched_added (added claim.status) left p v (sorted_subtracted (threshold claim.time) claim.needs m sorted) own.1
     ∙ untouched_subtracted claim.time claim.needs m p v sorted own.0
 
--- Alike: the same places, and the same stamps of the value on the place.
-pub record AreAlike (p : ℕ) (v : PlainValue) (k m : Marking) : Type 0 where
-  pub places : length k ≡ length m
-  pub stamps_are : stamps v (tokens_at k p) ≡ stamps v (tokens_at m p)
-
-alike_after_claim : (claim : PlainClaim) (k m : Marking) (p : ℕ) (v : PlainValue) → AllAreSorted k → AllAreSorted m → AreAlike p v k m → AreAlike p v (after_claim claim k) (after_claim claim m)
-alike_after_claim claim k m p v sorted_k sorted_m alike = record {
-  places = places_added outputs kl ∙ places_left ∙ sym (places_added outputs ml);
-  stamps_are = ⊎_elim (λ lt. within lt) (λ ge. past ge) (cases_lt p (length ml));
-}
-  where
-    outputs : List Made
-    outputs = added claim.status
-
-    kl : Marking
-    kl = subtract (threshold claim.time) claim.needs k
-
-    ml : Marking
-    ml = subtract (threshold claim.time) claim.needs m
-
-    places_left : length kl ≡ length ml
-    places_left = places_subtracted (threshold claim.time) claim.needs k ∙ alike.places ∙ sym (places_subtracted (threshold claim.time) claim.needs m)
-
-    left : stamps v (tokens_at kl p) ≡ stamps v (tokens_at ml p)
-    left =
-        subtract_is_less (threshold claim.time) claim.needs k p v sorted_k ∙ ap (λ ss. less ss (thresholds_for (threshold claim.time) p v claim.needs)) alike.stamps_are
-        ∙ sym (subtract_is_less (threshold claim.time) claim.needs m p v sorted_m)
-
-    within : p < length ml → stamps v (tokens_at (add_made outputs kl) p) ≡ stamps v (tokens_at (add_made outputs ml) p)
-    within lt =
-        add_made_is_more outputs kl p v (sorted_subtracted (threshold claim.time) claim.needs k sorted_k) (subst (λ (l : ℕ). p < l) (sym places_left) lt)
-        ∙ ap (with_stamps (stamps_for p v outputs)) left
-        ∙ sym (add_made_is_more outputs ml p v (sorted_subtracted (threshold claim.time) claim.needs m sorted_m) lt)
-
-    past : length ml ≤ p → stamps v (tokens_at (add_made outputs kl) p) ≡ stamps v (tokens_at (add_made outputs ml) p)
-    past ge =
-        ap (stamps v) (past_the_last (add_made outputs kl) p (subst (λ (l : ℕ). l ≤ p) (sym (places_added outputs kl ∙ places_left)) ge))
-        ∙ sym (ap (stamps v) (past_the_last (add_made outputs ml) p (subst (λ (l : ℕ). l ≤ p) (sym (places_added outputs ml)) ge)))
-
--- the same claims leave markings alike
-pub alike_after : (claims : List PlainClaim) (k m : Marking) (p : ℕ) (v : PlainValue) → AllAreSorted k → AllAreSorted m → AreAlike p v k m → AreAlike p v (after_claims claims k) (after_claims claims m)
-alike_after [] k m p v sorted_k sorted_m alike = alike
-alike_after (claim ∷ claims) k m p v sorted_k sorted_m alike =
-    alike_after claims (after_claim claim k) (after_claim claim m) p v (sorted_after claim k sorted_k) (sorted_after claim m sorted_m) (alike_after_claim claim k m p v sorted_k sorted_m alike)
-
 -- ---- changes
 
 -- lists of which one is longer differ
@@ -159,13 +115,18 @@ taken_changes time needs m sorted ordered all = record {
 }
 
 -- so do tokens that are put on places of the marking
-pub added_changes : (outputs : List Made) (m : Marking) → AllAreSorted m → IsInOrder made_cmp outputs → AllByRecursion (λ (made : Made). made.place < length m) outputs → AreChanges m (add_made outputs m) (each_once (map made_change outputs))
+pub added_changes
+    : (outputs : List Made) (m : Marking)
+    → AllAreSorted m
+    → IsInOrder change_cmp (map made_change outputs)
+    → AllByRecursion (λ c. c.place < length m) (map made_change outputs)
+    → AreChanges m (add_made outputs m) (each_once (map made_change outputs))
 added_changes outputs m sorted ordered each = record {
-  rise = rises_once (map made_change outputs) (outputs_stand_in_order outputs ordered);
+  rise = rises_once (map made_change outputs) ordered;
   told = λ p v h same.
       let one = sym (told_once p v (map made_change outputs)) ∙ h in
       let made = stamps_for p v outputs in
-      let longer : length (stamps v (tokens_at (add_made outputs m) p)) ≡ length made + length (stamps v (tokens_at m p)) = ap (λ (ss : List ℕ). length ss) (add_made_is_more outputs m p v sorted (made_within p v outputs (length m) each one)) ∙ length-with_items nat_cmp made (stamps v (tokens_at m p)) in
+      let longer : length (stamps v (tokens_at (add_made outputs m) p)) ≡ length made + length (stamps v (tokens_at m p)) = ap (λ (ss : List ℕ). length ss) (add_made_is_more outputs m p v sorted (told_within p v (map made_change outputs) (length m) each one)) ∙ length-with_items nat_cmp made (stamps v (tokens_at m p)) in
       longer_differ (stamps v (tokens_at m p)) (stamps v (tokens_at (add_made outputs m) p)) (length made) (some_made p v outputs one) (omega (arith, longer)) (sym same);
   others = λ p v h. untouched_added outputs m p v sorted (sym (told_once p v (map made_change outputs)) ∙ h);
 }

@@ -1,8 +1,7 @@
 pub mod Logs
 pub mod Kept
 pub mod Exchanges
-pub mod Changed
-pub mod ChangedViews
+pub mod Gathered
 pub mod States
 pub mod ClaimViews
 pub mod SettledViews

@@ -7,8 +7,8 @@
 //! enabled nor why a claim is made or cut.
 #![tactic(auto)]
 
-mod changed;
 mod claims;
+mod gathered;
 mod logs;
 mod markings;
 mod replay;
@@ -17,6 +17,5 @@ mod states;
 mod tokens;
 mod touched;
 
-pub use changed::{Change, Changes};
 pub use logs::Log;
 pub use states::ClaimState;

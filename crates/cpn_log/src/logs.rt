@@ -2,15 +2,15 @@
 
 ghost use Rattle.std.specs.Prelude.{◌≤◌, length};
 
-use crate::changed::Changes;
 use crate::claims::{Claim, Course};
+use crate::gathered::{changes_among, changes_of_needs, changes_of_outputs};
 use crate::markings::Markings;
 use crate::replay::replayed;
 use crate::states::ClaimState;
 use crate::touched::touched_in_order;
 use cpn_core::{EvalFault, Memory, Needs, Outputs};
 use cpn_jobs::Job;
-use cpn_tmset::Marking;
+use cpn_tmset::{Changes, Marking};
 use std::alloc::Global;
 use std::sync::Arc;
 
@@ -30,7 +30,7 @@ pub struct Log {
 }
 
 impl Log {
-    ghost use Rattle.std.specs.Prelude.{◌≡◌, ◌+◌, ◌-◌, ◌≤◌, ◌<◌, ◌^◌, ℕ, true, [], ◌∷◌, ◌++◌, length, take, Some, IfOk, OnOk, OnErr, IsOk, slice_get};
+    ghost use Rattle.std.specs.Prelude.{◌≡◌, ◌+◌, ◌-◌, ◌≤◌, ◌<◌, ◌^◌, ℕ, true, [], ◌∷◌, ◌++◌, ◌↔◌, length, take, Some, IfOk, OnOk, OnErr, IsOk, IsTrue, slice_get};
     ghost use Rattle.std.specs.List.{AllByRecursion};
     ghost use Rattle.cpn_definitions.specs.Bounds.{most_made};
     ghost use Rattle.cpn_definitions.specs.Marking.{tokens_at, AreSorted};
@@ -38,13 +38,13 @@ impl Log {
     ghost use Rattle.cpn_definitions.specs.Times.{last_time};
     ghost use Rattle.cpn_core.specs.Elements.{element_view};
     ghost use Rattle.cpn_core.specs.Faults.{fault_view};
+    ghost use Rattle.cpn_tmset.specs.Changed.{AreChanges};
+    ghost use Rattle.cpn_tmset.specs.ChangedViews.{changes_view};
     ghost use Rattle.cpn_tmset.specs.Limits.{HaveRoomFor};
     ghost use Rattle.cpn_runs.specs.Bounds.{most_steps};
     ghost use Rattle.cpn_runs.specs.HoleRun.{done_with, faulted_with};
-    ghost use Rattle.cpn_log.specs.Logs.{begin_done, claims_made, made_and_done, next_committed, opened, seats, standings, stands_open, started, with_occurred, with_status};
+    ghost use Rattle.cpn_log.specs.Logs.{begin_done, claims_made, made_and_done, next_committed, opened, seats, standings, stands_done, stands_failed, stands_open, started, with_occurred, with_status};
     ghost use Rattle.cpn_log.specs.Kept.{IsInRange, IsKept};
-    ghost use Rattle.cpn_log.specs.Changed.{AreChanges};
-    ghost use Rattle.cpn_log.specs.ChangedViews.{changes_view};
     ghost use Rattle.cpn_log.specs.Exchanges.{after_claims, number_added};
     ghost use Rattle.cpn_log.specs.States.{state_view};
     ghost use Rattle.cpn_log.specs.ClaimViews.{status_view};
@@ -74,13 +74,14 @@ impl Log {
         requires in_time { job.value.time ≤ last_time }
         requires covered { are_covered (threshold job.value.time) (log_view self.old).unclaimed needs ≡ true }
         ensures pushed { OnOk result ((log_view self.new).claims ≡ (log_view self.old).claims ++ opened seat (element_view job.value.element.value) job.value.time needs ∷ []) }
+        ensures stands { OnOk result (slice_get (standings (log_view self.new)) (claims_made (log_view self.old)) ≡ Some stands_open) }
         ensures jobs { OnOk result (jobs_in self.new ≡ jobs_in self.old ++ job.value ∷ []) }
         ensures committed { (log_view self.new).committed ≡ (log_view self.old).committed }
         ensures settled { (log_view self.new).settled ≡ (log_view self.old).settled }
         ensures kept { OnOk result (IsKept (log_view self.new)) }
         ensures changes { IfOk result (λ changes. AreChanges (log_view self.old).unclaimed (log_view self.new).unclaimed (changes_view changes)) }
     {
-        let changes = Changes::of_needs(self.alloc, &needs)?;
+        let changes = changes_of_needs(self.alloc, &needs)?;
         self.markings.take(&needs, job.time)?;
         self.claims.push(Claim {
             seat,
@@ -123,29 +124,29 @@ impl Log {
     }
 
     /// Completes an open claim with its outputs, which it adds at its own place in the claim order, and tells which stamps of
-    /// the unclaimed marking change by that. After `Memory` the committed part and its marking stand, and nothing else is known.
+    /// the unclaimed marking change by that: those of each output's value on its place, since there is a token more of it. After `Memory` the committed part and its marking stand, and nothing else is known.
     pub fn fill(&mut self, number: u64, outputs: Outputs) -> Result<Changes, Memory>
         requires kept { IsKept (log_view self.old) }
         requires open { slice_get (standings (log_view self.old)) number ≡ Some stands_open }
         requires in_range { AllByRecursion (λ made. made.place < length (log_view self.old).unclaimed) outputs }
         requires few { length outputs ≤ most_made }
         ensures filled { OnOk result ((log_view self.new).claims ≡ with_status (done_with outputs) (number - length (log_view self.old).committed) (log_view self.old).claims) }
+        ensures stands { OnOk result (slice_get (standings (log_view self.new)) number ≡ Some stands_done) }
         ensures jobs { jobs_in self.new ≡ jobs_in self.old }
         ensures committed { (log_view self.new).committed ≡ (log_view self.old).committed }
         ensures settled { (log_view self.new).settled ≡ (log_view self.old).settled }
         ensures kept { OnOk result (IsKept (log_view self.new)) }
         ensures changes { IfOk result (λ changes. AreChanges (log_view self.old).unclaimed (log_view self.new).unclaimed (changes_view changes)) }
     {
-        let told = Changes::of_outputs(self.alloc, &outputs)?;
+        let changes = changes_of_outputs(self.alloc, &outputs)?;
         let position = number as usize;
         if position + 1 == self.claims.len() {
             self.markings.add(&outputs)?;
             self.complete(position, Course::Done(outputs));
-            return Ok(told);
+            return Ok(changes);
         }
         self.complete(position, Course::Done(outputs));
         let left = self.left_by(self.claims.len())?;
-        let changes = Changes::among(self.alloc, told.items(), self.unclaimed(), &left)?;
         self.markings.replace(left);
         Ok(changes)
     }
@@ -155,6 +156,7 @@ impl Log {
         requires kept { IsKept (log_view self.old) }
         requires open { slice_get (standings (log_view self.old)) number ≡ Some stands_open }
         ensures failed { (log_view self.new).claims ≡ with_status (faulted_with (fault_view fault)) (number - length (log_view self.old).committed) (log_view self.old).claims }
+        ensures stands { slice_get (standings (log_view self.new)) number ≡ Some (stands_failed (fault_view fault)) }
         ensures jobs { jobs_in self.new ≡ jobs_in self.old }
         ensures committed { (log_view self.new).committed ≡ (log_view self.old).committed }
         ensures settled { (log_view self.new).settled ≡ (log_view self.old).settled }
@@ -180,7 +182,7 @@ impl Log {
         let position = number as usize;
         let touched = touched_in_order(self.alloc, &self.claims.as_slice()[position..])?;
         let left = self.left_by(position)?;
-        let changes = Changes::among(self.alloc, touched.as_slice(), self.unclaimed(), &left)?;
+        let changes = changes_among(self.alloc, touched.as_slice(), self.unclaimed(), &left)?;
         self.claims.truncate(position);
         self.markings.replace(left);
         Ok(changes)
@@ -192,6 +194,7 @@ impl Log {
     pub fn commit_one(&mut self) -> Result<bool, Memory>
         requires kept { IsKept (log_view self.old) }
         ensures done { IfOk result (λ done. done ≡ begin_done (log_view self.old).claims) }
+        ensures stands { IfOk result (λ done. IsTrue done ↔ (slice_get (standings (log_view self.old)) (length (log_view self.old).committed) ≡ Some stands_done)) }
         ensures next { OnOk result (log_view self.new ≡ next_committed (log_view self.old)) }
         ensures jobs { jobs_in self.new ≡ jobs_in self.old }
         ensures committed { OnErr result ((log_view self.new).committed ≡ (log_view self.old).committed) }

@@ -3,14 +3,15 @@
 ghost use Rattle.std.specs.Prelude.{◌≡◌, ◌++◌, map, IfOk, OnOk};
 ghost use Rattle.std.specs.Ordering.{is_lt};
 ghost use Rattle.std.specs.List.Sorted.{IsPermutation, IsSortedBy};
+ghost use Rattle.cpn_tmset.specs.Changed.{change_cmp};
+ghost use Rattle.cpn_tmset.specs.ChangedViews.{change_view, change_views};
 ghost use Rattle.cpn_runs.specs.HoleRun.{added};
-ghost use Rattle.cpn_log.specs.Changed.{change_cmp, made_change, need_change, touched};
-ghost use Rattle.cpn_log.specs.ChangedViews.{change_view, change_views};
+ghost use Rattle.cpn_log.specs.Gathered.{made_change, need_change, touched};
 ghost use Rattle.cpn_log.specs.ClaimViews.{claim_views, status_view};
 
-use crate::changed::Change;
 use crate::claims::{Claim, Course};
 use cpn_core::{Memory, Needs, Outputs};
+use cpn_tmset::Change;
 use std::alloc::Global;
 use std::cmp::Ordering;
 

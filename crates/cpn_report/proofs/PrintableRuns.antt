@@ -4,10 +4,10 @@ use Rattle.std.specs.List.{AllByRecursion, list_all}
 use Rattle.std.proofs.lemmas.Bool.{and_from}
 use Rattle.cpn_definitions.specs.Marking.{Marking}
 use Rattle.cpn_definitions.specs.Net.{PlainNet}
-use Rattle.cpn_definitions.specs.Legal.{TimedElement}
+use Rattle.cpn_definitions.specs.Legal.{TimedElement, PlainOccurrence, timed}
 use Rattle.cpn_definitions.specs.Sound.{IsMarking}
 use Rattle.cpn_definitions.proofs.LegalSequences.{IsBound, covered_is_bound, legal_marking, legal_bound}
-use Rattle.cpn_runs.specs.State.{PlainSetup, PlainEnd, dead, steps_made, until_passed, fault_end, PlainOccurrence, timed}
+use Rattle.cpn_runs.specs.State.{PlainSetup, PlainEnd, dead, steps_made, until_passed, fault_end}
 use Rattle.cpn_runs.specs.Run.{PlainFinished, IsTrueFault, IsRun}
 use Rattle.cpn_report.specs.Printable.{IsPrintableNet, is_occurrence, IsCause, IsPrintable, RunsArePrintable}
 

@@ -7,7 +7,8 @@ use Rattle.cpn_definitions.specs.Net.{PlainNet, variable_at, transition_at}
 use Rattle.cpn_definitions.specs.Named.{IsNamed}
 use Rattle.cpn_definitions.specs.Occurrence.{PlainElement, binds}
 use Rattle.cpn_definitions.specs.Sound.{IsSound, IsMarking}
-use Rattle.cpn_runs.specs.State.{PlainSetup, PlainEnd, dead, steps_made, until_passed, fault_end, PlainOccurrence}
+use Rattle.cpn_definitions.specs.Legal.{PlainOccurrence}
+use Rattle.cpn_runs.specs.State.{PlainSetup, PlainEnd, dead, steps_made, until_passed, fault_end}
 use Rattle.cpn_runs.specs.Run.{PlainFinished, IsRun}
 
 -- The net is sound, and has the names of the colour sets of its places and variables.

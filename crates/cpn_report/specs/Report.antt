@@ -9,7 +9,8 @@ use Rattle.cpn_definitions.specs.Net.{Coloured, PlainNet, variable_at, transitio
 use Rattle.cpn_definitions.specs.Outcome.{Fault, overflow, divide_by_zero, empty_list, no_case, not_in_colour, bad_coefficient, bad_delay, too_large}
 use Rattle.cpn_definitions.specs.Meaning.{PlainBinding}
 use Rattle.cpn_definitions.specs.Occurrence.{PlainElement}
-use Rattle.cpn_runs.specs.State.{PlainSetup, PlainEvent, claim_made, claim_completed, clock_moved, cut_made, PlainEnd, dead, steps_made, until_passed, fault_end, PlainOccurrence}
+use Rattle.cpn_definitions.specs.Legal.{PlainOccurrence}
+use Rattle.cpn_runs.specs.State.{PlainSetup, PlainEvent, claim_made, claim_completed, clock_moved, cut_made, PlainEnd, dead, steps_made, until_passed, fault_end}
 use Rattle.cpn_runs.specs.Run.{PlainFinished, Outlook}
 use Rattle.cpn_tmset.specs.Listed.{Group, groups}
 use Rattle.cpn_report.specs.ValueText.{joined, value_text}

@@ -7,14 +7,13 @@ ghost use Rattle.cpn_core.specs.Views.{value_view};
 ghost use Rattle.cpn_core.specs.Pairs.{pairs_view};
 ghost use Rattle.cpn_core.specs.Nets.{net_view};
 ghost use Rattle.cpn_core.specs.Elements.{element_view};
-ghost use Rattle.cpn_runs.specs.Views.{occurrence_view};
+ghost use Rattle.cpn_core.specs.Occurrences.{occurrence_view};
 ghost use Rattle.cpn_report.specs.Printable.{IsPrintableNet, is_bound, is_binding_element, is_occurrence};
 ghost use Rattle.cpn_report.specs.Report.{pair_text, binding_text, element_text, occurrence_line};
 ghost use Rattle.cpn_report.specs.ValueText.{joined};
 
 use crate::values::push_value;
-use cpn_core::{Binding, Element, Memory, Net, Pair};
-use cpn_runs::Occurrence;
+use cpn_core::{Binding, Element, Memory, Net, Occurrence, Pair};
 use std::fmt::Write;
 
 /// Appends a variable with its value.

@@ -161,9 +161,9 @@ rest_covered time need needs m sorted all p v = split (is_for p v need) refl (al
         → covers (stamps v (tokens_at m p)) (map (threshold time) (cond b (need ∷ filter (is_for p v) needs) (filter (is_for p v) needs))) ≡ true
         → covers (stamps v (tokens_at (on_place need.place (without_token need.value (threshold time need)) m) p)) (thresholds_for (threshold time) p v needs) ≡ true
     split true is h =
-        ap (λ ss. covers ss (thresholds_for (threshold time) p v needs)) (taken p v (threshold time) need m sorted true is)
+        ap (λ ss. covers ss (thresholds_for (threshold time) p v needs)) (taken p v (threshold time) need m (sorted need.place) true is)
         ∙ (covers_first (threshold time need) (stamps v (tokens_at m p)) (thresholds_for (threshold time) p v needs) (stamps_rise v (tokens_at m p) (sorted p)) h).1
-    split false is h = ap (λ ss. covers ss (thresholds_for (threshold time) p v needs)) (taken p v (threshold time) need m sorted false is) ∙ h
+    split false is h = ap (λ ss. covers ss (thresholds_for (threshold time) p v needs)) (taken p v (threshold time) need m (sorted need.place) false is) ∙ h
 
 -- What the needs of a claim take and leave with one token more.
 pub record TakesWithToken (time : ℕ) (needs : List Needed) (made : Made) (m : Marking) : Type 0 where

@@ -13,7 +13,7 @@ use Rattle.cpn_definitions.specs.Marking.{Marking}
 use Rattle.cpn_definitions.specs.Net.{PlainNet}
 use Rattle.cpn_definitions.specs.Outcome.{Fault, Outcome, gives, faults, no_meaning}
 use Rattle.cpn_definitions.specs.Occurrence.{PlainElement, Needed, Made, needed_cmp, threshold, are_covered, covered, after, needs_of, outputs_of, subtract, add_made}
-use Rattle.cpn_definitions.specs.Legal.{LeastTime, TimedElement, Legal}
+use Rattle.cpn_definitions.specs.Legal.{LeastTime, TimedElement, Legal, timed}
 use Rattle.cpn_definitions.specs.Sound.{IsStamped, IsMarking}
 use Rattle.cpn_definitions.proofs.UntimedPlaces.{MadeStamped, stamped_subtracted, stamped_added, outputs_stamped, marking_stamped}
 use Rattle.cpn_definitions.proofs.Markings.{held_at}
@@ -22,7 +22,7 @@ use Rattle.cpn_definitions.proofs.Subtraction.{AllAreSorted}
 use Rattle.cpn_definitions.proofs.ListItems.{split_at, all_parts}
 use Rattle.cpn_definitions.proofs.RisingLists.{each_appended}
 use Rattle.cpn_runs.specs.HoleRun.{PlainClaim, Status, open_claim, done_with, faulted_with, added, after_claim, marking_left, is_open, is_done, done_prefix}
-use Rattle.cpn_runs.specs.State.{PlainSetup, PlainState, PlainEvent, claim_made, claim_completed, clock_moved, cut_made, PlainEnd, dead, steps_made, until_passed, fault_end, PlainCut, first_state, unclaimed_in, settled_in, committed, owed_cut, cut_at, cut_by, given_needs, new_claim, status_after, MayClaim, MayComplete, MayMove, MayCut, Happens, Leads, IsState, timed, numbered, committed_occurrences, HasCause, EndsBy}
+use Rattle.cpn_runs.specs.State.{PlainSetup, PlainState, PlainEvent, claim_made, claim_completed, clock_moved, cut_made, PlainEnd, dead, steps_made, until_passed, fault_end, PlainCut, first_state, unclaimed_in, settled_in, committed, owed_cut, cut_at, cut_by, given_needs, new_claim, status_after, MayClaim, MayComplete, MayMove, MayCut, Happens, Leads, IsState, numbered, committed_occurrences, HasCause, EndsBy}
 use Rattle.cpn_runs.specs.Run.{Outlook, HasOutlook, IsTrueFault, IsRun}
 use Rattle.cpn_runs.proofs.Sequences.{legal_joined, legal_moved, left_parts, left_from, left_split, marking_left_more}
 use Rattle.cpn_runs.proofs.CoveredElements.{covered_needs, covered_too, after_is, least_now}

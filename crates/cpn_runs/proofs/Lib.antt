@@ -12,7 +12,7 @@ mod CarriedStamps
 mod TwoPlaces
 mod CarriedTokens
 pub mod FilledRuns
-mod KeptPicks
+pub mod KeptPicks
 pub mod FilledStates
 mod Rows
 mod FilledRows

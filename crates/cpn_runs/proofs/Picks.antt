@@ -92,8 +92,8 @@ picks_in_turn time (need ∷ needs) m p v sorted =
         → picked p v (picks_of time needs next) ≡ taken_by (thresholds_for (threshold time) p v needs) (stamps v (tokens_at next p))
         → map (λ (pick : PlainPick). pick.stamp) (cond b (pick_of time need m ∷ filter (is_pick_for p v) (picks_of time needs next)) (filter (is_pick_for p v) (picks_of time needs next)))
         ≡ taken_by (map (threshold time) (cond b (need ∷ filter (is_for p v) needs) (filter (is_for p v) needs))) (stamps v (tokens_at m p))
-    split true is rest = ap₂ (λ x xs. x ∷ xs) (own is) (rest ∙ ap (taken_by (thresholds_for (threshold time) p v needs)) (taken p v (threshold time) need m sorted true is))
-    split false is rest = rest ∙ ap (taken_by (thresholds_for (threshold time) p v needs)) (taken p v (threshold time) need m sorted false is)
+    split true is rest = ap₂ (λ x xs. x ∷ xs) (own is) (rest ∙ ap (taken_by (thresholds_for (threshold time) p v needs)) (taken p v (threshold time) need m (sorted need.place) true is))
+    split false is rest = rest ∙ ap (taken_by (thresholds_for (threshold time) p v needs)) (taken p v (threshold time) need m (sorted need.place) false is)
 
 -- What a claim takes, of each value on each place, and what it leaves there are together what was there.
 pub picks_taken_back : (time : ℕ) (needs : List Needed) (m : Marking) (p : ℕ) (v : PlainValue) → AllAreSorted m → IsInOrder needed_cmp needs → are_covered (threshold time) m needs ≡ true

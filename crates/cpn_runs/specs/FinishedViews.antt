@@ -1,9 +1,10 @@
 -- The plain setup, outlook and run that those of the program stand for.
 use Rattle.std.specs.Prelude.{map}
 use Rattle.cpn_core.specs.Nets.{net_view}
+use Rattle.cpn_core.specs.Occurrences.{occurrence_view}
 use Rattle.cpn_runs.specs.State.{PlainSetup}
 use Rattle.cpn_runs.specs.Run as plain
-use Rattle.cpn_runs.specs.Views.{occurrence_view, event_view, end_view, limits_view}
+use Rattle.cpn_runs.specs.Views.{event_view, end_view, limits_view}
 use Rattle.cpn_runs.specs.declared.runs.Setup.{Setup}
 use Rattle.cpn_runs.specs.declared.runs.Outlook.{Outlook}
 use Rattle.cpn_runs.specs.declared.runs.Finished.{Finished}

@@ -4,9 +4,9 @@ use Rattle.cpn_definitions.specs.Marking.{Marking}
 use Rattle.cpn_definitions.specs.Net.{PlainNet}
 use Rattle.cpn_definitions.specs.Outcome.{faults}
 use Rattle.cpn_definitions.specs.Occurrence.{covered, outputs_of}
-use Rattle.cpn_definitions.specs.Legal.{Legal}
+use Rattle.cpn_definitions.specs.Legal.{PlainOccurrence, timed, Legal}
 use Rattle.cpn_definitions.specs.Enabled.{PlainEntry, Enabled, ready, next_time}
-use Rattle.cpn_runs.specs.State.{PlainSetup, PlainEvent, PlainEnd, dead, steps_made, until_passed, fault_end, PlainState, IsState, EndsBy, PlainOccurrence, timed, committed_occurrences, settled_in}
+use Rattle.cpn_runs.specs.State.{PlainSetup, PlainEvent, PlainEnd, dead, steps_made, until_passed, fault_end, PlainState, IsState, EndsBy, committed_occurrences, settled_in}
 
 -- The number of the ready elements of a marking at a clock, and the next time.
 pub record Outlook : Type 0 where

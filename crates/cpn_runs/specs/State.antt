@@ -8,7 +8,7 @@ use Rattle.cpn_definitions.specs.Net.{PlainNet}
 use Rattle.cpn_definitions.specs.Outcome.{Fault, Outcome, gives, faults, no_meaning}
 use Rattle.cpn_definitions.specs.Occurrence.{PlainElement, Needed, Made, covered, needs_of, outputs_of}
 use Rattle.cpn_definitions.specs.Enabled.{PlainEntry, Enabled, ready, IsDead}
-use Rattle.cpn_definitions.specs.Legal.{LeastTime, TimedElement}
+use Rattle.cpn_definitions.specs.Legal.{LeastTime, PlainOccurrence}
 use Rattle.cpn_draw.specs.Draw.{word}
 use Rattle.cpn_runs.specs.HoleRun.{PlainClaim, Status, open_claim, done_with, faulted_with, unclaimed, settled, is_open, done_prefix}
 
@@ -178,17 +178,7 @@ Leads setup old (event ∷ events) new = (mid : PlainState) × Happens setup old
 abbrev pub IsState : PlainSetup → List PlainEvent → PlainState → Type 0
 IsState setup journal state = Leads setup (first_state setup) journal state
 
--- An occurrence of a run: the number of its claim, its time, and its element.
-pub record PlainOccurrence : Type 0 where
-  pub number : ℕ
-  pub time : ℕ
-  pub element : PlainElement
-
--- what an occurrence is in a legal sequence
-abbrev pub timed : PlainOccurrence → TimedElement
-timed o = record { element = o.element; time = o.time }
-
--- the claims as occurrences, numbered from k
+-- the claims as occurrences of a run, numbered from k
 abbrev pub numbered : ℕ → List PlainClaim → List PlainOccurrence
 numbered k [] = []
 numbered k (claim ∷ claims) = record { number = k; time = claim.time; element = claim.element } ∷ numbered (suc k) claims

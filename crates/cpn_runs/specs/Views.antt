@@ -1,16 +1,12 @@
--- The plain events, limits, ends and occurrences that those of the program stand for.
+-- The plain events, limits and ends that those of the program stand for.
 use Rattle.cpn_core.specs.Elements.{element_view}
 use Rattle.cpn_core.specs.Faults.{fault_view}
-use Rattle.cpn_runs.specs.State.{PlainEvent, claim_made, claim_completed, clock_moved, cut_made, PlainEnd, dead, steps_made, until_passed, fault_end, PlainLimits, PlainOccurrence}
-use Rattle.cpn_runs.specs.declared.occurrences.Occurrence.{Occurrence}
+use Rattle.cpn_runs.specs.State.{PlainEvent, claim_made, claim_completed, clock_moved, cut_made, PlainEnd, dead, steps_made, until_passed, fault_end, PlainLimits}
 use Rattle.cpn_runs.specs.declared.events.Event.{Event}
 use Rattle.cpn_runs.specs.declared.events.Event.TheVariants as events
 use Rattle.cpn_runs.specs.declared.events.End.{End}
 use Rattle.cpn_runs.specs.declared.events.End.TheVariants as ends
 use Rattle.cpn_runs.specs.declared.events.Limits.{Limits}
-
-abbrev pub occurrence_view : Occurrence → PlainOccurrence
-occurrence_view o = record { number = o.number; time = o.time; element = element_view o.element.value }
 
 abbrev pub event_view : Event → PlainEvent
 event_view (events.Claim seat number) = claim_made seat number

@@ -6,9 +6,7 @@
 #![tactic(auto)]
 
 mod events;
-mod occurrences;
 mod runs;
 
 pub use events::{End, Event, Limits};
-pub use occurrences::Occurrence;
 pub use runs::{Finished, Outlook, Setup};

@@ -1,8 +1,7 @@
 //! What a run starts from, and what it shows when it has ended.
 
 use crate::events::{End, Event, Limits};
-use crate::occurrences::Occurrence;
-use cpn_core::Net;
+use cpn_core::{Net, Occurrence};
 use cpn_tmset::Marking;
 use std::sync::Arc;
 

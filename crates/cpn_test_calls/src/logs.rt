@@ -7,8 +7,8 @@ ghost use Rattle.cpn_log.specs.LogViews.{log_view};
 
 use cpn_core::{Binding, Element, EvalFault, Funs, Made, Memory, Needed, Needs, Outputs, Value};
 use cpn_jobs::{Job, Work};
-use cpn_log::{Changes, ClaimState, Log};
-use cpn_tmset::Marking;
+use cpn_log::{ClaimState, Log};
+use cpn_tmset::{Changes, Marking};
 use std::alloc::Global;
 use std::fmt::Write;
 use std::sync::Arc;

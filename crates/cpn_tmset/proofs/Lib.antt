@@ -14,5 +14,9 @@ mod Ranks
 mod EarliestTimes
 mod NeedPlaces
 mod TakenStamps
+mod SubtractedNeeds
+mod MultisetNeeds
+pub mod ChangeOrder
+mod ChangedRows
 mod RoomLeft
 mod Rows

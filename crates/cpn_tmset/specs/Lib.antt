@@ -9,4 +9,7 @@ pub mod Listed
 pub mod Picks
 pub mod PicksViews
 pub mod NeedPositions
+pub mod Subtracted
+pub mod Changed
+pub mod ChangedViews
 pub mod ListedViews

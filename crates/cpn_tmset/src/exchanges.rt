@@ -3,7 +3,7 @@ ghost use Rattle.std.specs.Prelude.{◌≡◌, ◌+◌, ◌<◌, ◌≤◌, ◌^
 ghost use Rattle.std.specs.List.{list_any, slice_get};
 ghost use Rattle.cpn_definitions.specs.Lists.{IsInOrder};
 ghost use Rattle.cpn_definitions.specs.Order.{same_value};
-ghost use Rattle.cpn_definitions.specs.Marking.{add_token, on_place, token_at, tokens_at, stamps, without_token};
+ghost use Rattle.cpn_definitions.specs.Marking.{add_token, on_place, token_at, tokens_at, stamps, without_token, AreSorted};
 ghost use Rattle.cpn_definitions.specs.Occurrence.{add_made, are_covered, needed_cmp, subtract, threshold};
 ghost use Rattle.cpn_definitions.specs.Times.{last_time};
 ghost use Rattle.cpn_core.specs.NeedsViews.{needed_view, needed_views};
@@ -11,6 +11,7 @@ ghost use Rattle.cpn_core.specs.OutputsViews.{made_view};
 ghost use Rattle.cpn_core.specs.Views.{value_view};
 ghost use Rattle.cpn_tmset.specs.Limits.{HasRoom, HaveRoomFor};
 ghost use Rattle.cpn_tmset.specs.NeedPositions.{IsStartOfNeed, need_before};
+ghost use Rattle.cpn_tmset.specs.Subtracted.{IsSubtracted};
 
 use crate::markings::Marking;
 use cpn_core::{Made, Memory, Needed, Needs, Outputs, Value};
@@ -51,6 +52,8 @@ impl Marking {
     pub fn subtract(&mut self, needs: &Needs, time: u64)
         requires time { time ≤ last_time }
         ensures subtracted { self.new ≡ subtract (threshold time) needs.now self.old }
+        // The timed subtraction of stamps: of each value on each place those are left that its thresholds leave.
+        ensures left { IsSubtracted time needs.now self.old self.new }
     {
         for need in needs.tokens() {
             self.take_if_there(need.place, &need.value, time + need.offset);
@@ -80,6 +83,7 @@ impl Marking {
     // Takes the latest token of the value whose stamp is not above `latest`; a place past the last one has none.
     fn take_if_there(&mut self, place: u32, value: &Value, latest: u64)
         ensures taken { self.new ≡ on_place place (without_token (value_view value.now) latest) self.old }
+        ensures sorted { AreSorted (tokens_at self.old place) }
     {
         if (place as usize) < self.len() {
             self.take(place, value, latest);

@@ -83,6 +83,7 @@ impl Marking {
         ensures taken { self.new ≡ on_place place (without_token (value_view value.now) latest) self.old }
         // The timed subtraction: the value's stamps there lose their largest one that is not above `latest`.
         ensures stamps { stamps (value_view value.now) (tokens_at self.new place) ≡ without_latest latest (stamps (value_view value.now) (tokens_at self.old place)) }
+        ensures sorted { AreSorted (tokens_at self.old place) }
         ensures places { length self.new ≡ length self.old }
     {
         let held = &mut self.places[place as usize];

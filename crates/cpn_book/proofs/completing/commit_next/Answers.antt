@@ -12,8 +12,8 @@ use Rattle.cpn_log.specs.LogViews.{log_view, jobs_in}
 use Rattle.cpn_log.specs.States.{state_view}
 use Rattle.cpn_log.specs.declared.states.ClaimState.{ClaimState}
 use Rattle.cpn_log.specs.declared.states.ClaimState.TheVariants as states
-use Rattle.cpn_runs.specs.declared.occurrences.Occurrence.{Occurrence}
-use Rattle.cpn_runs.specs.Views.{occurrence_view}
+use Rattle.cpn_core.specs.declared.occurrences.Occurrence.{Occurrence}
+use Rattle.cpn_core.specs.Occurrences.{occurrence_view}
 use Rattle.cpn_book.proofs.CommittedStandings.{has_committed_at, still_at, committed_told}
 use Rattle.cpn_book.proofs.NextClaims.{IsNext, next_stands, not_begun, is_done_next, begins_done, committed_next, element_next, time_next}
 use Rattle.cpn_book.proofs.completing.commit_next.Goals as goal

@@ -5,12 +5,13 @@ use Rattle.std.specs.declared.sync.Arc.{Arc}
 use Rattle.cpn_core.specs.declared.bindings.Element.{Element}
 use Rattle.cpn_definitions.specs.Occurrence.{PlainElement}
 use Rattle.cpn_definitions.proofs.ListItems.{map_more}
-use Rattle.cpn_runs.specs.declared.occurrences.Occurrence.{Occurrence}
+use Rattle.cpn_core.specs.declared.occurrences.Occurrence.{Occurrence}
 use Rattle.cpn_core.specs.Elements.{element_view}
 use Rattle.cpn_jobs.specs.declared.work.Job.{Job}
 use Rattle.cpn_runs.specs.FinishedViews.{setup_view}
 use Rattle.cpn_runs.specs.State.{claim_made, claim_completed}
-use Rattle.cpn_runs.specs.Views.{event_view, occurrence_view}
+use Rattle.cpn_core.specs.Occurrences.{occurrence_view}
+use Rattle.cpn_runs.specs.Views.{event_view}
 use Rattle.cpn_runs.specs.declared.events.Event.{Event}
 use Rattle.cpn_runs.specs.declared.events.Event.TheVariants as events
 use Rattle.cpn_book.proofs.DrawnClaims.{drawn_in_time, drawn_covered}

@@ -6,7 +6,8 @@ use Rattle.cpn_log.specs.Kept.{IsKept}
 use Rattle.cpn_log.specs.Logs.{started, heads}
 use Rattle.cpn_log.specs.LogViews.{log_view}
 use Rattle.cpn_jobs.specs.Views.{job_view}
-use Rattle.cpn_runs.specs.Views.{event_view, occurrence_view}
+use Rattle.cpn_core.specs.Occurrences.{occurrence_view}
+use Rattle.cpn_runs.specs.Views.{event_view}
 use Rattle.cpn_book.specs.StandingRuns.{IsTold, StandsAt}
 use Rattle.cpn_book.specs.Standings.{job_for}
 use Rattle.std.proofs.lemmas.List.{length-replicate}

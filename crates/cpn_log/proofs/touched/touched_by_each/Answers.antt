@@ -1,7 +1,7 @@
 -- One claim more.
 use Rattle.std.proofs.Common.{◌++◌, map, sym, ap, ◌∙◌, append_assoc, take, arith}
 use Rattle.cpn_runs.specs.HoleRun.{added}
-use Rattle.cpn_log.specs.Changed.{need_change, made_change, touched}
+use Rattle.cpn_log.specs.Gathered.{need_change, made_change, touched}
 use Rattle.cpn_log.specs.ClaimViews.{claim_view, claim_views, status_view}
 use Rattle.cpn_log.proofs.ToldItems.{touched_more}
 use Rattle.cpn_log.proofs.touched.touched_by_each.Goals as goal

@@ -1,7 +1,7 @@
 -- Those of the claims so far.
 use Rattle.std.proofs.Common.{◌≡◌, take}
-use Rattle.cpn_log.specs.Changed.{touched}
-use Rattle.cpn_log.specs.ChangedViews.{change_views}
+use Rattle.cpn_log.specs.Gathered.{touched}
+use Rattle.cpn_tmset.specs.ChangedViews.{change_views}
 use Rattle.cpn_log.specs.ClaimViews.{claim_views}
 use Rattle.cpn_log.proofs.touched.touched_by_each.Given as goal
 

@@ -3,10 +3,10 @@ use Rattle.std.proofs.Common.{rules, ◌≡◌, is_lt, subst}
 use Rattle.std.specs.List.Sorted.{IsPermutation}
 use Rattle.std.proofs.lemmas.Fn.{always_returns_same}
 use Rattle.std.proofs.lemmas.List.Sorted.{ranks_by, IsPermutation-map}
-use Rattle.cpn_log.specs.Changed.{change_cmp}
-use Rattle.cpn_log.specs.ChangedViews.{change_view, change_views}
-use Rattle.cpn_log.specs.declared.changed.Change.{Change}
-use Rattle.cpn_log.proofs.ChangeOrder.{change_cmp_total}
+use Rattle.cpn_tmset.specs.Changed.{change_cmp}
+use Rattle.cpn_tmset.specs.ChangedViews.{change_view, change_views}
+use Rattle.cpn_tmset.specs.declared.changed.Change.{Change}
+use Rattle.cpn_tmset.proofs.ChangeOrder.{change_cmp_total}
 use Rattle.cpn_log.proofs.touched.touched_in_order.Goals as goal
 
 pub returns-clause-same : goal.returns-clause-same

@@ -1,6 +1,6 @@
 -- Each turn writes the line of the next occurrence.
 use Rattle.cpn_core.specs.Nets.{net_view}
-use Rattle.cpn_runs.specs.Views.{occurrence_view}
+use Rattle.cpn_core.specs.Occurrences.{occurrence_view}
 use Rattle.cpn_report.specs.Report.{occurrence_line}
 use Rattle.cpn_report.specs.Printable.{is_occurrence}
 use Rattle.cpn_report.proofs.PrintableNets.{passes_seen}

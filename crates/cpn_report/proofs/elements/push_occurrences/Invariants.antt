@@ -3,7 +3,7 @@ use Rattle.std.proofs.Common.{◌≡◌, ◌++◌, map, drop}
 use Rattle.std.specs.List.{flat_map}
 use Rattle.std.specs.String.{string_bytes}
 use Rattle.cpn_core.specs.Nets.{net_view}
-use Rattle.cpn_runs.specs.Views.{occurrence_view}
+use Rattle.cpn_core.specs.Occurrences.{occurrence_view}
 use Rattle.cpn_report.specs.Report.{occurrence_line}
 use Rattle.cpn_report.proofs.elements.push_occurrences.Given as goal
 

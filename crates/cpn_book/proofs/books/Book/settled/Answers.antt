@@ -3,9 +3,9 @@
 use Rattle.std.proofs.Common.{◌≡◌, ◌-◌, ◌^◌, ap, sym, ◌∙◌, subst, map, Some}
 use Rattle.std.proofs.lemmas.Option.{same_Some}
 use Rattle.cpn_definitions.specs.Bounds.{IsBounded}
-use Rattle.cpn_definitions.specs.Legal.{Legal}
+use Rattle.cpn_definitions.specs.Legal.{Legal, timed}
 use Rattle.cpn_definitions.specs.Sound.{IsMarking}
-use Rattle.cpn_runs.specs.State.{settled_in, unclaimed_in, committed_occurrences, timed}
+use Rattle.cpn_runs.specs.State.{settled_in, unclaimed_in, committed_occurrences}
 use Rattle.cpn_runs.proofs.Journals.{Settles, every_journal_settles, marking_is_start}
 use Rattle.cpn_book.proofs.OpenClaims.{none_counted}
 use Rattle.cpn_book.specs.Books.{setup_in, journal_in}

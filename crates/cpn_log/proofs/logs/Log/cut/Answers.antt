@@ -3,8 +3,9 @@ use Rattle.std.proofs.Common.{◌≡◌, ◌-◌, length, take, drop, map, sym, 
 use Rattle.std.specs.List.{filter}
 use Rattle.std.specs.List.Sorted.{IsPermutation}
 use Rattle.std.proofs.lemmas.List.{take-map}
-use Rattle.cpn_log.specs.Changed.{AreChanges, differs, each_once, touched}
-use Rattle.cpn_log.specs.ChangedViews.{change_view, change_views, changes_view}
+use Rattle.cpn_tmset.specs.Changed.{AreChanges}
+use Rattle.cpn_log.specs.Gathered.{differs, each_once, touched}
+use Rattle.cpn_tmset.specs.ChangedViews.{change_view, change_views, changes_view}
 use Rattle.cpn_log.specs.ClaimViews.{claim_view}
 use Rattle.cpn_log.specs.LogViews.{log_view}
 use Rattle.cpn_log.specs.MarkingViews.{settled_in, unclaimed_in}

@@ -6,6 +6,7 @@ use Rattle.cpn_log.specs.LogViews.{log_view}
 use Rattle.cpn_log.proofs.LogParts.{open_at}
 use Rattle.cpn_log.proofs.LogSteps.{open_within}
 use Rattle.cpn_log.proofs.Completions.{kept_completed, left_by_none}
+use Rattle.cpn_log.proofs.ClaimStandings.{failed_stands}
 use Rattle.cpn_log.proofs.logs.Log.fail.Goals as goal
 
 pub complete-requires-clause-within : goal.complete-requires-clause-within
@@ -21,3 +22,8 @@ returns-clause-kept c =
     let status = faulted_with (fault_view c.args.fault) in
     kept_completed log c.args.number c.requires.kept o (log_view c.complete.new.self) status (omega arith) c.complete.ensures.committed c.complete.ensures.settled c.complete.ensures.completed
     (c.complete.ensures.unclaimed ∙ left_by_none log c.args.number c.requires.kept o status refl)
+
+pub returns-clause-stands : goal.returns-clause-stands
+returns-clause-stands c =
+    let log = log_view c.args.self.now in
+    failed_stands log (log_view c.complete.new.self) c.args.number (fault_view c.args.fault) (open_at log c.args.number c.requires.open) c.complete.ensures.committed c.complete.ensures.completed

@@ -1,14 +1,14 @@
 -- The log stays kept when an open claim is filled, and the changes are those of its outputs.
-use Rattle.std.proofs.Common.{◌≡◌, ◌-◌, length, map, sym, ap, subst, ◌∙◌, arith}
-use Rattle.std.specs.List.{filter}
+use Rattle.std.proofs.Common.{◌-◌, length, sym, subst, ◌∙◌, arith}
 use Rattle.cpn_runs.specs.HoleRun.{done_with}
-use Rattle.cpn_log.specs.Changed.{AreChanges, differs, each_once, made_change}
-use Rattle.cpn_log.specs.ChangedViews.{change_views, changes_view}
+use Rattle.cpn_tmset.specs.Changed.{AreChanges}
+use Rattle.cpn_tmset.specs.ChangedViews.{changes_view}
 use Rattle.cpn_log.specs.LogViews.{log_view}
 use Rattle.cpn_log.specs.MarkingViews.{settled_in, unclaimed_in}
 use Rattle.cpn_log.proofs.LogParts.{made_is, open_at}
 use Rattle.cpn_log.proofs.LogSteps.{open_within, all_behind, behind_all}
 use Rattle.cpn_log.proofs.Completions.{kept_completed, left_by_last, room_behind_last, last_changes, earlier_changes, left_by_all, all_in_range, room_for_each}
+use Rattle.cpn_log.proofs.ClaimStandings.{filled_stands}
 use Rattle.cpn_log.proofs.logs.Log.fill.Goals as goal
 
 pub add-requires : goal.add-requires
@@ -43,9 +43,14 @@ pub returns-then-position-len-clause-changes : goal.returns-then-position-len-cl
 returns-then-position-len-clause-changes c =
     let log = log_view c.args.self.now in
     let o = open_at log c.args.number c.requires.open in
-    let changes = last_changes log c.args.number c.requires.kept o c.args.outputs c.of_outputs.ensures.in_order c.requires.in_range in
+    let changes = last_changes log c.args.number c.requires.kept o c.args.outputs c.changes_of_outputs.ensures.in_order c.requires.in_range in
     let left = c.complete.ensures.unclaimed ∙ c.in_ok-add.ensures.added in
-    subst (λ m. AreChanges log.unclaimed m (changes_view c.in_ok-told.told)) (sym left) (rw c.in_ok-told.ensures.told changes)
+    subst (λ m. AreChanges log.unclaimed m (changes_view c.in_ok-changes.changes)) (sym left) (rw c.in_ok-changes.ensures.told changes)
+
+pub returns-then-position-len-clause-stands : goal.returns-then-position-len-clause-stands
+returns-then-position-len-clause-stands c =
+    let log = log_view c.args.self.now in
+    filled_stands log (log_view c.complete.new.self) c.args.number c.args.outputs (open_at log c.args.number c.requires.open) c.complete.ensures.committed c.complete.ensures.completed
 
 -- ---- an earlier claim
 
@@ -81,8 +86,10 @@ returns-clause-changes c =
     let new = log_view c.complete-2.new.self in
     let o = open_at log c.args.number c.requires.open in
     let left = left_by_all log c.args.number c.requires.kept o new (done_with c.args.outputs) (c.len-2.result - length new.committed) c.in_ok-left.left c.complete-2.ensures.completed c.complete-2.ensures.settled (all_behind c.complete-2.new.self c.len-2.result (omega (arith, c.len-2.ensures))) c.in_ok-left.ensures in
-    let changes = earlier_changes log c.args.number c.requires.kept o c.args.outputs c.in_ok-left.left c.of_outputs.ensures.in_order left in
-    let old : c.unclaimed.result.now ≡ log.unclaimed = c.unclaimed.ensures ∙ c.complete-2.ensures.unclaimed in
-    let told : changes_view c.in_ok-changes.changes ≡ each_once (filter (differs log.unclaimed c.in_ok-left.left) (each_once (map made_change c.args.outputs))) =
-    c.in_ok-changes.ensures ∙ ap (λ m. each_once (filter (differs m c.in_ok-left.left) (change_views c.items.result.now))) old ∙ ap (λ cs. each_once (filter (differs log.unclaimed c.in_ok-left.left) cs)) (c.items.ensures ∙ c.in_ok-told.ensures.told) in
-    subst (λ m. AreChanges log.unclaimed m (changes_view c.in_ok-changes.changes)) (sym c.replace.ensures.unclaimed) (subst (AreChanges log.unclaimed c.in_ok-left.left) (sym told) changes)
+    let changes = earlier_changes log c.args.number c.requires.kept o c.args.outputs c.in_ok-left.left c.changes_of_outputs.ensures.in_order c.requires.in_range left in
+    subst (λ m. AreChanges log.unclaimed m (changes_view c.in_ok-changes.changes)) (sym c.replace.ensures.unclaimed) (rw c.in_ok-changes.ensures.told changes)
+
+pub returns-clause-stands : goal.returns-clause-stands
+returns-clause-stands c =
+    let log = log_view c.args.self.now in
+    filled_stands log (log_view c.complete-2.new.self) c.args.number c.args.outputs (open_at log c.args.number c.requires.open) c.complete-2.ensures.committed c.complete-2.ensures.completed

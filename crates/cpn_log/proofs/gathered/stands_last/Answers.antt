@@ -2,10 +2,10 @@
 use Rattle.std.proofs.Common.{sym, ◌∙◌}
 use Rattle.cpn_definitions.specs.Order.{same_value}
 use Rattle.cpn_core.specs.Views.{value_view}
-use Rattle.cpn_log.specs.Changed.{PlainChange}
-use Rattle.cpn_log.specs.ChangedViews.{change_view}
+use Rattle.cpn_tmset.specs.Changed.{PlainChange}
+use Rattle.cpn_tmset.specs.ChangedViews.{change_view}
 use Rattle.cpn_log.proofs.ToldItems.{last_is, same_on_place, none_on_place}
-use Rattle.cpn_log.proofs.changed.stands_last.Goals as goal
+use Rattle.cpn_log.proofs.gathered.stands_last.Goals as goal
 
 pub returns-then-place-last : goal.returns-then-place-last
 returns-then-place-last c =

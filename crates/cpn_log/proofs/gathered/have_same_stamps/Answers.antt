@@ -4,7 +4,7 @@ use Rattle.std.specs.Option.{is_some}
 use Rattle.cpn_definitions.specs.Marking.{stamps, tokens_at}
 use Rattle.cpn_core.specs.Views.{value_view}
 use Rattle.cpn_log.proofs.StampLists.{alike_at_rank, differ_at_rank, ended_at_rank, ended_with_tokens, unlike_at_rank}
-use Rattle.cpn_log.proofs.changed.have_same_stamps.Goals as goal
+use Rattle.cpn_log.proofs.gathered.have_same_stamps.Goals as goal
 
 is_none_there : (o : Option ℕ) → is_some o ≡ false → o ≡ None
 is_none_there None h = refl

@@ -1,9 +1,0 @@
--- Those so far stand there, each once.
-use Rattle.std.proofs.Common.{◌≡◌, map, take}
-use Rattle.cpn_core.specs.NeedsViews.{needed_views}
-use Rattle.cpn_log.specs.Changed.{each_once, need_change}
-use Rattle.cpn_log.specs.ChangedViews.{change_views}
-use Rattle.cpn_log.proofs.changed.Changes.of_needs.Given as goal
-
-abbrev pub invariant-loop-need : goal.invariant-loop-need
-invariant-loop-need l = change_views l.items.items ≡ each_once (map need_change (needed_views (take l.need-index l.tokens)))

@@ -1,9 +1,0 @@
--- Those so far stand there, each once.
-use Rattle.std.proofs.Common.{◌≡◌, map, take}
-use Rattle.cpn_core.specs.OutputsViews.{made_views}
-use Rattle.cpn_log.specs.Changed.{each_once, made_change}
-use Rattle.cpn_log.specs.ChangedViews.{change_views}
-use Rattle.cpn_log.proofs.changed.Changes.of_outputs.Given as goal
-
-abbrev pub invariant-loop-made : goal.invariant-loop-made
-invariant-loop-made l = change_views l.items.items ≡ each_once (map made_change (made_views (take l.made-index l.tokens)))
