@@ -48,3 +48,4 @@ pub mod NumberTests
 pub mod TruthValues
 pub mod ListItems
 pub mod ValueRows
+mod IntegerRows

@@ -20,3 +20,5 @@ pub mod Sound
 pub mod Named
 pub mod Times
 pub mod Bounds
+pub mod DistinctNames
+pub mod Integers

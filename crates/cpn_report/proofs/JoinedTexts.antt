@@ -11,10 +11,16 @@ use Rattle.cpn_report.specs.ValueText.{joined}
 pub rest_is : {X : Type 0} (xs : List X) (i : ℕ) (x : X) → i < length xs → x ≡ get_or xs i x → drop i xs ≡ x ∷ drop (i + 1) xs
 rest_is xs i x lt is = drop_more xs i x lt ∙ ap (λ y. y ∷ drop (i + 1) xs) (sym is)
 
--- the next item's text is written
-pub written_more : {X Y : Type 0} (f : Y → List ℕ) (view : X → Y) (xs : List X) (i : ℕ) (x : X) (text next whole : List ℕ) → i < length xs → x ≡ get_or xs i x → text ++ flat_map f (map view (drop i xs)) ≡ whole → next ≡ text ++ f (view x) → next ++ flat_map f (map view (drop (i + 1) xs)) ≡ whole
-written_more f view xs i x text next whole lt is kept more =
-    rw (more, append_assoc) ((ap (λ ys. text ++ flat_map f (map view ys)) (sym (rest_is xs i x lt is))) ∙ kept)
+-- The next item's text is written: the text of items from a number on is that of the first and that of the others.
+pub written_more : {X : Type 0} (all : ℕ → List X → List ℕ) (one : ℕ → X → List ℕ) → ((i : ℕ) (x : X) (xs : List X) → all i (x ∷ xs) ≡ one i x ++ all (i + 1) xs) → (xs : List X) (i : ℕ) (x : X) (text next whole : List ℕ) → i < length xs → x ≡ get_or xs i x → text ++ all i (drop i xs) ≡ whole → next ≡ text ++ one i x → next ++ all (i + 1) (drop (i + 1) xs) ≡ whole
+written_more all one step xs i x text next whole lt is kept more =
+    let rest = all (i + 1) (drop (i + 1) xs) in
+    ap (λ t. t ++ rest) more ∙ append_assoc text (one i x) rest ∙ ap (λ t. text ++ t) (sym (step i x (drop (i + 1) xs)) ∙ ap (all i) (sym (rest_is xs i x lt is))) ∙ kept
+
+-- the first of joined texts, and before each of the others what stands between
+pub joined_after : (between t : List ℕ) (ts : List (List ℕ)) → joined between (t ∷ ts) ≡ t ++ flat_map (λ u. between ++ u) ts
+joined_after between t [] = sym (append-nil t)
+joined_after between t (u ∷ us) = append_assoc t between (joined between (u ∷ us)) ∙ ap (λ rest. t ++ rest) (ap (λ rest. between ++ rest) (joined_after between u us) ∙ sym (append_assoc between u (flat_map (λ x. between ++ x) us)))
 
 -- joined texts with one more in front
 joined_two : (between t : List ℕ) (ts : List (List ℕ)) → 0 < length ts → joined between (t ∷ ts) ≡ t ++ (between ++ joined between ts)

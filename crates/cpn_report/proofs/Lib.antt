@@ -1,7 +1,15 @@
+mod BytesApart
+mod ElementsApart
 mod GroupedTokens
 mod JoinedTexts
+mod JournalsTold
+mod LineFeeds
+mod NamesApart
 mod PrintableNets
 mod PrintableRuns
+mod ReportTexts
+mod RunRows
 mod ScheduleLines
 mod ShapedText
+mod ValuesApart
 mod Rows

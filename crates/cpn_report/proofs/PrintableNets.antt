@@ -44,12 +44,15 @@ pairs_bound n (x ∷ xs) (pair ∷ pairs) declared bound =
     let first : is_bound n pair ≡ true = subst (λ y. (nat_lt y (length n.variables) && admits (variable_at n y).colour pair.1) ≡ true) same (and_from _ _ known.0 this.1) in
     and_from _ _ first (pairs_bound n xs pairs known.1 parts.1)
 
+-- the variables of a transition of a sound net are variables of the net
+pub variables_declared : (n : PlainNet) (t : ℕ) → IsSound n → t < length n.transitions → list_all (λ x. nat_lt x (length n.variables)) (transition_at n t).vars ≡ true
+variables_declared n t sound lt = let is = has_at (IsSoundTransition n) n.transitions t no_transition lt sound.transitions_sound in is.declared
+
 -- the pairs of a binding element of a sound net
 pub element_bound : (n : PlainNet) (e : PlainElement) → IsSound n → is_binding_element n e ≡ true → list_all (is_bound n) e.binding ≡ true
 element_bound n e sound bound =
     let parts = and_parts (nat_lt e.transition (length n.transitions)) (binds n (transition_at n e.transition).vars e.binding) bound in
-    let t = has_at (IsSoundTransition n) n.transitions e.transition no_transition (ltb-true _ _ parts.0) sound.transitions_sound in
-    pairs_bound n (transition_at n e.transition).vars e.binding t.declared parts.1
+    pairs_bound n (transition_at n e.transition).vars e.binding (variables_declared n e.transition sound (ltb-true _ _ parts.0)) parts.1
 
 -- ---- markings
 

@@ -1,35 +1,14 @@
 -- The schedule line tells a journal apart from each other one: it is read back event by event, since no digit of a number
 -- is the space or the line feed that stands after it.
-use Rattle.std.proofs.Common.{◌≡◌, ◌∙◌, refl, sym, ap, ap₂, ℕ, ◌<◌, ◌≤◌, ◌^◌, ◌==◌, cond, subst, List, [], ◌∷◌, ◌++◌, drop, get_or, append_assoc, arith}
+use Rattle.std.proofs.Common.{◌≡◌, ◌∙◌, refl, sym, ap, ap₂, ℕ, ◌==◌, false, cond, subst, List, [], ◌∷◌, ◌++◌, drop, get_or, append_assoc, arith}
 use Rattle.std.specs.Prelude.{codes}
 use Rattle.std.specs.List.{flat_map}
-use Rattle.std.specs.Char.{digit_value}
 use Rattle.std.specs.Fmt.{decimal}
-use Rattle.std.specs.Str.Parse.{AllDigits}
-use Rattle.std.proofs.lemmas.Fmt.{decimal_is_IsNumeral, decimal_injective}
+use Rattle.cpn_definitions.specs.DistinctNames.{is_word_byte}
 use Rattle.cpn_runs.specs.State.{PlainEvent, claim_made, claim_completed, clock_moved, cut_made}
-use Rattle.cpn_report.specs.Report.{event_text, schedule_line}
+use Rattle.cpn_report.specs.Lines.{event_text, schedule_text}
 use Rattle.cpn_report.specs.Schedule.{Kind, claim, completion, move, cut, without_seat, without_seats, AreNumbered, SchedulesDiffer}
-
--- no digit begins the text
-abbrev EndsDigits : List ℕ → Type 0
-EndsDigits text = 10 ≤ digit_value (get_or text 0 0)
-
--- Two rows of digits are the same, and what follows them, where no digit follows.
-digits_apart : (xs ys r s : List ℕ) → AllDigits 10 xs → AllDigits 10 ys → EndsDigits r → EndsDigits s → xs ++ r ≡ ys ++ s → (xs ≡ ys) × (r ≡ s)
-digits_apart [] [] r s dx dy er es e = (refl, e)
-digits_apart [] (y ∷ ys) r s dx dy er es e = let first : get_or r 0 0 ≡ y = ap (λ t. get_or t 0 0) e in absurd (omega (arith, dy.0, ap digit_value first))
-digits_apart (x ∷ xs) [] r s dx dy er es e = let first : x ≡ get_or s 0 0 = ap (λ t. get_or t 0 0) e in absurd (omega (arith, dx.0, ap digit_value first))
-digits_apart (x ∷ xs) (y ∷ ys) r s dx dy er es e =
-    let first : x ≡ y = ap (λ t. get_or t 0 0) e in
-    let rest = digits_apart xs ys r s dx.1 dy.1 er es (ap (drop 1) e) in
-    (ap₂ (λ z zs. z ∷ zs) first rest.0, rest.1)
-
--- two numbers are the same, and what follows them, where no digit follows
-numbers_apart : (j k : ℕ) (r s : List ℕ) → j < 2 ^ 64 → k < 2 ^ 64 → EndsDigits r → EndsDigits s → decimal j ++ r ≡ decimal k ++ s → (j ≡ k) × (r ≡ s)
-numbers_apart j k r s lj lk er es e =
-    let apart = digits_apart (decimal j) (decimal k) r s (decimal_is_IsNumeral j lj).0.1 (decimal_is_IsNumeral k lk).0.1 er es e in
-    (decimal_injective j k lj lk apart.0, apart.1)
+use Rattle.cpn_report.proofs.BytesApart.{numbers_apart}
 
 -- the events, and the end of the line
 line_end : List PlainEvent → List ℕ
@@ -61,10 +40,11 @@ event_is (claim_completed seat number) journal = simp append_assoc
 event_is (clock_moved time) journal = simp append_assoc
 event_is (cut_made number) journal = simp append_assoc
 
-line_ends : (journal : List PlainEvent) → EndsDigits (line_end journal)
+-- it begins with a space or a line feed
+line_ends : (journal : List PlainEvent) → is_word_byte (get_or (line_end journal) 0 0) ≡ false
 unfolding line_end
-line_ends [] = omega arith
-line_ends (event ∷ journal) = subst EndsDigits (sym (event_is event journal)) (omega arith)
+line_ends [] = refl
+line_ends (event ∷ journal) = subst (λ text. is_word_byte (get_or text 0 0) ≡ false) (sym (event_is event journal)) refl
 
 -- texts that are the same have the same byte at each place
 byte_at : (i : ℕ) (text other : List ℕ) → text ≡ other → get_or text i 0 ≡ get_or other i 0
@@ -82,5 +62,5 @@ told (event ∷ journal) (event' ∷ other) numbered other_numbered e =
     ap₂ (λ (told : Kind × ℕ) rest. told ∷ rest) (ap₂ (λ kind n. (kind, n)) kinds apart.0) (told journal other numbered.1 other_numbered.1 apart.1)
 
 pub schedules_differ : SchedulesDiffer
-unfolding schedule_line line_end
-schedules_differ journal other numbered other_numbered e = told journal other numbered other_numbered (ap (drop 8) e)
+unfolding schedule_text line_end
+schedules_differ journal other numbered other_numbered e = told journal other numbered other_numbered (ap (λ text. drop 8 text ++ codes "\n") e)

@@ -1,4 +1,6 @@
+pub mod Lines
 pub mod Printable
 pub mod Report
 pub mod Schedule
+pub mod Told
 pub mod ValueText

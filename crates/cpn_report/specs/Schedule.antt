@@ -2,7 +2,7 @@
 use Rattle.std.specs.Prelude.{◌≡◌, ℕ, ◌<◌, ◌^◌, List, map}
 use Rattle.std.specs.List.{AllByRecursion}
 use Rattle.cpn_runs.specs.State.{PlainEvent, claim_made, claim_completed, clock_moved, cut_made}
-use Rattle.cpn_report.specs.Report.{schedule_line}
+use Rattle.cpn_report.specs.Lines.{schedule_text}
 
 -- what an event is, without its seat and its number or time
 pub data Kind : Type 0 where
@@ -27,4 +27,4 @@ AreNumbered journal = AllByRecursion (λ event. (without_seat event).1 < 2 ^ 64)
 
 -- Two journals that differ in more than their seats have different schedule lines.
 abbrev pub SchedulesDiffer : Type 0
-SchedulesDiffer = (journal other : List PlainEvent) → AreNumbered journal → AreNumbered other → schedule_line journal ≡ schedule_line other → without_seats journal ≡ without_seats other
+SchedulesDiffer = (journal other : List PlainEvent) → AreNumbered journal → AreNumbered other → schedule_text journal ≡ schedule_text other → without_seats journal ≡ without_seats other

@@ -1,6 +1,6 @@
 // Bindings, binding elements and occurrences as they are printed.
 ghost use Rattle.std.specs.Prelude.{◌≡◌, ◌++◌, true, codes, map, OnOk};
-ghost use Rattle.std.specs.List.{list_all, flat_map};
+ghost use Rattle.std.specs.List.{list_all};
 ghost use Rattle.std.specs.String.{string_bytes};
 ghost use Rattle.cpn_definitions.specs.Named.{is_named};
 ghost use Rattle.cpn_core.specs.Views.{value_view};
@@ -9,7 +9,7 @@ ghost use Rattle.cpn_core.specs.Nets.{net_view};
 ghost use Rattle.cpn_core.specs.Elements.{element_view};
 ghost use Rattle.cpn_core.specs.Occurrences.{occurrence_view};
 ghost use Rattle.cpn_report.specs.Printable.{IsPrintableNet, is_bound, is_binding_element, is_occurrence};
-ghost use Rattle.cpn_report.specs.Report.{pair_text, binding_text, element_text, occurrence_line};
+ghost use Rattle.cpn_report.specs.Lines.{occurrence_line, pair_text, binding_text, element_text, occurrence_text, ended, lines_text};
 ghost use Rattle.cpn_report.specs.ValueText.{joined};
 
 use crate::values::push_value;
@@ -45,7 +45,7 @@ fn push_pairs(out: &mut String, net: &Net, pairs: &[Pair]) -> Result<(), Memory>
 }
 
 /// Appends a binding, in declaration order of its variables.
-#[tactic(auto, unfolding(crate::specs::Report::binding_text))]
+#[tactic(auto, unfolding(crate::specs::Lines::binding_text))]
 pub(crate) fn push_binding(out: &mut String, net: &Net, binding: &Binding) -> Result<(), Memory>
     requires named { list_all (is_named (net_view net.now)) (net_view net.now).variables ≡ true }
     requires bound { list_all (is_bound (net_view net.now)) binding.now ≡ true }
@@ -58,7 +58,7 @@ pub(crate) fn push_binding(out: &mut String, net: &Net, binding: &Binding) -> Re
 }
 
 /// Appends a binding element.
-#[tactic(auto, unfolding(crate::specs::Report::element_text))]
+#[tactic(auto, unfolding(crate::specs::Lines::element_text))]
 pub fn push_element(out: &mut String, net: &Net, element: &Element) -> Result<(), Memory>
     requires net { IsPrintableNet (net_view net.now) }
     requires element { is_binding_element (net_view net.now) (element_view element.now) ≡ true }
@@ -72,11 +72,11 @@ pub fn push_element(out: &mut String, net: &Net, element: &Element) -> Result<()
 }
 
 /// Appends the line of an occurrence.
-#[tactic(auto, unfolding(crate::specs::Report::occurrence_line))]
+#[tactic(auto, unfolding(crate::specs::Lines::occurrence_text))]
 fn push_occurrence_line(out: &mut String, net: &Net, occurrence: &Occurrence) -> Result<(), Memory>
     requires net { IsPrintableNet (net_view net.now) }
     requires element { is_occurrence (net_view net.now) (occurrence_view occurrence.now) ≡ true }
-    ensures written { OnOk result (string_bytes out.new ≡ string_bytes out.old ++ occurrence_line (net_view net.now) (occurrence_view occurrence.now)) }
+    ensures written { OnOk result (string_bytes out.new ≡ string_bytes out.old ++ ended (occurrence_text (net_view net.now) (occurrence_view occurrence.now))) }
 {
     let number = occurrence.number;
     let time = occurrence.time;
@@ -94,7 +94,7 @@ pub(crate) fn push_occurrences(
 ) -> Result<(), Memory>
     requires net { IsPrintableNet (net_view net.now) }
     requires elements { list_all (is_occurrence (net_view net.now)) (map occurrence_view occurrences.now) ≡ true }
-    ensures written { OnOk result (string_bytes out.new ≡ string_bytes out.old ++ flat_map (occurrence_line (net_view net.now)) (map occurrence_view occurrences.now)) }
+    ensures written { OnOk result (string_bytes out.new ≡ string_bytes out.old ++ lines_text (net_view net.now) (map occurrence_line (map occurrence_view occurrences.now))) }
 {
     for occurrence in occurrences {
         push_occurrence_line(out, net, occurrence)?;

@@ -5,7 +5,7 @@ ghost use Rattle.cpn_core.specs.Nets.{net_view};
 ghost use Rattle.cpn_core.specs.Faults.{fault_view};
 ghost use Rattle.cpn_runs.specs.Views.{end_view};
 ghost use Rattle.cpn_report.specs.Printable.{IsPrintableNet, IsCause};
-ghost use Rattle.cpn_report.specs.Report.{fault_text, cause_text, end_line};
+ghost use Rattle.cpn_report.specs.Lines.{fault_text, cause_text, end_text, ended};
 
 use crate::elements::push_element;
 use cpn_core::{EvalFault, Memory, Net};
@@ -13,11 +13,11 @@ use cpn_runs::End;
 use std::fmt::Write;
 
 /// Appends the line of the cause of the run's end.
-#[tactic(auto, unfolding(crate::specs::Report::end_line))]
+#[tactic(auto, unfolding(crate::specs::Lines::end_text))]
 pub(crate) fn push_end_line(out: &mut String, net: &Net, cause: &End) -> Result<(), Memory>
     requires net { IsPrintableNet (net_view net.now) }
     requires cause { IsCause (net_view net.now) (end_view cause.now) }
-    ensures written { OnOk result (string_bytes out.new ≡ string_bytes out.old ++ end_line (net_view net.now) (end_view cause.now)) }
+    ensures written { OnOk result (string_bytes out.new ≡ string_bytes out.old ++ ended (end_text (net_view net.now) (end_view cause.now))) }
 {
     out.push_str("end ")?;
     push_cause(out, net, cause)?;

@@ -7,7 +7,7 @@ ghost use Rattle.cpn_definitions.specs.Named.{has_names};
 ghost use Rattle.cpn_core.specs.Colours.{shape_view, colour_view};
 ghost use Rattle.cpn_core.specs.Nets.{net_view};
 ghost use Rattle.cpn_tmset.specs.ListedViews.{group_view, groups_view};
-ghost use Rattle.cpn_report.specs.Report.{group_text, tokens_text};
+ghost use Rattle.cpn_report.specs.Lines.{group_text, tokens_text};
 ghost use Rattle.cpn_report.specs.ValueText.{joined};
 
 use crate::values::push_value;

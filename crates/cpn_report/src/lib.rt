@@ -13,6 +13,7 @@ mod names;
 mod places;
 mod reports;
 mod runs;
+mod told;
 mod traces;
 mod values;
 
@@ -22,5 +23,6 @@ pub use names::has_names;
 pub use places::push_place_lines;
 pub use reports::report;
 pub use runs::printable_runs;
+pub use told::told_texts;
 pub use traces::Trace;
 pub use values::value_text;

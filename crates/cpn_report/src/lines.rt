@@ -1,8 +1,8 @@
 // The lines of a report that hold numbers and fixed words alone.
-ghost use Rattle.std.specs.Prelude.{◌≡◌, ◌++◌, map, OnOk};
+ghost use Rattle.std.specs.Prelude.{◌≡◌, ◌++◌, codes, map, OnOk};
 ghost use Rattle.std.specs.List.{flat_map};
 ghost use Rattle.std.specs.String.{string_bytes};
-ghost use Rattle.cpn_report.specs.Report.{report_line, run_line, time_text, event_text, schedule_line, occurrences_line, clock_line, ready_line, next_line, total_line};
+ghost use Rattle.cpn_report.specs.Lines.{ended, opening_text, time_text, event_text, schedule_text, occurrences_text, clock_text, ready_text, next_text, total_text};
 ghost use Rattle.cpn_runs.specs.Views.{event_view};
 ghost use Rattle.cpn_runs.specs.FinishedViews.{outlook_view};
 
@@ -11,9 +11,8 @@ use cpn_runs::{Event, Outlook};
 use std::fmt::Write;
 
 /// Appends the first line of each report.
-#[tactic(auto, unfolding(crate::specs::Report::report_line))]
 pub(crate) fn push_report_line(out: &mut String) -> Result<(), Memory>
-    ensures written { OnOk result (string_bytes out.new ≡ string_bytes out.old ++ report_line) }
+    ensures written { OnOk result (string_bytes out.new ≡ string_bytes out.old ++ ended (codes "report 1")) }
 {
     out.push_str("report 1\n")?;
     Ok(())
@@ -21,14 +20,14 @@ pub(crate) fn push_report_line(out: &mut String) -> Result<(), Memory>
 
 /// Appends the first line of the run with this number, which starts from the initial marking at the
 /// clock, with the outlook there.
-#[tactic(auto, unfolding(crate::specs::Report::run_line))]
+#[tactic(auto, unfolding(crate::specs::Lines::opening_text))]
 pub(crate) fn push_run_line(
     out: &mut String,
     number: u64,
     clock: u64,
     opening: &Outlook,
 ) -> Result<(), Memory>
-    ensures written { OnOk result (string_bytes out.new ≡ string_bytes out.old ++ run_line number clock (outlook_view opening.now)) }
+    ensures written { OnOk result (string_bytes out.new ≡ string_bytes out.old ++ ended (opening_text number clock (outlook_view opening.now))) }
 {
     let ready = opening.ready;
     write!(out, "run {number} initial {clock} ready {ready} next ")?;
@@ -49,9 +48,9 @@ pub fn push_time(out: &mut String, time: Option<u64>) -> Result<(), Memory>
 }
 
 /// Appends the line of the run's journal.
-#[tactic(auto, unfolding(crate::specs::Report::schedule_line))]
+#[tactic(auto, unfolding(crate::specs::Lines::schedule_text))]
 pub(crate) fn push_schedule_line(out: &mut String, journal: &[Event]) -> Result<(), Memory>
-    ensures written { OnOk result (string_bytes out.new ≡ string_bytes out.old ++ schedule_line (map event_view journal.now)) }
+    ensures written { OnOk result (string_bytes out.new ≡ string_bytes out.old ++ ended (schedule_text (map event_view journal.now))) }
 {
     out.push_str("schedule")?;
     push_events(out, journal)?;
@@ -83,36 +82,36 @@ fn push_event(out: &mut String, event: Event) -> Result<(), Memory>
 }
 
 /// Appends the line of the number of occurrences.
-#[tactic(auto, unfolding(crate::specs::Report::occurrences_line))]
+#[tactic(auto, unfolding(crate::specs::Lines::occurrences_text))]
 pub(crate) fn push_occurrences_line(out: &mut String, count: u64) -> Result<(), Memory>
-    ensures written { OnOk result (string_bytes out.new ≡ string_bytes out.old ++ occurrences_line count) }
+    ensures written { OnOk result (string_bytes out.new ≡ string_bytes out.old ++ ended (occurrences_text count)) }
 {
     write!(out, "occurrences {count}\n")?;
     Ok(())
 }
 
 /// Appends the line of the last clock.
-#[tactic(auto, unfolding(crate::specs::Report::clock_line))]
+#[tactic(auto, unfolding(crate::specs::Lines::clock_text))]
 pub(crate) fn push_clock_line(out: &mut String, clock: u64) -> Result<(), Memory>
-    ensures written { OnOk result (string_bytes out.new ≡ string_bytes out.old ++ clock_line clock) }
+    ensures written { OnOk result (string_bytes out.new ≡ string_bytes out.old ++ ended (clock_text clock)) }
 {
     write!(out, "clock {clock}\n")?;
     Ok(())
 }
 
 /// Appends the line of the number of ready elements.
-#[tactic(auto, unfolding(crate::specs::Report::ready_line))]
+#[tactic(auto, unfolding(crate::specs::Lines::ready_text))]
 pub(crate) fn push_ready_line(out: &mut String, count: u64) -> Result<(), Memory>
-    ensures written { OnOk result (string_bytes out.new ≡ string_bytes out.old ++ ready_line count) }
+    ensures written { OnOk result (string_bytes out.new ≡ string_bytes out.old ++ ended (ready_text count)) }
 {
     write!(out, "ready {count}\n")?;
     Ok(())
 }
 
 /// Appends the line of the next time.
-#[tactic(auto, unfolding(crate::specs::Report::next_line))]
+#[tactic(auto, unfolding(crate::specs::Lines::next_text))]
 pub(crate) fn push_next_line(out: &mut String, time: Option<u64>) -> Result<(), Memory>
-    ensures written { OnOk result (string_bytes out.new ≡ string_bytes out.old ++ next_line time) }
+    ensures written { OnOk result (string_bytes out.new ≡ string_bytes out.old ++ ended (next_text time)) }
 {
     out.push_str("next ")?;
     push_time(out, time)?;
@@ -121,9 +120,9 @@ pub(crate) fn push_next_line(out: &mut String, time: Option<u64>) -> Result<(), 
 }
 
 /// Appends the line of the number of occurrences in all runs.
-#[tactic(auto, unfolding(crate::specs::Report::total_line))]
+#[tactic(auto, unfolding(crate::specs::Lines::total_text))]
 pub(crate) fn push_total_line(out: &mut String, count: u64) -> Result<(), Memory>
-    ensures written { OnOk result (string_bytes out.new ≡ string_bytes out.old ++ total_line count) }
+    ensures written { OnOk result (string_bytes out.new ≡ string_bytes out.old ++ ended (total_text count)) }
 {
     write!(out, "total {count}\n")?;
     Ok(())

@@ -6,14 +6,15 @@ ghost use Rattle.cpn_definitions.specs.Sound.{IsMarking, may_hold};
 ghost use Rattle.cpn_definitions.specs.Named.{is_named, has_names};
 ghost use Rattle.cpn_core.specs.Colours.{shape_view, colour_view};
 ghost use Rattle.cpn_core.specs.Nets.{net_view, place_view};
-ghost use Rattle.cpn_report.specs.Report.{place_line, place_lines};
+ghost use Rattle.cpn_report.specs.Lines.{place_text, ended, lines_text};
+ghost use Rattle.cpn_report.specs.Report.{place_lines};
 
 use crate::groups::push_tokens;
 use cpn_core::{Memory, Net, Place};
 use cpn_tmset::{Marking, TMSet};
 
 /// Appends the line of a place.
-#[tactic(auto, unfolding(crate::specs::Report::place_line))]
+#[tactic(auto, unfolding(crate::specs::Lines::place_text))]
 pub(crate) fn push_place_line(
     out: &mut String,
     net: &Net,
@@ -22,7 +23,7 @@ pub(crate) fn push_place_line(
 ) -> Result<(), Memory>
     requires held { list_all (may_hold (colour_view place.now.colour)) tokens.now ≡ true }
     requires named { has_names (net_view net.now) (shape_view place.now.colour.shape) ≡ true }
-    ensures written { OnOk result (string_bytes out.new ≡ string_bytes out.old ++ place_line (net_view net.now) (place_view place.now) tokens.now) }
+    ensures written { OnOk result (string_bytes out.new ≡ string_bytes out.old ++ ended (place_text (net_view net.now) (place_view place.now) tokens.now)) }
 {
     out.push_str("place ")?;
     out.push_str(place.name.as_str())?;
@@ -32,7 +33,7 @@ pub(crate) fn push_place_line(
     Ok(())
 }
 
-/// Appends a line for each place of the marking, in order.
+/// Appends a line for each of the places, in order, with its tokens in the marking.
 pub fn push_place_lines(
     out: &mut String,
     net: &Net,
@@ -41,7 +42,7 @@ pub fn push_place_lines(
 ) -> Result<(), Memory>
     requires named { list_all (is_named (net_view net.now)) (map place_view places.now) ≡ true }
     requires marking { IsMarking (map place_view places.now) marking.now }
-    ensures written { OnOk result (string_bytes out.new ≡ string_bytes out.old ++ place_lines (net_view net.now) (map place_view places.now) marking.now) }
+    ensures written { OnOk result (string_bytes out.new ≡ string_bytes out.old ++ lines_text (net_view net.now) (place_lines (map place_view places.now) marking.now)) }
 {
     for (number, place) in places.iter().enumerate() {
         let tokens = marking.get(number).unwrap();

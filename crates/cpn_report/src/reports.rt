@@ -1,10 +1,12 @@
 // The whole report of a run.
 ghost use Rattle.std.specs.Prelude.{◌≡◌, ◌++◌, IfOk, OnOk};
+ghost use Rattle.std.specs.List.{filter};
 ghost use Rattle.std.specs.String.{string_bytes};
 ghost use Rattle.cpn_core.specs.Nets.{net_view};
 ghost use Rattle.cpn_runs.specs.FinishedViews.{setup_view, finished_view};
 ghost use Rattle.cpn_report.specs.Printable.{IsPrintable};
-ghost use Rattle.cpn_report.specs.Report.{trace_text, run_text, report_text};
+ghost use Rattle.cpn_report.specs.Lines.{lines_text};
+ghost use Rattle.cpn_report.specs.Report.{is_told, trace_lines, run_text, report_text};
 ghost use Rattle.cpn_report.specs.Schedule.{SchedulesDiffer};
 
 use crate::elements::push_occurrences;
@@ -25,7 +27,7 @@ use std::alloc::Global;
 ///
 /// Each value that is printed is one of the colour set of its variable or its place, and the net has the names for
 /// it. `Err` comes for want of memory alone.
-#[tactic(auto, using(crate::proofs::ScheduleLines::schedules_differ), unfolding(crate::specs::Report::report_text))]
+#[tactic(auto, using(crate::proofs::ScheduleLines::schedules_differ))]
 pub fn report(alloc: Global, trace: Trace, finished: &Finished) -> Result<String, Memory>
     requires printable { IsPrintable (net_view finished.now.setup.net.value) (finished_view finished.now) }
     ensures text { IfOk result (λ text. string_bytes text ≡ report_text trace (setup_view finished.now.setup) (finished_view finished.now)) }
@@ -40,7 +42,6 @@ pub fn report(alloc: Global, trace: Trace, finished: &Finished) -> Result<String
 }
 
 /// Appends the lines of the run with this number.
-#[tactic(auto, unfolding(crate::specs::Report::run_text))]
 fn push_run(out: &mut String, trace: Trace, number: u64, finished: &Finished) -> Result<(), Memory>
     requires printable { IsPrintable (net_view finished.now.setup.net.value) (finished_view finished.now) }
     ensures written { OnOk result (string_bytes out.new ≡ string_bytes out.old ++ run_text trace (setup_view finished.now.setup) number (finished_view finished.now)) }
@@ -58,10 +59,9 @@ fn push_run(out: &mut String, trace: Trace, number: u64, finished: &Finished) ->
 }
 
 /// Appends the lines of the occurrences and of the journal, unless the trace is off.
-#[tactic(auto, unfolding(crate::specs::Report::trace_text))]
 fn push_trace(out: &mut String, trace: Trace, finished: &Finished) -> Result<(), Memory>
     requires printable { IsPrintable (net_view finished.now.setup.net.value) (finished_view finished.now) }
-    ensures written { OnOk result (string_bytes out.new ≡ string_bytes out.old ++ trace_text trace (net_view finished.now.setup.net.value) (finished_view finished.now)) }
+    ensures written { OnOk result (string_bytes out.new ≡ string_bytes out.old ++ lines_text (net_view finished.now.setup.net.value) (filter (is_told trace) (trace_lines (finished_view finished.now)))) }
 {
     match trace {
         Trace::On => {

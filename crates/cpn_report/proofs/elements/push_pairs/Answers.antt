@@ -4,7 +4,7 @@ use Rattle.std.specs.Prelude.{codes}
 use Rattle.std.specs.String.{string_bytes}
 use Rattle.cpn_core.specs.Nets.{net_view}
 use Rattle.cpn_core.specs.Views.{value_view}
-use Rattle.cpn_report.specs.Report.{pair_text}
+use Rattle.cpn_report.specs.Lines.{pair_text}
 use Rattle.cpn_report.specs.Printable.{is_bound}
 use Rattle.cpn_report.proofs.PrintableNets.{passes_seen}
 use Rattle.cpn_report.proofs.JoinedTexts.{joined_more, joined_last}

@@ -4,7 +4,7 @@ use Rattle.std.specs.Prelude.{codes}
 use Rattle.std.specs.String.{string_bytes}
 use Rattle.cpn_core.specs.Nets.{net_view}
 use Rattle.cpn_core.specs.Pairs.{pairs_view}
-use Rattle.cpn_report.specs.Report.{pair_text}
+use Rattle.cpn_report.specs.Lines.{pair_text}
 use Rattle.cpn_report.specs.ValueText.{joined}
 use Rattle.cpn_report.proofs.elements.push_pairs.Given as goal
 

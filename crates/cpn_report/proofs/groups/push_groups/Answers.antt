@@ -6,7 +6,7 @@ use Rattle.cpn_definitions.specs.Sound.{may_hold}
 use Rattle.cpn_core.specs.Colours.{colour_view}
 use Rattle.cpn_core.specs.Nets.{net_view}
 use Rattle.cpn_tmset.specs.ListedViews.{group_view}
-use Rattle.cpn_report.specs.Report.{group_text}
+use Rattle.cpn_report.specs.Lines.{group_text}
 use Rattle.cpn_report.proofs.PrintableNets.{passes_seen}
 use Rattle.cpn_report.proofs.JoinedTexts.{joined_more, joined_last}
 use Rattle.cpn_report.proofs.groups.push_groups.Goals as goal

@@ -5,7 +5,7 @@ use Rattle.std.specs.String.{string_bytes}
 use Rattle.cpn_core.specs.Colours.{colour_view}
 use Rattle.cpn_core.specs.Nets.{net_view}
 use Rattle.cpn_tmset.specs.ListedViews.{groups_view}
-use Rattle.cpn_report.specs.Report.{group_text}
+use Rattle.cpn_report.specs.Lines.{group_text}
 use Rattle.cpn_report.specs.ValueText.{joined}
 use Rattle.cpn_report.proofs.groups.push_groups.Given as goal
 

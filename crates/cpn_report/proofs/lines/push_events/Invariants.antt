@@ -2,7 +2,7 @@
 use Rattle.std.proofs.Common.{◌≡◌, ◌++◌, map, drop}
 use Rattle.std.specs.List.{flat_map}
 use Rattle.std.specs.String.{string_bytes}
-use Rattle.cpn_report.specs.Report.{event_text}
+use Rattle.cpn_report.specs.Lines.{event_text}
 use Rattle.cpn_runs.specs.Views.{event_view}
 use Rattle.cpn_report.proofs.lines.push_events.Given as goal
 

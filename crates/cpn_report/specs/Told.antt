@@ -1,0 +1,67 @@
+-- What the texts of a report tell apart: two of them are the same only where what they tell is. Source: own choice.
+use Rattle.std.specs.Prelude.{◌≡◌, ℕ, ◌==◌, Bool, true, not, List, map}
+use Rattle.std.specs.List.{list_all}
+use Rattle.cpn_definitions.specs.Value.{PlainValue}
+use Rattle.cpn_definitions.specs.Colour.{PlainColour, admits}
+use Rattle.cpn_definitions.specs.DistinctNames.{HasDistinctNames, HasWellSpelledNames}
+use Rattle.cpn_definitions.specs.Integers.{has_short_integers, HasShortIntegers}
+use Rattle.cpn_definitions.specs.Named.{has_names}
+use Rattle.cpn_definitions.specs.Net.{PlainNet}
+use Rattle.cpn_definitions.specs.Occurrence.{PlainElement}
+use Rattle.cpn_runs.specs.State.{PlainSetup}
+use Rattle.cpn_runs.specs.Run.{PlainFinished}
+use Rattle.cpn_report.specs.Lines.{Line, element_text, line_text, lines_text}
+use Rattle.cpn_report.specs.Printable.{IsPrintableNet, is_binding_element, IsPrintable}
+use Rattle.cpn_report.specs.Report.{report_lines, report_text}
+use Rattle.cpn_report.specs.Schedule.{without_seats, AreNumbered}
+use Rattle.cpn_report.specs.ValueText.{value_text}
+use Rattle.cpn_report.specs.declared.traces.Trace.{Trace}
+use Rattle.cpn_report.specs.declared.traces.Trace.TheVariants as traces
+
+-- ---- values and elements
+
+-- A net whose texts tell all apart: it can be printed, its names are distinct and well spelled, and its integers are short.
+pub record IsTelling (n : PlainNet) : Type 0 where
+  pub printable : IsPrintableNet n
+  pub distinct : HasDistinctNames n
+  pub spelled : HasWellSpelledNames n
+  pub short : HasShortIntegers n
+
+-- Two values of a colour set that differ have different texts.
+abbrev pub ValuesDiffer : Type 0
+ValuesDiffer =
+    (n : PlainNet) (colour : PlainColour) (v w : PlainValue) → HasDistinctNames n → HasWellSpelledNames n → has_names n colour.shape ≡ true
+    → has_short_integers colour.shape ≡ true → admits colour v ≡ true → admits colour w ≡ true → value_text n colour v ≡ value_text n colour w → v ≡ w
+
+-- Two binding elements of a net that differ have different texts.
+abbrev pub ElementsDiffer : Type 0
+ElementsDiffer =
+    (n : PlainNet) (e f : PlainElement) → IsTelling n → is_binding_element n e ≡ true → is_binding_element n f ≡ true
+    → element_text n e ≡ element_text n f → e ≡ f
+
+-- ---- lines
+
+-- whether a text has no line feed
+abbrev pub is_one_line : List ℕ → Bool
+is_one_line text = list_all (λ byte. not (byte == 0x0A)) text
+
+-- whether the text of each of the lines has none
+abbrev pub are_lines : PlainNet → List Line → Bool
+are_lines n lines = list_all (λ line. is_one_line (line_text n line)) lines
+
+-- No line of a report has a line feed but the one at its end.
+abbrev pub LinesEndOnce : Type 0
+LinesEndOnce = (trace : Trace) (setup : PlainSetup) (run : PlainFinished) → HasWellSpelledNames setup.net → IsPrintable setup.net run → are_lines setup.net (report_lines trace setup run) ≡ true
+
+-- So two lists of lines that differ in their texts have different texts as a whole.
+abbrev pub LinesDiffer : Type 0
+LinesDiffer =
+    (n other_net : PlainNet) (lines others : List Line) → are_lines n lines ≡ true → are_lines other_net others ≡ true
+    → lines_text n lines ≡ lines_text other_net others → map (line_text n) lines ≡ map (line_text other_net) others
+
+-- Two runs whose journals differ in more than their seats have different reports, with the trace on.
+abbrev pub JournalsDiffer : Type 0
+JournalsDiffer =
+    (setup other_setup : PlainSetup) (run other : PlainFinished) → HasWellSpelledNames setup.net → HasWellSpelledNames other_setup.net
+    → IsPrintable setup.net run → IsPrintable other_setup.net other → AreNumbered run.journal → AreNumbered other.journal
+    → report_text traces.On setup run ≡ report_text traces.On other_setup other → without_seats run.journal ≡ without_seats other.journal
