@@ -13,12 +13,12 @@ limit_view limits.Depth = rules.depth
 limit_view limits.Nodes = rules.nodes
 limit_view limits.Variables = rules.variables
 
--- the refusal that an error is; want of memory is none, and of a mismatch the offset alone is told
+-- the refusal that an error is; want of memory is none
 abbrev pub refusal_of : TypeError → Option Refusal
 refusal_of errors.Memory = None
 refusal_of (errors.Unknown n) = Some (rules.unknown (string_bytes n))
 refusal_of (errors.Duplicate n) = Some (rules.duplicate (string_bytes n))
-refusal_of (errors.Mismatch at wanted found) = Some (rules.mismatch at)
+refusal_of (errors.Mismatch at) = Some (rules.mismatch at)
 refusal_of (errors.NotClosed n) = Some (rules.not_closed (string_bytes n))
 refusal_of (errors.NotBindable n) = Some (rules.not_bindable (string_bytes n))
 refusal_of (errors.InputDelay at) = Some (rules.input_delay at)

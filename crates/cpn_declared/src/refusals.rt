@@ -3,7 +3,6 @@
 ghost use Rattle.std.specs.Prelude.{◌≡◌};
 ghost use Rattle.cpn_declared.specs.declared.refusals.TypeError.TheVariants.{Memory as wants_memory};
 
-use crate::types::Ty;
 use cpn_core::Memory;
 use std::alloc::{AllocError, AllocFailed};
 use thiserror::Error;
@@ -32,16 +31,9 @@ pub enum TypeError {
     /// A name that its space or its pattern has already.
     #[error("{0} is there already")]
     Duplicate(String),
-    /// The first form whose type is not the wanted one.
-    #[error("the form at {at} has not the type that its place wants")]
-    Mismatch {
-        /// The offset of the form's first token.
-        at: usize,
-        /// The type that its place wants, where that is one type.
-        wanted: Option<Ty>,
-        /// The type that was found, where that is one type.
-        found: Option<Ty>,
-    },
+    /// The first form whose type is not the wanted one, by its first token.
+    #[error("the form at {0} has not the type that its place wants")]
+    Mismatch(usize),
     /// A variable in a text that uses none: that of a `val`, a `fun` or an initial marking.
     #[error("the variable {0} may not stand here")]
     NotClosed(String),

@@ -3,6 +3,7 @@ pub mod ChangedPlaces
 pub mod DividedLists
 pub mod RisingLists
 pub mod OneEnabledList
+mod EnabledTransitions
 pub mod OrderedLists
 pub mod InsertPlaces
 pub mod TokenOrder
@@ -19,6 +20,7 @@ pub mod Markings
 pub mod LegalSequences
 mod Rows
 mod WorkedNets
+mod WorkedFunctions
 pub mod SortedTokens
 pub mod Stamps
 mod ShortForms

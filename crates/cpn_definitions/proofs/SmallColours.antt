@@ -144,7 +144,7 @@ all_of_64_bits_are_not_small = not_small all_of_64_bits (integers_from 0 257) (i
 
 -- ---- unit and the truth values are small
 
-abbrev plain_colour : PlainShape → PlainColour
+abbrev pub plain_colour : PlainShape → PlainColour
 plain_colour shape = record { shape = shape; timed = false }
 
 pub unit_is_small : IsSmall (plain_colour unit_shape)
@@ -158,11 +158,11 @@ unit_is_small = (unit ∷ [], record { in_order = (tt, tt); all = λ v. ((λ is.
     from v (inl is) = subst (λ w. admits (plain_colour unit_shape) w ≡ true) is refl
     from v (inr none) = absurd none
 
-abbrev both_truths : List PlainValue
+abbrev pub both_truths : List PlainValue
 both_truths = boolean false ∷ boolean true ∷ []
 
-pub truths_are_small : IsSmall (plain_colour boolean_shape)
-truths_are_small = (both_truths, record { in_order = ((refl, tt), (tt, tt)); all = λ v. ((λ is. contains_from_in both_truths v (to v is)), (λ has. from v (in_from_contains both_truths v has))) }, omega arith)
+pub all_truths : AreAll (plain_colour boolean_shape) both_truths
+all_truths = record { in_order = ((refl, tt), (tt, tt)); all = λ v. ((λ is. contains_from_in both_truths v (to v is)), (λ has. from v (in_from_contains both_truths v has))) }
   where
     to : (v : PlainValue) → admits (plain_colour boolean_shape) v ≡ true → IsIn v both_truths
     to (boolean false) is = inl refl
@@ -173,6 +173,9 @@ truths_are_small = (both_truths, record { in_order = ((refl, tt), (tt, tt)); all
     from v (inl is) = subst (λ w. admits (plain_colour boolean_shape) w ≡ true) is refl
     from v (inr (inl is)) = subst (λ w. admits (plain_colour boolean_shape) w ≡ true) is refl
     from v (inr (inr none)) = absurd none
+
+pub truths_are_small : IsSmall (plain_colour boolean_shape)
+truths_are_small = (both_truths, all_truths, omega arith)
 
 -- ---- lists are not small, not even of unit
 

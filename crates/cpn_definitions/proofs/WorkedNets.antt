@@ -1,6 +1,6 @@
 -- Worked nets: when elements are covered, the least time, what an occurrence does, a legal sequence and sequences that are
 -- none, and transitions, arcs and markings that are not sound.
-use Rattle.std.proofs.Common.{◌≡◌, ℕ, zero, suc, ◌+◌, ◌<◌, ◌≤◌, ◌==◌, pos, negsuc, Bool, true, false, ◌&&◌, cond, nat_lt, nat_le, List, [], ◌∷◌, Some, None, refl, sym, ap, ◌∙◌, arith, inl, replicate, Less, Equal, Greater}
+use Rattle.std.proofs.Common.{◌≡◌, ℕ, zero, suc, ◌+◌, ◌<◌, ◌≤◌, ◌==◌, pos, negsuc, Bool, true, false, ◌&&◌, cond, nat_lt, nat_le, List, [], ◌∷◌, map, Some, None, refl, sym, ap, ◌∙◌, arith, inl, replicate, Less, Equal, Greater}
 use Rattle.std.proofs.lemmas.Bool.Decides.{nat_tests}
 use Rattle.cpn_definitions.specs.Value.{PlainValue, boolean, int}
 use Rattle.cpn_definitions.specs.Order.{same_value}
@@ -8,7 +8,7 @@ use Rattle.cpn_definitions.specs.ValueOrder.{same_value_refl}
 use Rattle.cpn_definitions.specs.Colour.{PlainColour, int_shape, admits}
 use Rattle.cpn_definitions.specs.Lists.{in_order}
 use Rattle.cpn_definitions.specs.Marking.{PlainToken, token_at, Marking, stamps, covers}
-use Rattle.cpn_definitions.specs.Inscription.{PlainExpr, literal, variable, one}
+use Rattle.cpn_definitions.specs.Inscription.{PlainExpr, literal, variable, one, later}
 use Rattle.cpn_definitions.specs.Net.{PlainArc, PlainTransition, PlainNet}
 use Rattle.cpn_definitions.specs.Outcome.{gives, faults, no_meaning, not_in_colour, bad_delay}
 use Rattle.cpn_definitions.specs.Meaning.{PlainBinding}
@@ -62,20 +62,39 @@ other_value : covered timed_net two_sevens 4 (with_x 6) ≡ false
 unfolding covered needs_of
 other_value = refl
 
--- a value that the variable's colour set does not admit, a binding of another variable, of two, and of none
-not_admitted : covered timed_net ((token_at (int (pos 12)) 0 ∷ token_at (int (pos 12)) 0 ∷ []) ∷ [] ∷ []) 4 (with_x 12) ≡ false
+-- bindings that are none, for one reason each: the transition takes 7, whatever its variable is
+abbrev asking_for_seven : PlainNet
+asking_for_seven = record {
+  places = record { name = []; colour = times } ∷ [];
+  transitions = record { name = []; guard = []; delay = None; inputs = arc_of 0 times (literal (int (pos 7))) ∷ []; outputs = []; vars = 0 ∷ [] } ∷ [];
+  variables = record { name = []; colour = digits } ∷ record { name = []; colour = digits } ∷ [];
+  constants = [];
+  constructors = [];
+  functions = [];
+}
+
+abbrev bound_to : PlainBinding → PlainElement
+bound_to b = record { transition = 0; binding = b }
+
+admitted : covered asking_for_seven two_sevens 1 (bound_to ((0, int (pos 9)) ∷ [])) ≡ true
+unfolding covered needs_of
+admitted = refl
+
+-- a value that the variable's colour set does not admit
+not_admitted : covered asking_for_seven two_sevens 1 (bound_to ((0, int (pos 10)) ∷ [])) ≡ false
 unfolding covered needs_of
 not_admitted = refl
 
-other_variable : covered timed_net two_sevens 4 (record { transition = 0; binding = (1, int (pos 7)) ∷ [] }) ≡ false
+-- another variable of the net
+other_variable : covered asking_for_seven two_sevens 1 (bound_to ((1, int (pos 9)) ∷ [])) ≡ false
 unfolding covered needs_of
 other_variable = refl
 
-bound_twice : covered timed_net two_sevens 4 (record { transition = 0; binding = (0, int (pos 7)) ∷ (0, int (pos 7)) ∷ [] }) ≡ false
+bound_twice : covered asking_for_seven two_sevens 1 (bound_to ((0, int (pos 9)) ∷ (0, int (pos 9)) ∷ [])) ≡ false
 unfolding covered needs_of
 bound_twice = refl
 
-not_bound : covered timed_net two_sevens 4 (record { transition = 0; binding = [] }) ≡ false
+not_bound : covered asking_for_seven two_sevens 1 (bound_to []) ≡ false
 unfolding covered needs_of
 not_bound = refl
 
@@ -83,6 +102,11 @@ not_bound = refl
 no_transition_of_the_net : covered timed_net two_sevens 4 (record { transition = 1; binding = [] }) ≡ false
 unfolding covered needs_of
 no_transition_of_the_net = refl
+
+-- which needs nothing
+nothing_past_the_last_transition : needs_of timed_net (record { transition = 1; binding = [] }) ≡ gives []
+unfolding needs_of
+nothing_past_the_last_transition = refl
 
 -- both tokens go; the outputs have the time plus the delay on the timed place, and stamp 0 on the untimed one
 both_go : after timed_net two_sevens 4 (with_x 7) ≡ Some ((token_at (int (pos 2)) 7 ∷ []) ∷ (seven 0 ∷ []) ∷ [])
@@ -102,6 +126,35 @@ takes_before_it_adds = refl
 outputs_by_place : outputs_of timed_net (with_x 7) 4 ≡ gives (record { place = 0; value = int (pos 2); stamp = 7 } ∷ record { place = 1; value = int (pos 7); stamp = 0 } ∷ [])
 unfolding outputs_of
 outputs_by_place = refl
+
+-- ---- an input arc with a delay of 3: a token may be taken 3 before its stamp
+
+abbrev early_net : PlainNet
+early_net = record {
+  places = record { name = []; colour = times } ∷ [];
+  transitions = record { name = []; guard = []; delay = None; inputs = record { place = 0; colour = times; expr = later (one (variable 0)) (literal (int (pos 3))); terms = [] } ∷ []; outputs = []; vars = 0 ∷ [] } ∷ [];
+  variables = record { name = []; colour = digits } ∷ [];
+  constants = [];
+  constructors = [];
+  functions = [];
+}
+
+needed_with_its_delay : needs_of early_net (with_x 7) ≡ gives (record { place = 0; value = int (pos 7); offset = 3 } ∷ [])
+unfolding needs_of
+needed_with_its_delay = refl
+
+three_before_its_stamp : covered early_net ((seven 7 ∷ []) ∷ []) 4 (with_x 7) ≡ true
+unfolding covered needs_of
+three_before_its_stamp = refl
+
+not_four_before_its_stamp : covered early_net ((seven 7 ∷ []) ∷ []) 3 (with_x 7) ≡ false
+unfolding covered needs_of
+not_four_before_its_stamp = refl
+
+-- of several the latest that may be taken goes
+the_latest_of_these : after early_net ((seven 5 ∷ seven 7 ∷ seven 8 ∷ []) ∷ []) 4 (with_x 7) ≡ Some ((seven 5 ∷ seven 8 ∷ []) ∷ [])
+unfolding after covered needs_of outputs_of
+the_latest_of_these = refl
 
 -- ---- no occurrence of what is not covered
 
@@ -244,8 +297,9 @@ sorted_first = refl
 
 -- ---- the least time
 
-abbrev later_seven : Marking
-later_seven = (seven 10 ∷ []) ∷ []
+-- sevens with the stamp k, and more behind it
+abbrev sevens : ℕ → List ℕ → Marking
+sevens k more = map seven (k ∷ more) ∷ []
 
 abbrev take_one : PlainTransition
 take_one = record { name = []; guard = []; delay = None; inputs = arc_of 0 times (variable 0) ∷ []; outputs = []; vars = 0 ∷ [] }
@@ -253,47 +307,90 @@ take_one = record { name = []; guard = []; delay = None; inputs = arc_of 0 times
 abbrev waiting_net : PlainNet
 waiting_net = record { places = record { name = []; colour = times } ∷ []; transitions = take_one ∷ []; variables = record { name = []; colour = digits } ∷ []; constants = []; constructors = []; functions = [] }
 
--- the stamps of a value cover a threshold below 10 nowhere
-early : (v : PlainValue) (s : ℕ) → s < 10 → covers (stamps v (seven 10 ∷ [])) (s ∷ []) ≡ false
-early v s before = split (same_value v (int (pos 7)))
+stamps_of_sevens : (v : PlainValue) (ss : List ℕ) → stamps v (map seven ss) ≡ cond (same_value v (int (pos 7))) ss []
+stamps_of_sevens v [] = split (same_value v (int (pos 7)))
   where
-    too_late : nat_le 10 s ≡ false
+    split : (b : Bool) → ◌≡◌ {A = List ℕ} [] (cond b [] [])
+    split true = refl
+    split false = refl
+stamps_of_sevens v (s ∷ ss) = split (same_value v (int (pos 7))) (stamps_of_sevens v ss)
+  where
+    split : (b : Bool) → stamps v (map seven ss) ≡ cond b ss [] → cond b (s ∷ stamps v (map seven ss)) (stamps v (map seven ss)) ≡ cond b (s ∷ ss) []
+    split true rest = ap (λ ts. s ∷ ts) rest
+    split false rest = rest
+
+-- they cover a threshold below k nowhere
+early : (v : PlainValue) (k : ℕ) (more : List ℕ) (s : ℕ) → s < k → covers (stamps v (map seven (k ∷ more))) (s ∷ []) ≡ false
+early v k more s before = ap (λ ts. covers ts (s ∷ [])) (stamps_of_sevens v (k ∷ more)) ∙ split (same_value v (int (pos 7)))
+  where
+    too_late : nat_le k s ≡ false
     too_late = grind (arith, nat_tests)
 
-    split : (b : Bool) → covers (cond b (10 ∷ []) []) (s ∷ []) ≡ false
+    split : (b : Bool) → covers (cond b (k ∷ more) []) (s ∷ []) ≡ false
     split true = ap (λ b. b && true) too_late
     split false = refl
 
 past_the_last : (t : ℕ) → nat_lt (suc t) 1 ≡ false
 past_the_last t = grind (arith, nat_tests)
 
-one_binding : (pair : ℕ × PlainValue) (s : ℕ) → s < 10 → (a c : Bool) → (0 == pair.0) ≡ a → admits digits pair.1 ≡ c → covered waiting_net later_seven s (record { transition = 0; binding = pair ∷ [] }) ≡ false
+one_binding : (k : ℕ) (more : List ℕ) (pair : ℕ × PlainValue) (s : ℕ) → s < k → (a c : Bool) → (0 == pair.0) ≡ a → admits digits pair.1 ≡ c → covered waiting_net (sevens k more) s (record { transition = 0; binding = pair ∷ [] }) ≡ false
 unfolding covered needs_of
-one_binding pair s before false c named fits = rw named refl
-one_binding pair s before true false named fits = rw (named, fits) refl
-one_binding pair s before true true named fits = let none = early pair.1 (s + 0) (omega arith) in rw (named, fits, same_value_refl pair.1, none) refl
+one_binding k more pair s before false c named fits = rw named refl
+one_binding k more pair s before true false named fits = rw (named, fits) refl
+one_binding k more pair s before true true named fits = let none = early pair.1 k more (s + 0) (omega arith) in rw (named, fits, same_value_refl pair.1, none) refl
 
 two_bound : (a c x : Bool) → ((a && c && false) && true && x) ≡ false
 two_bound true true x = refl
 two_bound true false x = refl
 two_bound false c x = refl
 
-none_of : (t : ℕ) (b : PlainBinding) (s : ℕ) → s < 10 → covered waiting_net later_seven s (record { transition = t; binding = b }) ≡ false
+none_of : (k : ℕ) (more : List ℕ) (t : ℕ) (b : PlainBinding) (s : ℕ) → s < k → covered waiting_net (sevens k more) s (record { transition = t; binding = b }) ≡ false
 unfolding covered needs_of
-none_of (suc t) b s before = rw (past_the_last t) refl
-none_of zero [] s before = refl
-none_of zero (pair ∷ other ∷ pairs) s before = two_bound (0 == pair.0) (admits digits pair.1) _
-none_of zero (pair ∷ []) s before = one_binding pair s before (0 == pair.0) (admits digits pair.1) refl refl
+none_of k more (suc t) b s before = rw (past_the_last t) refl
+none_of k more zero [] s before = refl
+none_of k more zero (pair ∷ other ∷ pairs) s before = two_bound (0 == pair.0) (admits digits pair.1) _
+none_of k more zero (pair ∷ []) s before = one_binding k more pair s before (0 == pair.0) (admits digits pair.1) refl refl
 
-none_before_ten : (s : ℕ) (e : PlainElement) → s < 10 → covered waiting_net later_seven s e ≡ false
-none_before_ten s e before = none_of e.transition e.binding s before
+none_before : (k : ℕ) (more : List ℕ) (s : ℕ) (e : PlainElement) → s < k → covered waiting_net (sevens k more) s e ≡ false
+none_before k more s e before = none_of k more e.transition e.binding s before
 
-at_ten : covered waiting_net later_seven 10 (with_x 7) ≡ true
+at_ten : covered waiting_net (sevens 10 (20 ∷ [])) 10 (with_x 7) ≡ true
 unfolding covered needs_of
 at_ten = refl
 
-least_is_ten : LeastTime waiting_net later_seven 0 10
-least_is_ten = record { not_before = omega arith; some = (with_x 7, at_ten); none_earlier = λ s e from before. none_before_ten s e before }
+least_is_ten : LeastTime waiting_net (sevens 10 (20 ∷ [])) 0 10
+least_is_ten = record { not_before = omega arith; some = (with_x 7, at_ten); none_earlier = λ s e from before. none_before 10 (20 ∷ []) s e before }
+
+-- ---- a legal sequence of two occurrences at two times: the seven of 10 goes at 10, and that of 20 at 20
+
+ten_goes : after waiting_net (sevens 10 (20 ∷ [])) 10 (with_x 7) ≡ Some (sevens 20 [])
+unfolding after covered needs_of outputs_of
+ten_goes = refl
+
+at_twenty : covered waiting_net (sevens 20 []) 20 (with_x 7) ≡ true
+unfolding covered needs_of
+at_twenty = refl
+
+least_is_twenty : LeastTime waiting_net (sevens 20 []) 10 20
+least_is_twenty = record { not_before = omega arith; some = (with_x 7, at_twenty); none_earlier = λ s e from before. none_before 20 [] s e before }
+
+twenty_goes : after waiting_net (sevens 20 []) 20 (with_x 7) ≡ Some ([] ∷ [])
+unfolding after covered needs_of outputs_of
+twenty_goes = refl
+
+legal_twice : Legal waiting_net (sevens 10 (20 ∷ [])) 0 (record { element = with_x 7; time = 10 } ∷ record { element = with_x 7; time = 20 } ∷ []) ([] ∷ []) 20
+legal_twice = (least_is_ten, at_ten, (sevens 20 [], ten_goes, (least_is_twenty, at_twenty, ([] ∷ [], twenty_goes, (refl, inl refl)))))
+
+-- the second may not wait until 25, though it is covered then
+covered_later : covered waiting_net (sevens 20 []) 25 (with_x 7) ≡ true
+unfolding covered needs_of
+covered_later = refl
+
+second_not_later : LeastTime waiting_net (sevens 20 []) 10 25 → ⊥
+second_not_later least = clash (least.none_earlier 20 (with_x 7) (omega arith) (omega arith)) at_twenty
+  where
+    clash : {b : Bool} → b ≡ false → b ≡ true → ⊥
+    clash is_false is_true = cc
 
 -- ---- an untimed net: a place A whose tokens t takes
 

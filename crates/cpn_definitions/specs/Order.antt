@@ -4,7 +4,7 @@
 use Rattle.std.specs.Prelude.{ℕ, Bool}
 use Rattle.std.specs.declared.cmp.Ordering.{Ordering}
 use Rattle.std.specs.declared.cmp.Ordering.TheVariants.{Less, Equal, Greater}
-use Rattle.std.specs.Ordering.{ordering_then, nat_cmp, int_cmp, bool_cmp, is_eq, is_lt}
+use Rattle.std.specs.Ordering.{ordering_then, nat_cmp, int_cmp, bool_cmp, is_eq}
 use Rattle.std.specs.Cmp.Lexicographic.{slice_cmp}
 use Rattle.cpn_definitions.specs.Value.{PlainValue, PlainValues, unit, boolean, int, constant, text, tuple, bare, applied, list, none, more}
 
@@ -46,7 +46,3 @@ abbrev mutual
 -- whether two values are the same
 abbrev pub same_value : PlainValue → PlainValue → Bool
 same_value v w = is_eq (value_cmp v w)
-
--- whether the first value comes before the second
-abbrev pub before : PlainValue → PlainValue → Bool
-before v w = is_lt (value_cmp v w)

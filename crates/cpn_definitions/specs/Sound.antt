@@ -5,7 +5,7 @@ use Rattle.std.specs.Ordering.{nat_cmp}
 use Rattle.cpn_definitions.specs.Colour.{PlainColour, admits}
 use Rattle.cpn_definitions.specs.Lists.{Rises}
 use Rattle.cpn_definitions.specs.Marking.{PlainToken, Marking, tokens_at, AreSorted}
-use Rattle.cpn_definitions.specs.Outcome.{Outcome, gives, HasMeaning}
+use Rattle.cpn_definitions.specs.Outcome.{HasMeaning}
 use Rattle.cpn_definitions.specs.Net.{PlainArc, PlainTransition, Coloured, PlainNet, place_at, is_timed}
 use Rattle.cpn_definitions.specs.Meaning.{PlainBinding, meaning}
 use Rattle.cpn_definitions.specs.Terms.{terms_of}
@@ -58,10 +58,6 @@ pub record IsSound (n : PlainNet) : Type 0 where
 -- Untimed: no place of the net keeps time stamps.
 abbrev pub IsUntimed : PlainNet → Type 0
 IsUntimed n = (p : ℕ) → is_timed n p ≡ false
-
--- the outcome is a value
-abbrev pub Gives : {A : Type 0} → Outcome A → Type 0
-Gives {A} o = (x : A) × (o ≡ gives x)
 
 -- whether a place of the colour set may hold the token: its value is admitted, and its stamp is 0 where the
 -- place is untimed

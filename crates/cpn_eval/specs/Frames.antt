@@ -148,10 +148,6 @@ abbrev pub ahead : World → Machine → Now → Outcome State
 ahead world m (nows.Open e) = after_outcome world m (meant_at world m.visible (locals_of m) (expr_view e.now))
 ahead world m (nows.Given v) = after_value world m (held_view v)
 
--- what an expression means, and that all else is as it was
-abbrev pub means : World → Machine → PlainExpr → Outcome State
-means world m e = meant_at world m.visible (locals_of m) e >>= given_at m.visible (locals_of m)
-
 -- a turn changes nothing of what comes of it in the end
 abbrev pub Goes : World → Machine → Result Now NoValue → Outcome State → Type 0
 Goes world m (Ok now) before = ahead world m now ≡ before

@@ -3,9 +3,9 @@ use Rattle.std.specs.Prelude.{ℕ, ℤ, Bool, List, ◌++◌, map, Vec}
 use Rattle.std.specs.declared.alloc.Global.{Global}
 use Rattle.cpn_definitions.specs.Value.{PlainValue, int}
 use Rattle.cpn_definitions.specs.Outcome.{Outcome, ◌>>=◌}
-use Rattle.cpn_definitions.specs.Inscription.{PlainExpr, ArcInscription, ArcInscriptions, ArcArms}
+use Rattle.cpn_definitions.specs.Inscription.{PlainExpr, ArcInscription, ArcInscriptions}
 use Rattle.cpn_definitions.specs.Operations.{truth_in}
-use Rattle.cpn_definitions.specs.Terms.{PlainTerm, written_delay, all_delayed, then_delayed, counted, terms_behind, terms_of_each, terms_among}
+use Rattle.cpn_definitions.specs.Terms.{PlainTerm, written_delay, all_delayed, then_delayed, counted, terms_behind, terms_of_each}
 use Rattle.cpn_core.specs.Views.{value_view}
 use Rattle.cpn_core.specs.Colours.{colour_view}
 use Rattle.cpn_eval.specs.declared.term.Term.{Term}
@@ -44,6 +44,3 @@ terms_at arc m tokens before = terms_behind tokens (colour_view arc.colour.now) 
 
 abbrev pub sum_at : Arc → Machine → ArcInscriptions → ℕ → Outcome (List PlainTerm)
 sum_at arc m parts before = terms_of_each parts (colour_view arc.colour.now) (setting_in arc.world m.visible) (locals_of m) before
-
-abbrev pub arm_at : Arc → Machine → ArcArms → PlainValue → ℕ → Outcome (List PlainTerm)
-arm_at arc m arms v before = terms_among arms v (colour_view arc.colour.now) (setting_in arc.world m.visible) (locals_of m) before

@@ -156,11 +156,7 @@ pub fn item_of(ty: &Ty, at: usize) -> Result<&Ty, TypeError>
     match ty {
         Ty::List(item) => Ok(item),
         Ty::Unit | Ty::Bool | Ty::Int | Ty::Text | Ty::Enum(_) | Ty::Tuple(_) | Ty::Union(_) => Err(
-            TypeError::Mismatch {
-                at,
-                wanted: None,
-                found: Some(ty.copy()?),
-            },
+            TypeError::Mismatch(at),
         ),
     }
 }
@@ -204,11 +200,7 @@ pub fn operation_makes(
 {
     let Parts { mut exprs, types } = rest;
     if !are_same(&types, others) {
-        return Err(TypeError::Mismatch {
-            at: spot.at,
-            wanted: None,
-            found: None,
-        });
+        return Err(TypeError::Mismatch(spot.at));
     }
     let Typed { expr, ty } = first;
     exprs.insert(0, expr)?;
@@ -236,11 +228,7 @@ pub fn tuple_made(argument: &Ty, at: usize, parts: Parts) -> Result<Expr, TypeEr
         }
         Ty::Unit | Ty::Bool | Ty::Int | Ty::Text | Ty::Enum(_) | Ty::Union(_) | Ty::List(_) => {}
     }
-    Err(TypeError::Mismatch {
-        at,
-        wanted: Some(argument.copy()?),
-        found: Some(Ty::Tuple(parts.types)),
-    })
+    Err(TypeError::Mismatch(at))
 }
 
 /// The types that are wanted of a tuple's parts.
@@ -295,11 +283,7 @@ pub fn function_called(
     ensures exact { Answers typed_view result (rules.function_makes number (spot_view spot.entry) (tys_view parameters.now.items) (ty_view given.now) (parts_view arguments)) }
 {
     if !are_same(&arguments.types, parameters) {
-        return Err(TypeError::Mismatch {
-            at: spot.at,
-            wanted: None,
-            found: None,
-        });
+        return Err(TypeError::Mismatch(spot.at));
     }
     let ty = given.copy()?;
     let call = Expr::Call(number, arguments.exprs);

@@ -91,7 +91,7 @@ pub struct Spot<'w> {
 ///
 /// # Errors
 ///
-/// [`TypeError::Mismatch`] at the form, with both types, exactly where another type is wanted; [`TypeError::Memory`].
+/// [`TypeError::Mismatch`] at the form exactly where another type is wanted; [`TypeError::Memory`].
 pub fn meets(wanted: Option<&Ty>, at: usize, expr: Expr, ty: Ty) -> Result<Typed, TypeError>
     ensures exact { Answers typed_view result (meets_rule (wanted_view wanted.entry) at (expr_view expr) (ty_view ty)) }
 {
@@ -101,11 +101,7 @@ pub fn meets(wanted: Option<&Ty>, at: usize, expr: Expr, ty: Ty) -> Result<Typed
     if ty.is_same(wanted) {
         return Ok(Typed { expr, ty });
     }
-    Err(TypeError::Mismatch {
-        at,
-        wanted: Some(wanted.copy()?),
-        found: Some(ty),
-    })
+    Err(TypeError::Mismatch(at))
 }
 
 /// A wanted type of its own.

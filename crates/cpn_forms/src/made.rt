@@ -138,11 +138,7 @@ pub fn listed(alloc: Global, items: Items, spot: Spot<'_>) -> Result<Typed, Type
             let ty = Ty::List(Box::new(alloc, ty)?);
             meets(spot.wanted, spot.at, Expr::List(exprs), ty)
         }
-        None => Err(TypeError::Mismatch {
-            at: spot.at,
-            wanted: None,
-            found: None,
-        }),
+        None => Err(TypeError::Mismatch(spot.at)),
     }
 }
 
@@ -163,10 +159,6 @@ pub fn selected(alloc: Global, at: usize, subject: Typed, arms: Arms) -> Result<
                 ty,
             })
         }
-        None => Err(TypeError::Mismatch {
-            at,
-            wanted: None,
-            found: None,
-        }),
+        None => Err(TypeError::Mismatch(at)),
     }
 }

@@ -35,11 +35,9 @@ impl Place {
     {
         match self {
             Place::Guard | Place::Delay | Place::Monitor => TypeError::TimeNotAllowed(sign),
-            Place::Function | Place::Input | Place::Output | Place::Initial => TypeError::Mismatch {
+            Place::Function | Place::Input | Place::Output | Place::Initial => TypeError::Mismatch(
                 at,
-                wanted: None,
-                found: None,
-            },
+            ),
         }
     }
 
@@ -51,11 +49,7 @@ impl Place {
             Place::Function | Place::Guard | Place::Delay | Place::Monitor => {
                 TypeError::TimeNotAllowed(sign)
             }
-            Place::Input | Place::Output | Place::Initial => TypeError::Mismatch {
-                at,
-                wanted: None,
-                found: None,
-            },
+            Place::Input | Place::Output | Place::Initial => TypeError::Mismatch(at),
         }
     }
 }

@@ -208,11 +208,7 @@ fn check_ordered(ty: &Ty, at: usize) -> Result<(), TypeError>
         Ty::Int => Ok(()),
         Ty::Text => Ok(()),
         Ty::Unit | Ty::Bool | Ty::Enum(_) | Ty::Tuple(_) | Ty::Union(_) | Ty::List(_) => Err(
-            TypeError::Mismatch {
-                at,
-                wanted: None,
-                found: Some(ty.copy()?),
-            },
+            TypeError::Mismatch(at),
         ),
     }
 }
@@ -224,11 +220,7 @@ fn check_list(ty: &Ty, at: usize) -> Result<(), TypeError>
     match ty {
         Ty::List(_) => Ok(()),
         Ty::Unit | Ty::Bool | Ty::Int | Ty::Text | Ty::Enum(_) | Ty::Tuple(_) | Ty::Union(_) => Err(
-            TypeError::Mismatch {
-                at,
-                wanted: None,
-                found: Some(ty.copy()?),
-            },
+            TypeError::Mismatch(at),
         ),
     }
 }
@@ -332,11 +324,7 @@ pub fn sides_make(
         }
         Infix::Append => applied(alloc, Op::Append, left, right, last, spot),
         Infix::Later => Err(spot.place.misplaced_delay(spot.at, sign)),
-        Infix::Times => Err(TypeError::Mismatch {
-            at: spot.at,
-            wanted: None,
-            found: None,
-        }),
+        Infix::Times => Err(TypeError::Mismatch(spot.at)),
     }
 }
 
@@ -431,11 +419,7 @@ fn component_of(
 {
     let Typed { expr, ty } = operand;
     let Some(part) = part_of(&ty, number) else {
-        return Err(TypeError::Mismatch {
-            at,
-            wanted: None,
-            found: Some(ty),
-        });
+        return Err(TypeError::Mismatch(at));
     };
     let part = part.copy()?;
     let Ok(position) = u32::try_from(number) else {

@@ -73,11 +73,7 @@ fn hold(
     if own.is_same(ty) {
         return Ok(pattern);
     }
-    Err(TypeError::Mismatch {
-        at,
-        wanted: Some(ty.copy()?),
-        found: Some(own.copy()?),
-    })
+    Err(TypeError::Mismatch(at))
 }
 
 /// A new local, which the pattern has not bound yet.
@@ -206,11 +202,7 @@ fn take_constructor<'d>(
     if own.is_same(ty) {
         return Ok(Taken { position, argument });
     }
-    Err(TypeError::Mismatch {
-        at,
-        wanted: Some(ty.copy()?),
-        found: Some(own),
-    })
+    Err(TypeError::Mismatch(at))
 }
 
 /// The offset of the first of several.
@@ -274,11 +266,7 @@ fn bind<'t>(
                 Ok(Pat::List(items))
             }
             Ty::Unit | Ty::Bool | Ty::Int | Ty::Text | Ty::Enum(_) | Ty::Tuple(_) | Ty::Union(_) =>
-                Err(TypeError::Mismatch {
-                    at,
-                    wanted: Some(ty.copy()?),
-                    found: None,
-                }),
+                Err(TypeError::Mismatch(at)),
         },
         PatForm::Cons { head, tail } => match ty {
             Ty::List(item) => {
@@ -288,11 +276,7 @@ fn bind<'t>(
                 Ok(pattern)
             }
             Ty::Unit | Ty::Bool | Ty::Int | Ty::Text | Ty::Enum(_) | Ty::Tuple(_) | Ty::Union(_) =>
-                Err(TypeError::Mismatch {
-                    at,
-                    wanted: Some(ty.copy()?),
-                    found: None,
-                }),
+                Err(TypeError::Mismatch(at)),
         },
     }
 }
@@ -344,11 +328,7 @@ fn bind_tuple<'t>(
             Ok(Pat::Tuple(parts))
         }
         Ty::Unit | Ty::Bool | Ty::Int | Ty::Text | Ty::Enum(_) | Ty::Union(_) | Ty::List(_) => Err(
-            TypeError::Mismatch {
-                at,
-                wanted: Some(ty.copy()?),
-                found: None,
-            },
+            TypeError::Mismatch(at),
         ),
     }
 }
@@ -374,11 +354,7 @@ fn bind_parts<'t>(
     if parts.len() == types.len() {
         return Ok(patterns);
     }
-    Err(TypeError::Mismatch {
-        at,
-        wanted: None,
-        found: None,
-    })
+    Err(TypeError::Mismatch(at))
 }
 
 /// The items of a list, all against one type.

@@ -12,11 +12,6 @@ abbrev pub ◌>>=◌ : {R A B : Type 0} → Reading R A → (A → Reading R B) 
 (read x) >>= f = f x
 (refused refusal) >>= f = refused refusal
 
--- the value, or the refusal where there is none
-abbrev pub or_refusal : {R A : Type 0} → Option A → R → Reading R A
-or_refusal (Some x) refusal = read x
-or_refusal None refusal = refused refusal
-
 -- goes on where the test passes, and is refused where it fails
 abbrev pub check : {R : Type 0} → Bool → R → Reading R Bool
 check test refusal = if test then read test else refused refusal

@@ -42,10 +42,10 @@ on_the_way n p v b c admitted makes = split (fitted p v b) refl
     split None is = absurd (not_fitted b p v is c makes)
 
 -- what is made on the way to a partial binding of which the stage holds
-record IsStep (n : PlainNet) (trial : Trial) (b c : PlainPartial) : Type 0 where
-  through : PlainPartial
-  is_next : IsIn through (next n trial b)
-  below : Extends through c
+pub record IsStep (n : PlainNet) (trial : Trial) (b c : PlainPartial) : Type 0 where
+  pub through : PlainPartial
+  pub is_next : IsIn through (next n trial b)
+  pub below : Extends through c
 
 by_matching : (n : PlainNet) (p : PlainPattern) (vs : List PlainValue) (v : PlainValue) (b c : PlainPartial) → IsIn v vs → are_admitted n c ≡ true → Makes b p v c → IsStep n (matching p vs) b c
 by_matching n p vs v b c h admitted makes =
@@ -53,7 +53,7 @@ by_matching n p vs v b c h admitted makes =
     record { through = way.through; is_next = in_flat_map (λ w. kept n (fitted p w b)) vs v way.through h way.is_kept; below = way.below }
 
 -- an inscription whose variables have a value means the same below
-same_below : (n : PlainNet) (e : PlainExpr) (b c : PlainPartial) → AreClosed n.functions → Extends b c → ((y : ℕ) → IsIn y (variables_of e) → HasValue y b) → meaning n.functions e (bound_in b) 0 ≡ meaning n.functions e (bound_in c) 0
+pub same_below : (n : PlainNet) (e : PlainExpr) (b c : PlainPartial) → AreClosed n.functions → Extends b c → ((y : ℕ) → IsIn y (variables_of e) → HasValue y b) → meaning n.functions e (bound_in b) 0 ≡ meaning n.functions e (bound_in c) 0
 same_below n e b c closed ext has =
     own_variables n.functions e (bound_in b) (bound_in c) 0 closed
     (λ y h. let v = has y h in bound_has y b v.0 v.1 ∙ sym (bound_has y c v.0 (value_stays y v.0 b c ext v.1)))
@@ -65,10 +65,10 @@ by_solving n x e v b c closed admitted ext has value means =
     record { through = way.through; is_next = subst (λ o. IsIn way.through (with_outcome n (variable_pattern x) b o)) (sym same) way.is_kept; below = way.below }
 
 -- what is known ahead of a stage
-abbrev AreKnown : List Stage → PlainPartial → Type 0
+abbrev pub AreKnown : List Stage → PlainPartial → Type 0
 AreKnown before b = (x : ℕ) → IsIn x (variables_at_each before) → HasValue x b
 
-step : (n : PlainNet) (m : Marking) (t : PlainTransition) (before stages : List Stage) (stage : Stage) (trial : Trial) (b c : PlainPartial)
+pub step : (n : PlainNet) (m : Marking) (t : PlainTransition) (before stages : List Stage) (stage : Stage) (trial : Trial) (b c : PlainPartial)
     → AreClosed n.functions → are_admitted n c ≡ true → Extends b c → AreKnown before b → AreOrderly t before (stage ∷ stages) → IsTrialOf n m stage trial → Holds n m c stage → IsStep n trial b c
 step n m t before stages (by_term place p) (matching q vs) b c closed admitted ext known orderly of_it holds =
     by_matching n q vs holds.0 b c (in_from_contains vs holds.0 ((of_it.1.all holds.0).0 holds.1)) admitted (record { extends = ext; is_instance = subst (λ r. IsInstance c r holds.0) (sym of_it.0) holds.2 })
@@ -83,7 +83,7 @@ step n m t before stages (by_size x) (matching q vs) b c closed admitted ext kno
     (record { extends = ext; is_instance = subst (λ r. IsInstance c r holds.0) (sym of_it.0) holds.1 })
 step n m t before stages (by_size x) (solving y f) b c closed admitted ext known orderly of_it holds = absurd of_it
 
-known_next : (n : PlainNet) (m : Marking) (before : List Stage) (stage : Stage) (trial : Trial) (b d : PlainPartial) → AreKnown before b → IsTrialOf n m stage trial → IsIn d (next n trial b) → AreKnown (before ++ stage ∷ []) d
+pub known_next : (n : PlainNet) (m : Marking) (before : List Stage) (stage : Stage) (trial : Trial) (b d : PlainPartial) → AreKnown before b → IsTrialOf n m stage trial → IsIn d (next n trial b) → AreKnown (before ++ stage ∷ []) d
 known_next n m before stage trial b d known of_it h x g =
     let is = next_is n m stage trial b d of_it h in
     ⊎_elim (λ old. let v = known x old in (v.0, value_stays x v.0 b d is.extends v.1)) (λ new. is.has x (own new)) (in_append_cases (variables_at_each before) (variables_at_each (stage ∷ [])) x (subst (IsIn x) (flat_map-append variables_at before (stage ∷ [])) g))

@@ -15,5 +15,9 @@ pub mod WholeBindings
 mod AllEnds
 pub mod ApartEnds
 pub mod TransitionEnds
-mod OneTerm
-mod OneTermRows
+mod OwnValues
+mod ReachedEnds
+mod OnePlan
+mod CountedTries
+mod StandingValues
+mod FullRows

@@ -35,7 +35,7 @@ bound_has x (p ∷ b) v is = split (x == p.0) refl is (λ g. bound_has x b v g)
 abbrev pub IsWhole : PlainPartial → Type 0
 IsWhole b = AllByRecursion (λ (pair : ℕ × Option PlainValue). (v : PlainValue) × (pair.1 ≡ Some v)) b
 
-higher_differs : (x y : ℕ) → nat_cmp x y ≡ Less → (y == x) ≡ false
+pub higher_differs : (x y : ℕ) → nat_cmp x y ≡ Less → (y == x) ≡ false
 higher_differs x y h = grind (arith, nat_tests)
 
 -- where each of the variables, which are listed once, has a value, each of the pairs has

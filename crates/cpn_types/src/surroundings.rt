@@ -102,11 +102,7 @@ impl Surroundings<'_> {
             Form::Number(number) => { meets(wanted, at, Expr::Lit(Value::Int(*number)), Ty::Int) }
             Form::Text(text) => text_literal(self.alloc, text, spot),
             Form::Truth(truth) => meets(wanted, at, Expr::Lit(Value::Bool(*truth)), Ty::Bool),
-            Form::Empty => Err(TypeError::Mismatch {
-                at,
-                wanted: None,
-                found: None,
-            }),
+            Form::Empty => Err(TypeError::Mismatch(at)),
             Form::Time => check_time(spot),
             Form::Name(name) => check_name(self.alloc, self.decls, name, scope, spot),
             Form::Call {
@@ -140,11 +136,7 @@ impl Surroundings<'_> {
             }
             Form::Sum(parts) => {
                 let _parts = self.parts(parts, 0, scope, &[])?;
-                Err(TypeError::Mismatch {
-                    at,
-                    wanted: None,
-                    found: None,
-                })
+                Err(TypeError::Mismatch(at))
             }
             Form::If {
                 condition,
@@ -486,11 +478,7 @@ impl Surroundings<'_> {
                 result: given,
             } => {
                 if arguments.is_empty() {
-                    return Err(TypeError::Mismatch {
-                        at: spot.at,
-                        wanted: None,
-                        found: None,
-                    });
+                    return Err(TypeError::Mismatch(spot.at));
                 }
                 let arguments = self.parts(arguments, 0, scope, parameters)?;
                 function_called(number, parameters, given, arguments, spot)
@@ -513,11 +501,7 @@ impl Surroundings<'_> {
         ensures locals { scope.new.items ≡ scope.old.items }
     {
         if arguments.is_empty() {
-            return Err(TypeError::Mismatch {
-                at: spot.at,
-                wanted: None,
-                found: None,
-            });
+            return Err(TypeError::Mismatch(spot.at));
         }
         let wanted = first_wanted_by(function);
         let first = self.typed(&arguments[0], scope, lent(&wanted))?;
@@ -539,11 +523,7 @@ impl Surroundings<'_> {
         ensures locals { scope.new.items ≡ scope.old.items }
     {
         if arguments.is_empty() {
-            return Err(TypeError::Mismatch {
-                at,
-                wanted: None,
-                found: None,
-            });
+            return Err(TypeError::Mismatch(at));
         }
         if arguments.len() < 2 {
             let argument = self.typed(&arguments[0], scope, Some(wanted))?;

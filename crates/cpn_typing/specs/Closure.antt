@@ -19,10 +19,6 @@ stands_in_term x term = list_any (λ y. y == x) (pattern_variables term.pattern)
 abbrev pub stands_in_terms : PlainTransition → ℕ → Bool
 stands_in_terms t x = list_any (λ arc. list_any (stands_in_term x) (binding_terms arc.expr)) t.inputs
 
--- Known at first: what stands in a binding term, and what is of a small colour set, by a test for these.
-abbrev pub known_at_first : PlainTransition → (ℕ → Bool) → ℕ → Bool
-known_at_first t small x = stands_in_terms t x || small x
-
 -- ---- equations
 
 -- An equation of a guard: a variable, and the variables of the inscription that it is equal to.
