@@ -20,6 +20,7 @@ THINGS = {
     "transitions": "transition",
     "subs": "substitution transition",
     "fusions": "fusion set",
+    "monitors": "monitor",
 }
 KEYS = {"assign": "assignments", "expr": "inscription", "initial": "initial marking", "colour": "colour set", "to": "direction"}
 
@@ -112,7 +113,7 @@ class Net:
             return f"the assignment of port {it['port']} to socket {it['socket']}{of_owner}"
         if kind == "members":
             return f"the member {it['place']} of module {it['module']}{of_owner}"
-        return f"{THINGS[kind]} {it['name']}{of_owner}" if kind in THINGS else f"{kind.removesuffix('s')} {int(last) + 1}"
+        return (f"{THINGS[kind]} {it['name']}" if kind in THINGS else f"{kind.removesuffix('s')} {int(last) + 1}") + of_owner
 
     @staticmethod
     def way(arc, module):

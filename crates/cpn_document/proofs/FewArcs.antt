@@ -7,8 +7,8 @@ use Rattle.std.proofs.lemmas.Bool.{and_parts}
 use Rattle.serde_json.specs.Data.{Data}
 use Rattle.cpn_document.specs.Refusals.{FormRefusal}
 use Rattle.cpn_document.specs.Rules.{first_broken}
-use Rattle.cpn_document.specs.Parts.{text_at, items_at}
-use Rattle.cpn_document.specs.Document.{RawArc, arcs_at, most_arcs, have_few_arcs, names_in, transition_in, arc_in, module_in, document_in, each_named, each_module, limit_rules, arcs_rules, module_rules, modules_rules, document_rules}
+use Rattle.cpn_document.specs.Parts.{text_at, items_at, names_in, each_named, limit_rules}
+use Rattle.cpn_document.specs.Document.{RawArc, arcs_at, most_arcs, have_few_arcs, transition_in, arc_in, module_in, document_in, each_module, arcs_rules, module_rules, modules_rules, document_rules}
 use Rattle.cpn_document.specs.FewArcs.{HasFewArcs, HaveFewArcs}
 use Rattle.cpn_document.specs.declared.refusals.Limit.{Limit}
 use Rattle.cpn_document.proofs.BrokenRules.{broken_append}
@@ -29,34 +29,34 @@ few_each arcs (d ∷ ds) h =
     let parts = and_parts (nat_le (arcs_at (text_at (codes "name") d) arcs) most_arcs) (have_few_arcs (names_in ds) arcs) h in
     (leb-true _ _ parts.0, few_each arcs ds parts.1)
 
-arcs_few : (m : ℕ) (d : Data) → first_broken (arcs_rules m (names_in (items_at (codes "transitions") d)) d) ≡ None → have_few_arcs (names_in (items_at (codes "transitions") d)) (map arc_in (items_at (codes "arcs") d)) ≡ true
+arcs_few : (version m : ℕ) (d : Data) → first_broken (arcs_rules version m (names_in (items_at (codes "transitions") d)) d) ≡ None → have_few_arcs (names_in (items_at (codes "transitions") d)) (map arc_in (items_at (codes "arcs") d)) ≡ true
 unfolding arcs_rules
-arcs_few m d h = let k = simp broken_append at h in limit_kept _ _ (none_parts _ _ k).1
+arcs_few version m d h = let k = simp broken_append at h in limit_kept _ _ (none_parts _ _ k).1
 
-module_few : (m : ℕ) (earlier : List (List ℕ)) (d : Data) → first_broken (module_rules m earlier d) ≡ None → HasFewArcs (module_in d)
+module_few : (version m : ℕ) (earlier : List (List ℕ)) (d : Data) → first_broken (module_rules version m earlier d) ≡ None → HasFewArcs (module_in d)
 unfolding module_rules
-module_few m earlier d h =
+module_few version m earlier d h =
     let k = simp broken_append at h in
-    few_each (map arc_in (items_at (codes "arcs") d)) (items_at (codes "transitions") d) (arcs_few m d (none_parts _ _ (none_parts _ _ k).0).1)
+    few_each (map arc_in (items_at (codes "arcs") d)) (items_at (codes "transitions") d) (arcs_few version m d (none_parts _ _ (none_parts _ _ k).0).1)
 
-modules_few : (i : ℕ) (earlier : List (List ℕ)) (ds : List Data) → first_broken (each_named module_rules i earlier ds) ≡ None → AllByRecursion HasFewArcs (map module_in ds)
+modules_few : (version i : ℕ) (earlier : List (List ℕ)) (ds : List Data) → first_broken (each_named (module_rules version) i earlier ds) ≡ None → AllByRecursion HasFewArcs (map module_in ds)
 unfolding each_named
-modules_few i earlier [] h = tt
-modules_few i earlier (d ∷ ds) h =
+modules_few version i earlier [] h = tt
+modules_few version i earlier (d ∷ ds) h =
     let k = none_parts _ _ (simp broken_append at h) in
-    (module_few i earlier d k.0, modules_few (suc i) (earlier ++ text_at (codes "name") d ∷ []) ds k.1)
+    (module_few version i earlier d k.0, modules_few version (suc i) (earlier ++ text_at (codes "name") d ∷ []) ds k.1)
 
-each_few : (ds : List Data) → first_broken (each_module ds) ≡ None → AllByRecursion HasFewArcs (map module_in ds)
+each_few : (version : ℕ) (ds : List Data) → first_broken (each_module version ds) ≡ None → AllByRecursion HasFewArcs (map module_in ds)
 unfolding each_module
-each_few ds h = modules_few 0 [] ds h
+each_few version ds h = modules_few version 0 [] ds h
 
-list_few : (d : Data) → first_broken (modules_rules d) ≡ None → AllByRecursion HasFewArcs (map module_in (items_at (codes "modules") d))
+list_few : (version : ℕ) (d : Data) → first_broken (modules_rules version d) ≡ None → AllByRecursion HasFewArcs (map module_in (items_at (codes "modules") d))
 unfolding modules_rules
-list_few d h = let k = simp broken_append at h in each_few (items_at (codes "modules") d) (none_parts _ _ k).1
+list_few version d h = let k = simp broken_append at h in each_few version (items_at (codes "modules") d) (none_parts _ _ k).1
 
 -- No transition of a document that keeps the rules has too many arcs.
-pub document_few : (d : Data) → first_broken (document_rules d) ≡ None → HaveFewArcs (document_in d)
+pub document_few : (version : ℕ) (d : Data) → first_broken (document_rules version d) ≡ None → HaveFewArcs (document_in d)
 unfolding document_rules
-document_few d h =
+document_few version d h =
     let k = simp broken_append at h in
-    list_few d (none_parts _ _ (none_parts _ _ (none_parts _ _ (none_parts _ _ k).0).0).0).1
+    list_few version d (none_parts _ _ (none_parts _ _ (none_parts _ _ (none_parts _ _ k).0).0).0).1

@@ -6,3 +6,5 @@ mod ArcCounts
 mod OneReading
 mod FewArcs
 mod Rows
+mod MonitorRows
+mod PhaseRows

@@ -5,7 +5,7 @@ use Rattle.std.proofs.lemmas.Result.{err_from_is_err_and}
 use Rattle.serde_json.specs.Data.{Data}
 use Rattle.cpn_document.specs.Refusals.{FormRefusal, not_json}
 use Rattle.cpn_document.specs.Rules.{first_broken}
-use Rattle.cpn_document.specs.Document.{RawDocument, document_in, document_rules}
+use Rattle.cpn_document.specs.Document.{RawDocument, version_in, document_in, document_rules}
 use Rattle.cpn_document.specs.Json.{IsJson, HasJson}
 use Rattle.cpn_document.specs.Reading.{Reading, read, refused, document_of, IsDocument, of_json, of_none}
 use Rattle.cpn_document.specs.Answers.{refusal_of, Breaks}
@@ -37,18 +37,18 @@ one_reading bytes first second (of_none none) k = sym (of_no_value bytes second 
 -- ---- what a call answers
 
 -- a document, of a value that keeps the rules
-pub read_as : (bytes : List ℕ) (d : Data) (document : RawDocument) → IsJson bytes d → document ≡ document_in d → first_broken (document_rules d) ≡ None → IsDocument bytes (read document)
+pub read_as : (bytes : List ℕ) (d : Data) (document : RawDocument) → IsJson bytes d → document ≡ document_in d → first_broken (document_rules (version_in d) d) ≡ None → IsDocument bytes (read document)
 read_as bytes d document h same kept =
     let is : document_of d ≡ read document = rw (kept, same) refl in
     rw (← is) (of_json d h)
 
 -- the refusal of the first rule that a value breaks
-refused_as : (bytes : List ℕ) (d : Data) (refusal : FormRefusal) → IsJson bytes d → first_broken (document_rules d) ≡ Some refusal → IsDocument bytes (refused refusal)
+refused_as : (bytes : List ℕ) (d : Data) (refusal : FormRefusal) → IsJson bytes d → first_broken (document_rules (version_in d) d) ≡ Some refusal → IsDocument bytes (refused refusal)
 refused_as bytes d refusal h broken =
     let is : document_of d ≡ refused refusal = rw broken refl in
     rw (← is) (of_json d h)
 
-pub refused_by_rules : (bytes : List ℕ) (d : Data) (refusal : Option FormRefusal) → IsJson bytes d → Breaks refusal (document_rules d) → IfSome refusal (λ r. IsDocument bytes (refused r))
+pub refused_by_rules : (bytes : List ℕ) (d : Data) (refusal : Option FormRefusal) → IsJson bytes d → Breaks refusal (document_rules (version_in d) d) → IfSome refusal (λ r. IsDocument bytes (refused r))
 refused_by_rules bytes d None h broken = tt
 refused_by_rules bytes d (Some refusal) h broken = refused_as bytes d refusal h (sym broken)
 

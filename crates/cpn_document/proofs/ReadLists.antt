@@ -5,8 +5,7 @@ use Rattle.std.proofs.lemmas.List.{drop_more, drop_all, append-nil, map-append}
 use Rattle.serde_json.specs.Data.{Data}
 use Rattle.cpn_document.specs.Refusals.{FormRefusal}
 use Rattle.cpn_document.specs.Rules.{Rule, first_broken}
-use Rattle.cpn_document.specs.Parts.{text_at}
-use Rattle.cpn_document.specs.Document.{each_named, names_in}
+use Rattle.cpn_document.specs.Parts.{text_at, each_named, names_in}
 use Rattle.cpn_document.specs.Answers.{Breaks}
 use Rattle.cpn_document.proofs.BrokenRules.{broken_later, breaks_here, none_broken}
 

@@ -5,8 +5,10 @@ use Rattle.serde_json.specs.Data.{Data, null, number, string, array, object, uns
 use Rattle.cpn_document.specs.Refusals.{shape, bad_number, bad_name, version, not_yet}
 use Rattle.cpn_document.specs.Rules.{first_broken}
 use Rattle.cpn_document.specs.Texts.{is_name}
-use Rattle.cpn_document.specs.Parts.{text_in, text_at, items_at, optional_text_at, object_rules, text_in_rules, text_rules, name_rules, new_name_rules, word_rules, list_rules, where_there}
-use Rattle.cpn_document.specs.Document.{RawArc, each_named, limit_rules, port_of, place_rules, transition_rules, way_of, arc_rules, arcs_at, assignment_rules, each_assignment, sub_rules, each_place, places_rules, each_transition, transitions_rules, each_arc, arcs_rules, each_sub, subs_rules, module_rules, member_rules, each_member, fusion_rules, version_rules, each_declaration, declarations_rules, each_module, modules_rules, each_fusion, fusions_rules, unserved_rules, document_rules}
+use Rattle.cpn_document.specs.Parts.{text_in, text_at, items_at, optional_text_at, object_rules, text_in_rules, text_rules, name_rules, new_name_rules, word_rules, list_rules, where_there, number_at, each_named, limit_rules, unserved_rules}
+use Rattle.cpn_document.specs.Document.{RawArc, port_of, place_rules, transition_rules, way_of, arc_rules, arcs_at, assignment_rules, each_assignment, sub_rules, each_place, places_rules, each_transition, transitions_rules, each_arc, arcs_rules, each_sub, subs_rules, module_rules, member_rules, each_member, fusion_rules, version_rules, each_declaration, declarations_rules, each_module, modules_rules, each_fusion, fusions_rules, document_rules}
+use Rattle.cpn_document.specs.Monitors.{each_monitor, monitors_rules}
+use Rattle.cpn_document.specs.Phases.{start_of, phase_rules, each_edit, each_phase, phases_rules}
 use Rattle.cpn_readings.specs.Rules.{each_item}
 use Rattle.cpn_document.specs.Reading.{read, refused, document_of}
 use Rattle.cpn_document.specs.declared.pointers.Pointer.TheVariants as at
@@ -49,7 +51,7 @@ one = number (unsigned 1)
 -- ---- the rules of the document
 
 nothing_there : document_of (object no_members) ≡ refused (shape at.Root)
-unfolding first_broken document_rules object_rules version_rules
+unfolding first_broken document_rules object_rules number_at version_rules
 nothing_there = refl
 
 no_object : document_of (array no_items) ≡ refused (shape at.Root)
@@ -61,36 +63,37 @@ unfolding first_broken document_rules object_rules
 further_key_before_version = refl
 
 another_version : document_of (document_with (number (unsigned 2)) [] no_members) ≡ refused version
-unfolding first_broken document_rules object_rules version_rules
+unfolding first_broken document_rules object_rules number_at version_rules
 another_version = refl
 
 negative_version : document_of (document_with (number (negative (negsuc 0))) [] no_members) ≡ refused version
-unfolding first_broken document_rules object_rules version_rules
+unfolding first_broken document_rules object_rules number_at version_rules
 negative_version = refl
 
 version_of_another_kind : document_of (document_with (string (codes "1")) [] no_members) ≡ refused (bad_number at.Version)
-unfolding first_broken document_rules object_rules version_rules
+unfolding first_broken document_rules object_rules number_at version_rules
 version_of_another_kind = refl
 
-phases_are_not_served : document_of (document_with one [] (member (codes "phases") (array (item null no_items)) no_members)) ≡ refused (not_yet at.Phases)
-unfolding text_in text_at items_at optional_text_at object_rules text_in_rules text_rules name_rules new_name_rules word_rules list_rules where_there is_name first_broken each_item each_named limit_rules port_of place_rules transition_rules way_of arc_rules assignment_rules each_assignment sub_rules each_place places_rules each_transition transitions_rules each_arc arcs_rules each_sub subs_rules module_rules member_rules each_member fusion_rules version_rules each_declaration declarations_rules each_module modules_rules each_fusion fusions_rules unserved_rules document_rules
-phases_are_not_served = refl
+phases_are_not_run_yet : document_of (document_with one [] (member (codes "phases") (array (item (object (member (codes "start") (string (codes "initial")) no_members)) no_items)) no_members)) ≡ refused (not_yet at.Phases)
+unfolding text_in text_at items_at optional_text_at object_rules text_in_rules text_rules name_rules new_name_rules word_rules list_rules where_there is_name first_broken each_item each_named limit_rules port_of place_rules transition_rules way_of arc_rules assignment_rules each_assignment sub_rules each_place places_rules each_transition transitions_rules each_arc arcs_rules each_sub subs_rules module_rules member_rules each_member fusion_rules version_rules each_declaration declarations_rules each_module modules_rules each_fusion fusions_rules number_at unserved_rules each_monitor monitors_rules start_of phase_rules each_edit each_phase phases_rules document_rules
+phases_are_not_run_yet = refl
 
 -- ---- the rules of its modules
 
 second_place_of_a_name : document_of (document_with one (module_with (codes "Top") (place_named (codes "A") ∷ place_named (codes "A") ∷ []) [] [] [] ∷ []) no_members) ≡ refused (bad_name (at.Module 0 (of_module.Place 1 of_place.Name)))
-unfolding text_in text_at items_at optional_text_at object_rules text_in_rules text_rules name_rules new_name_rules word_rules list_rules where_there is_name first_broken each_item each_named limit_rules port_of place_rules transition_rules way_of arc_rules assignment_rules each_assignment sub_rules each_place places_rules each_transition transitions_rules each_arc arcs_rules each_sub subs_rules module_rules member_rules each_member fusion_rules version_rules each_declaration declarations_rules each_module modules_rules each_fusion fusions_rules unserved_rules document_rules
+unfolding text_in text_at items_at optional_text_at object_rules text_in_rules text_rules name_rules new_name_rules word_rules list_rules where_there is_name first_broken each_item each_named limit_rules port_of place_rules transition_rules way_of arc_rules assignment_rules each_assignment sub_rules each_place places_rules each_transition transitions_rules each_arc arcs_rules each_sub subs_rules module_rules member_rules each_member fusion_rules version_rules each_declaration declarations_rules each_module modules_rules each_fusion fusions_rules number_at unserved_rules each_monitor monitors_rules each_phase phases_rules document_rules
 second_place_of_a_name = refl
 
 a_port_of_another_word : document_of (document_with one (module_with (codes "Top") (port_named (codes "A") (codes "inout") ∷ []) [] [] [] ∷ []) no_members) ≡ refused (shape (at.Module 0 (of_module.Place 0 of_place.Port)))
-unfolding text_in text_at items_at optional_text_at object_rules text_in_rules text_rules name_rules new_name_rules word_rules list_rules where_there is_name first_broken each_item each_named limit_rules port_of place_rules transition_rules way_of arc_rules assignment_rules each_assignment sub_rules each_place places_rules each_transition transitions_rules each_arc arcs_rules each_sub subs_rules module_rules member_rules each_member fusion_rules version_rules each_declaration declarations_rules each_module modules_rules each_fusion fusions_rules unserved_rules document_rules
+unfolding text_in text_at items_at optional_text_at object_rules text_in_rules text_rules name_rules new_name_rules word_rules list_rules where_there is_name first_broken each_item each_named limit_rules port_of place_rules transition_rules way_of arc_rules assignment_rules each_assignment sub_rules each_place places_rules each_transition transitions_rules each_arc arcs_rules each_sub subs_rules module_rules member_rules each_member fusion_rules version_rules each_declaration declarations_rules each_module modules_rules each_fusion fusions_rules number_at unserved_rules each_monitor monitors_rules each_phase phases_rules document_rules
 a_port_of_another_word = refl
 
 a_sub_with_the_name_of_a_transition : document_of (document_with one (module_with (codes "Top") [] (transition_named (codes "t") ∷ []) [] (sub_named (codes "t") ∷ []) ∷ []) no_members) ≡ refused (bad_name (at.Module 0 (of_module.Sub 0 of_sub.Name)))
-unfolding text_in text_at items_at optional_text_at object_rules text_in_rules text_rules name_rules new_name_rules word_rules list_rules where_there is_name first_broken each_item each_named limit_rules port_of place_rules transition_rules way_of arc_rules assignment_rules each_assignment sub_rules each_place places_rules each_transition transitions_rules each_arc arcs_rules each_sub subs_rules module_rules member_rules each_member fusion_rules version_rules each_declaration declarations_rules each_module modules_rules each_fusion fusions_rules unserved_rules document_rules
+unfolding text_in text_at items_at optional_text_at object_rules text_in_rules text_rules name_rules new_name_rules word_rules list_rules where_there is_name first_broken each_item each_named limit_rules port_of place_rules transition_rules way_of arc_rules assignment_rules each_assignment sub_rules each_place places_rules each_transition transitions_rules each_arc arcs_rules each_sub subs_rules module_rules member_rules each_member fusion_rules version_rules each_declaration declarations_rules each_module modules_rules each_fusion fusions_rules number_at unserved_rules each_monitor monitors_rules each_phase phases_rules document_rules
 a_sub_with_the_name_of_a_transition = refl
 
 a_document : document_of (document_with one (module_with (codes "Top") (port_named (codes "A") (codes "io") ∷ []) (transition_named (codes "t") ∷ []) (arc_both_ways ∷ []) (sub_named (codes "s") ∷ []) ∷ []) no_members) ≡ read (record {
+  version = 1;
   declarations = [];
   top = codes "Top";
   modules = record {
@@ -101,8 +104,10 @@ a_document : document_of (document_with one (module_with (codes "Top") (port_nam
     subs = record { name = codes "s"; submodule = codes "Low"; assign = [] } ∷ [];
   } ∷ [];
   fusions = [];
+  monitors = [];
+  phases = [];
 })
-unfolding text_in text_at items_at optional_text_at object_rules text_in_rules text_rules name_rules new_name_rules word_rules list_rules where_there is_name first_broken each_item each_named limit_rules port_of place_rules transition_rules way_of arc_rules assignment_rules each_assignment sub_rules each_place places_rules each_transition transitions_rules each_arc arcs_rules each_sub subs_rules module_rules member_rules each_member fusion_rules version_rules each_declaration declarations_rules each_module modules_rules each_fusion fusions_rules unserved_rules document_rules
+unfolding text_in text_at items_at optional_text_at object_rules text_in_rules text_rules name_rules new_name_rules word_rules list_rules where_there is_name first_broken each_item each_named limit_rules port_of place_rules transition_rules way_of arc_rules assignment_rules each_assignment sub_rules each_place places_rules each_transition transitions_rules each_arc arcs_rules each_sub subs_rules module_rules member_rules each_member fusion_rules version_rules each_declaration declarations_rules each_module modules_rules each_fusion fusions_rules number_at unserved_rules each_monitor monitors_rules each_phase phases_rules document_rules
 a_document = refl
 
 -- ---- arcs

@@ -1,14 +1,16 @@
 -- The form of a net document: the keys of each object in their order, what stands at them, and the rules that it has to
 -- keep, in the order in which they count. Source: own choice.
-use Rattle.std.specs.Prelude.{ℕ, suc, ◌==◌, Bool, false, ◌||◌, if◌then◌else◌, nat_le, List, [], ◌∷◌, ◌++◌, length, map, Option, option_map, option_and_then, is_some, codes}
+use Rattle.std.specs.Prelude.{ℕ, ◌==◌, Bool, false, ◌||◌, if◌then◌else◌, nat_le, List, [], ◌∷◌, ◌++◌, length, map, Option, option_map, option_and_then, is_some, codes}
 use Rattle.std.specs.List.{list_all, sum_by}
 use Rattle.std.specs.Option.{unwrap_or}
 use Rattle.std.specs.Str.{bytes_eq}
 use Rattle.serde_json.specs.Data.{Data}
 use Rattle.serde_json.specs.Find.{get, as_number, as_u64, as_i64}
-use Rattle.cpn_document.specs.Refusals.{bad_number, version, limit, not_yet}
+use Rattle.cpn_document.specs.Refusals as refusals
 use Rattle.cpn_document.specs.Rules.{Rule, each_item}
-use Rattle.cpn_document.specs.Parts.{text_in, text_at, items_at, optional_text_at, object_rules, text_in_rules, there_rule, text_rules, name_rules, new_name_rules, word_rules, list_rules, where_there}
+use Rattle.cpn_document.specs.Parts.{text_in, text_at, items_at, optional_text_at, number_at, names_in, object_rules, text_in_rules, there_rule, text_rules, name_rules, new_name_rules, word_rules, list_rules, where_there, each_named, limit_rules}
+use Rattle.cpn_document.specs.Monitors.{RawMonitor, monitor_in, monitors_rules}
+use Rattle.cpn_document.specs.Phases.{RawPhase, phase_in, phases_rules}
 use Rattle.cpn_document.specs.declared.pointers.Pointer.{Pointer}
 use Rattle.cpn_document.specs.declared.pointers.Pointer.TheVariants as at
 use Rattle.cpn_document.specs.declared.pointers.ModulePart.TheVariants as of_module
@@ -29,7 +31,6 @@ use Rattle.cpn_document.specs.declared.document.Way.{Way}
 use Rattle.cpn_document.specs.declared.document.Way.TheVariants as ways
 use Rattle.cpn_document.specs.declared.document.PortType.{PortType}
 use Rattle.cpn_document.specs.declared.document.PortType.TheVariants as ports
-use Rattle.cpn_document.specs.declared.refusals.Limit.{Limit}
 use Rattle.cpn_document.specs.declared.refusals.Limit.TheVariants as limits
 
 -- ---- documents as they are written
@@ -83,27 +84,16 @@ pub record RawFusion : Type 0 where
   pub name : List ℕ
   pub members : List RawMember
 
--- A document: the texts of its declarations, the name of its top module, its modules, its fusion sets.
+-- A document: its version, the texts of its declarations, the name of its top module, its modules, its fusion sets, its monitors,
+-- its phases.
 pub record RawDocument : Type 0 where
+  pub version : ℕ
   pub declarations : List (List ℕ)
   pub top : List ℕ
   pub modules : List RawModule
   pub fusions : List RawFusion
-
--- ---- the items of lists
-
--- the rules of each item of a list of things that have names, by its number from a number on and the names of those before it
-unfoldable pub each_named : (ℕ → List (List ℕ) → Data → List Rule) → ℕ → List (List ℕ) → List Data → List Rule
-each_named rules i earlier [] = []
-each_named rules i earlier (d ∷ ds) = rules i earlier d ++ each_named rules (suc i) (earlier ++ text_at (codes "name") d ∷ []) ds
-
--- the names of items
-abbrev pub names_in : List Data → List (List ℕ)
-names_in ds = map (text_at (codes "name")) ds
-
--- there are not too many of something
-unfoldable pub limit_rules : Bool → Limit → List Rule
-limit_rules few kind = record { kept = few; refusal = limit kind } ∷ []
+  pub monitors : List RawMonitor
+  pub phases : List RawPhase
 
 -- ---- places
 
@@ -136,10 +126,14 @@ transition_in d = record { name = text_at (codes "name") d; guard = optional_tex
 abbrev pub at_transition : ℕ → ℕ → TransitionPart → Pointer
 at_transition m i part = at.Module m (of_module.Transition i part)
 
+-- the keys of a transition, in a document of a version
+abbrev pub transition_keys : ℕ → List (List ℕ)
+transition_keys version = codes "name" ∷ codes "guard" ∷ codes "delay" ∷ []
+
 -- A transition has a new name, and maybe a guard and a delay.
-unfoldable pub transition_rules : ℕ → ℕ → List (List ℕ) → Data → List Rule
-transition_rules m i earlier d =
-    object_rules (codes "name" ∷ codes "guard" ∷ codes "delay" ∷ []) (at_transition m i of_transition.Whole) d
+unfoldable pub transition_rules : ℕ → ℕ → ℕ → List (List ℕ) → Data → List Rule
+transition_rules version m i earlier d =
+    object_rules (transition_keys version) (at_transition m i of_transition.Whole) d
     ++ new_name_rules (codes "name") (at_transition m i of_transition.Whole) (at_transition m i of_transition.Name) earlier d
     ++ where_there (codes "guard") d (text_rules (codes "guard") (at_transition m i of_transition.Whole) (at_transition m i of_transition.Guard) d)
     ++ where_there (codes "delay") d (text_rules (codes "delay") (at_transition m i of_transition.Whole) (at_transition m i of_transition.Delay) d)
@@ -157,10 +151,14 @@ arc_in d = record { place = text_at (codes "place") d; transition = text_at (cod
 abbrev pub at_arc : ℕ → ℕ → ArcPart → Pointer
 at_arc m i part = at.Module m (of_module.Arc i part)
 
+-- the keys of an arc, in a document of a version
+abbrev pub arc_keys : ℕ → List (List ℕ)
+arc_keys version = codes "place" ∷ codes "transition" ∷ codes "to" ∷ codes "expr" ∷ []
+
 -- An arc has the names of a place and a transition, a way, and maybe an inscription.
-unfoldable pub arc_rules : ℕ → ℕ → Data → List Rule
-arc_rules m i d =
-    object_rules (codes "place" ∷ codes "transition" ∷ codes "to" ∷ codes "expr" ∷ []) (at_arc m i of_arc.Whole) d
+unfoldable pub arc_rules : ℕ → ℕ → ℕ → Data → List Rule
+arc_rules version m i d =
+    object_rules (arc_keys version) (at_arc m i of_arc.Whole) d
     ++ name_rules (codes "place") (at_arc m i of_arc.Whole) (at_arc m i of_arc.Place) d
     ++ name_rules (codes "transition") (at_arc m i of_arc.Whole) (at_arc m i of_arc.Transition) d
     ++ word_rules (codes "transition" ∷ codes "place" ∷ codes "both" ∷ []) (codes "to") (at_arc m i of_arc.Whole) (at_arc m i of_arc.To) d
@@ -241,24 +239,24 @@ places_rules m d =
     ++ each_place m (items_at (codes "places") d)
 
 -- each of its transitions, no two of one name
-unfoldable pub each_transition : ℕ → List Data → List Rule
-each_transition m ds = each_named (transition_rules m) 0 [] ds
+unfoldable pub each_transition : ℕ → ℕ → List Data → List Rule
+each_transition version m ds = each_named (transition_rules version m) 0 [] ds
 
 -- Its transitions: a list of transitions.
-unfoldable pub transitions_rules : ℕ → Data → List Rule
-transitions_rules m d =
+unfoldable pub transitions_rules : ℕ → ℕ → Data → List Rule
+transitions_rules version m d =
     list_rules (codes "transitions") (at.Module m of_module.Whole) (at.Module m of_module.Transitions) d
-    ++ each_transition m (items_at (codes "transitions") d)
+    ++ each_transition version m (items_at (codes "transitions") d)
 
 -- each of its arcs
-unfoldable pub each_arc : ℕ → List Data → List Rule
-each_arc m ds = each_item (arc_rules m) 0 ds
+unfoldable pub each_arc : ℕ → ℕ → List Data → List Rule
+each_arc version m ds = each_item (arc_rules version m) 0 ds
 
 -- Its arcs: a list of arcs, not too many of them at any of the transitions of these names.
-unfoldable pub arcs_rules : ℕ → List (List ℕ) → Data → List Rule
-arcs_rules m transitions d =
+unfoldable pub arcs_rules : ℕ → ℕ → List (List ℕ) → Data → List Rule
+arcs_rules version m transitions d =
     list_rules (codes "arcs") (at.Module m of_module.Whole) (at.Module m of_module.Arcs) d
-    ++ each_arc m (items_at (codes "arcs") d)
+    ++ each_arc version m (items_at (codes "arcs") d)
     ++ limit_rules (have_few_arcs transitions (map arc_in (items_at (codes "arcs") d))) limits.Arcs
 
 -- each of its substitution transitions, none with the name of another or of one of these transitions
@@ -272,13 +270,13 @@ subs_rules m transitions d =
     ++ each_sub m transitions (items_at (codes "subs") d)
 
 -- A module has a new name, places, transitions, arcs, and maybe substitution transitions.
-unfoldable pub module_rules : ℕ → List (List ℕ) → Data → List Rule
-module_rules m earlier d =
+unfoldable pub module_rules : ℕ → ℕ → List (List ℕ) → Data → List Rule
+module_rules version m earlier d =
     object_rules (codes "name" ∷ codes "places" ∷ codes "transitions" ∷ codes "arcs" ∷ codes "subs" ∷ []) (at.Module m of_module.Whole) d
     ++ new_name_rules (codes "name") (at.Module m of_module.Whole) (at.Module m of_module.Name) earlier d
     ++ places_rules m d
-    ++ transitions_rules m d
-    ++ arcs_rules m (names_in (items_at (codes "transitions") d)) d
+    ++ transitions_rules version m d
+    ++ arcs_rules version m (names_in (items_at (codes "transitions") d)) d
     ++ subs_rules m (names_in (items_at (codes "transitions") d)) d
 
 -- ---- fusion sets
@@ -325,12 +323,16 @@ most_modules = 256
 abbrev pub is_whole : Data → Bool
 is_whole d = is_some (option_and_then as_u64 (as_number d)) || is_some (option_and_then as_i64 (as_number d))
 
+-- the version that a document states; 0 where that is no whole number from 0 on
+abbrev pub version_in : Data → ℕ
+version_in d = unwrap_or (number_at (codes "version") d) 0
+
 -- The version is there, a whole number, and 1.
-unfoldable pub version_rules : Data → List Rule
-version_rules d =
+unfoldable pub version_rules : ℕ → Data → List Rule
+version_rules version d =
     there_rule (codes "version") at.Root d
-    ∷ record { kept = unwrap_or (option_map is_whole (get (codes "version") d)) false; refusal = bad_number at.Version }
-    ∷ record { kept = unwrap_or (option_and_then as_u64 (option_and_then as_number (get (codes "version") d))) 0 == 1; refusal = version }
+    ∷ record { kept = unwrap_or (option_map is_whole (get (codes "version") d)) false; refusal = refusals.bad_number at.Version }
+    ∷ record { kept = version == 1; refusal = refusals.version }
     ∷ []
 
 -- each of the declarations: a text
@@ -345,15 +347,15 @@ declarations_rules d =
     ++ each_declaration (items_at (codes "declarations") d)
 
 -- each of the modules, no two of one name
-unfoldable pub each_module : List Data → List Rule
-each_module ds = each_named module_rules 0 [] ds
+unfoldable pub each_module : ℕ → List Data → List Rule
+each_module version ds = each_named (module_rules version) 0 [] ds
 
 -- The modules: a list of modules, not too many. They are counted before they are looked at.
-unfoldable pub modules_rules : Data → List Rule
-modules_rules d =
+unfoldable pub modules_rules : ℕ → Data → List Rule
+modules_rules version d =
     list_rules (codes "modules") at.Root at.Modules d
     ++ limit_rules (nat_le (length (items_at (codes "modules") d)) most_modules) limits.Modules
-    ++ each_module (items_at (codes "modules") d)
+    ++ each_module version (items_at (codes "modules") d)
 
 -- each of the fusion sets, no two of one name
 unfoldable pub each_fusion : List Data → List Rule
@@ -365,28 +367,29 @@ fusions_rules d =
     where_there (codes "fusions") d (list_rules (codes "fusions") at.Root at.Fusions d)
     ++ each_fusion (items_at (codes "fusions") d)
 
--- What may be missing or an empty list, and is not served yet else.
-unfoldable pub unserved_rules : List ℕ → Pointer → Data → List Rule
-unserved_rules key here d =
-    where_there key d (list_rules key at.Root here d)
-    ++ record { kept = length (items_at key d) == 0; refusal = not_yet here } ∷ []
-
 abbrev pub document_in : Data → RawDocument
 document_in d = record {
+  version = version_in d;
   declarations = map text_in (items_at (codes "declarations") d);
   top = text_at (codes "top") d;
   modules = map module_in (items_at (codes "modules") d);
   fusions = map fusion_in (items_at (codes "fusions") d);
+  monitors = map monitor_in (items_at (codes "monitors") d);
+  phases = map phase_in (items_at (codes "phases") d);
 }
 
--- The rules of a document.
-unfoldable pub document_rules : Data → List Rule
-document_rules d =
-    object_rules (codes "version" ∷ codes "declarations" ∷ codes "top" ∷ codes "modules" ∷ codes "fusions" ∷ codes "monitors" ∷ codes "phases" ∷ []) at.Root d
-    ++ version_rules d
+-- the keys of a document of a version
+abbrev pub document_keys : ℕ → List (List ℕ)
+document_keys version = codes "version" ∷ codes "declarations" ∷ codes "top" ∷ codes "modules" ∷ codes "fusions" ∷ codes "monitors" ∷ codes "phases" ∷ []
+
+-- The rules of a document that states a version. What an object may have for keys is said by the version.
+unfoldable pub document_rules : ℕ → Data → List Rule
+document_rules version d =
+    object_rules (document_keys version) at.Root d
+    ++ version_rules version d
     ++ declarations_rules d
     ++ name_rules (codes "top") at.Root at.Top d
-    ++ modules_rules d
+    ++ modules_rules version d
     ++ fusions_rules d
-    ++ unserved_rules (codes "monitors") at.Monitors d
-    ++ unserved_rules (codes "phases") at.Phases d
+    ++ monitors_rules d
+    ++ phases_rules d

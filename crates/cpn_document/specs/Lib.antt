@@ -2,6 +2,8 @@ pub mod Refusals
 pub mod Rules
 pub mod Texts
 pub mod Parts
+pub mod Monitors
+pub mod Phases
 pub mod Document
 pub mod FewArcs
 pub mod Json

@@ -1,15 +1,16 @@
 -- The parts of a JSON value, and the rules of what stands at a key. What is not there, or is of another kind, is as if it
 -- were empty: a rule says that it has to be there. Source: own choice.
-use Rattle.std.specs.Prelude.{ℕ, Bool, true, not, ◌&&◌, List, [], ◌∷◌, ◌++◌, Option, Some, None, option_map, option_and_then, is_some}
+use Rattle.std.specs.Prelude.{ℕ, suc, ◌==◌, Bool, true, false, not, ◌&&◌, nat_le, List, [], ◌∷◌, ◌++◌, length, map, Option, Some, None, option_map, option_and_then, is_some, codes}
 use Rattle.std.specs.Option.{unwrap_or}
 use Rattle.std.specs.List.{list_any}
 use Rattle.std.specs.Str.{bytes_eq}
 use Rattle.serde_json.specs.Data.{Data, Items, no_items, item, Members, no_members, member}
-use Rattle.serde_json.specs.Find.{get, as_str, as_array, as_object}
-use Rattle.cpn_document.specs.Refusals.{shape, bad_name}
+use Rattle.serde_json.specs.Find.{get, as_number, as_str, as_u64, as_array, as_object}
+use Rattle.cpn_document.specs.Refusals.{shape, bad_number, bad_name, limit, not_yet}
 use Rattle.cpn_document.specs.Rules.{Rule}
-use Rattle.cpn_document.specs.Texts.{is_name}
+use Rattle.cpn_document.specs.Texts.{is_name, is_flat_name}
 use Rattle.cpn_document.specs.declared.pointers.Pointer.{Pointer}
+use Rattle.cpn_document.specs.declared.refusals.Limit.{Limit}
 
 -- ---- parts
 
@@ -44,6 +45,14 @@ items_at key d = items_of (unwrap_or (option_and_then as_array (get key d)) no_i
 unfoldable pub optional_text_at : List ℕ → Data → Option (List ℕ)
 optional_text_at key d = option_map text_in (get key d)
 
+-- the number at a key, where a whole number from 0 to 2^64 - 1 stands there
+unfoldable pub number_at : List ℕ → Data → Option ℕ
+number_at key d = option_and_then as_u64 (option_and_then as_number (get key d))
+
+-- the names of items
+abbrev pub names_in : List Data → List (List ℕ)
+names_in ds = map (text_at (codes "name")) ds
+
 -- ---- rules
 
 -- a value is an object with no other keys than these
@@ -73,6 +82,21 @@ name_rules key whole here d = text_rules key whole here d ++ record { kept = is_
 unfoldable pub new_name_rules : List ℕ → Pointer → Pointer → List (List ℕ) → Data → List Rule
 new_name_rules key whole here earlier d = name_rules key whole here d ++ record { kept = not (is_one_of (text_at key d) earlier); refusal = bad_name here } ∷ []
 
+-- a flattened name stands at a key
+unfoldable pub flat_name_rules : List ℕ → Pointer → Pointer → Data → List Rule
+flat_name_rules key whole here d = text_rules key whole here d ++ record { kept = is_flat_name (text_at key d); refusal = bad_name here } ∷ []
+
+-- whether a number is one from the first to the last
+abbrev pub is_within : ℕ → ℕ → ℕ → Bool
+is_within first last n = nat_le first n && nat_le n last
+
+-- a whole number from the first to the last stands at a key
+unfoldable pub number_rules : ℕ → ℕ → List ℕ → Pointer → Pointer → Data → List Rule
+number_rules first last key whole here d =
+    there_rule key whole d
+    ∷ record { kept = unwrap_or (option_map (is_within first last) (number_at key d)) false; refusal = bad_number here }
+    ∷ []
+
 -- one of these words stands at a key
 unfoldable pub word_rules : List (List ℕ) → List ℕ → Pointer → Pointer → Data → List Rule
 word_rules words key whole here d = text_rules key whole here d ++ record { kept = is_one_of (text_at key d) words; refusal = shape here } ∷ []
@@ -88,3 +112,16 @@ where_there key d rules = if_there (get key d)
     if_there : Option Data → List Rule
     if_there None = []
     if_there (Some e) = rules
+
+-- the rules of each item of a list of things that have names, by its number from a number on and the names of those before it
+unfoldable pub each_named : (ℕ → List (List ℕ) → Data → List Rule) → ℕ → List (List ℕ) → List Data → List Rule
+each_named rules i earlier [] = []
+each_named rules i earlier (d ∷ ds) = rules i earlier d ++ each_named rules (suc i) (earlier ++ text_at (codes "name") d ∷ []) ds
+
+-- there are not too many of something
+unfoldable pub limit_rules : Bool → Limit → List Rule
+limit_rules few kind = record { kept = few; refusal = limit kind } ∷ []
+
+-- what is not run yet is an empty list
+unfoldable pub unserved_rules : Pointer → List Data → List Rule
+unserved_rules here ds = record { kept = length ds == 0; refusal = not_yet here } ∷ []

@@ -1,6 +1,6 @@
--- The names of modules, places and transitions. Source: own choice.
+-- The names of modules, places and transitions, and flattened names. Source: own choice.
 use Rattle.std.specs.Prelude.{ℕ, ◌-◌, ◌==◌, Bool, not, ◌&&◌, ◌||◌, nat_le, List, length, slice_index}
-use Rattle.std.specs.List.{list_all}
+use Rattle.std.specs.List.{list_all, slice_split}
 
 -- bytes of each kind
 abbrev pub is_digit : ℕ → Bool
@@ -16,3 +16,7 @@ is_name_byte byte = is_letter byte || is_digit byte || byte == 0x5F || byte == 0
 -- A name of a module, a place or a transition: 1 to 64 such bytes, the first a letter, the last no space.
 unfoldable pub is_name : List ℕ → Bool
 is_name text = is_letter (slice_index text 0) && list_all is_name_byte text && not (slice_index text (length text - 1) == 0x20) && nat_le (length text) 64
+
+-- A flattened name: names joined by `/`.
+unfoldable pub is_flat_name : List ℕ → Bool
+is_flat_name text = list_all is_name (slice_split (λ byte. byte == 0x2F) text)

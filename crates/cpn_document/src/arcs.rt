@@ -2,8 +2,9 @@
 
 ghost use Rattle.std.specs.Prelude.{◌≡◌, ℕ, List, [], ◌∷◌, map, codes, IfOk};
 ghost use Rattle.serde_json.specs.View.{view};
+ghost use Rattle.cpn_document.specs.Names.{texts_of as bytes_of};
 ghost use Rattle.cpn_document.specs.Parts.{items_at};
-ghost use Rattle.cpn_document.specs.Document.{at_arc as part_of_arc, each_arc, way_of as way_of_word, arc_in, arc_rules, arcs_rules};
+ghost use Rattle.cpn_document.specs.Document.{at_arc as part_of_arc, each_arc, way_of as way_of_word, arc_in, arc_keys as keys_of_arc, arc_rules, arcs_rules};
 ghost use Rattle.cpn_document.specs.Views.{arc_view};
 ghost use Rattle.cpn_document.specs.Answers.{Gives};
 
@@ -40,12 +41,25 @@ fn at_arc(in_module: usize, number: usize, part: ArcPart) -> Pointer
     Pointer::Module(in_module, ModulePart::Arc(number, part))
 }
 
+/// The keys of an arc, in a document of this version.
+fn arc_keys(_version: u64) -> [&'static str; 4]
+    ensures exact { bytes_of result ≡ keys_of_arc _version }
+{
+    ["place", "transition", "to", "expr"]
+}
+
 /// The arc of a number.
-fn arc_of(alloc: Global, in_module: usize, number: usize, value: &Value) -> Result<Arc, DocError>
-    ensures gives { Gives arc_view result (arc_in (view value.now)) (arc_rules in_module number (view value.now)) }
+fn arc_of(
+    alloc: Global,
+    version: u64,
+    in_module: usize,
+    number: usize,
+    value: &Value,
+) -> Result<Arc, DocError>
+    ensures gives { Gives arc_view result (arc_in (view value.now)) (arc_rules version in_module number (view value.now)) }
 {
     let whole = at_arc(in_module, number, ArcPart::Whole);
-    check_keys(value, &["place", "transition", "to", "expr"], whole)?;
+    check_keys(value, &arc_keys(version), whole)?;
     let at_place = at_arc(in_module, number, ArcPart::Place);
     let place = name_at_key(value, "place", whole, at_place)?;
     let at_transition = at_arc(in_module, number, ArcPart::Transition);
@@ -64,12 +78,17 @@ fn arc_of(alloc: Global, in_module: usize, number: usize, value: &Value) -> Resu
 
 /// The arcs of a list, in order.
 #[tactic(auto, unfolding(crate::specs::Document::each_arc))]
-fn arcs_of(alloc: Global, in_module: usize, list: &[Value]) -> Result<Vec<Arc>, DocError>
-    ensures gives { Gives (λ arcs. map arc_view arcs.items) result (map arc_in (map view list.now)) (each_arc in_module (map view list.now)) }
+fn arcs_of(
+    alloc: Global,
+    version: u64,
+    in_module: usize,
+    list: &[Value],
+) -> Result<Vec<Arc>, DocError>
+    ensures gives { Gives (λ arcs. map arc_view arcs.items) result (map arc_in (map view list.now)) (each_arc version in_module (map view list.now)) }
 {
     let mut arcs = Vec::with_capacity(alloc, list.len())?;
     for (number, value) in list.iter().enumerate() {
-        arcs.push(arc_of(alloc, in_module, number, value)?)?;
+        arcs.push(arc_of(alloc, version, in_module, number, value)?)?;
     }
     Ok(arcs)
 }
@@ -77,16 +96,17 @@ fn arcs_of(alloc: Global, in_module: usize, list: &[Value]) -> Result<Vec<Arc>, 
 /// The arcs of a module, not too many at any of the transitions of these names.
 pub(crate) fn arcs_in(
     alloc: Global,
+    version: u64,
     in_module: usize,
     transitions: &Names,
     value: &Value,
 ) -> Result<Vec<Arc>, DocError>
-    ensures gives { Gives (λ arcs. map arc_view arcs.items) result (map arc_in (items_at (codes "arcs") (view value.now))) (arcs_rules in_module transitions.now (view value.now)) }
+    ensures gives { Gives (λ arcs. map arc_view arcs.items) result (map arc_in (items_at (codes "arcs") (view value.now))) (arcs_rules version in_module transitions.now (view value.now)) }
 {
     let whole = Pointer::Module(in_module, ModulePart::Whole);
     let here = Pointer::Module(in_module, ModulePart::Arcs);
     let list = list_at_key(value, "arcs", whole, here)?;
-    let arcs = arcs_of(alloc, in_module, list)?;
+    let arcs = arcs_of(alloc, version, in_module, list)?;
     check_limit(
         have_few_arcs(alloc, transitions, arcs.as_slice())?,
         Limit::Arcs,

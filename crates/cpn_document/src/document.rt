@@ -112,9 +112,104 @@ pub struct Fusion {
     pub members: Vec<Member>,
 }
 
+/// At which side of a number something has to be.
+#[derive(Clone, Copy, Debug, PartialEq, Eq)]
+pub enum Bound {
+    /// The number or more.
+    AtLeast,
+    /// The number or less.
+    AtMost,
+}
+
+/// What a monitor measures, or what it stops a run at. Transitions and places are told by their flattened names.
+#[derive(Drop)]
+pub enum MonitorKind {
+    /// How often a transition occurs.
+    Count {
+        /// The name of the transition.
+        transition: String,
+    },
+    /// How many tokens are on a place.
+    Size {
+        /// The name of the place.
+        place: String,
+    },
+    /// The value of an inscription at each occurrence of a transition.
+    Value {
+        /// The name of the transition.
+        transition: String,
+        /// The text of the inscription.
+        expr: String,
+    },
+    /// A stop at an occurrence of a transition.
+    StopCount {
+        /// The name of the transition.
+        transition: String,
+        /// At which of its occurrences, from 1 on.
+        n: u64,
+    },
+    /// A stop at a number of tokens on a place.
+    StopSize {
+        /// The name of the place.
+        place: String,
+        /// Whether at least or at most so many.
+        op: Bound,
+        /// How many tokens.
+        n: u64,
+    },
+}
+
+/// A monitor.
+#[derive(Drop)]
+pub struct Monitor {
+    /// Its name.
+    pub name: String,
+    /// What it measures.
+    pub kind: MonitorKind,
+}
+
+/// From where a phase starts.
+#[derive(Clone, Copy, Debug, PartialEq, Eq)]
+pub enum Start {
+    /// From the initial marking.
+    Initial,
+    /// From where the phase before it ended.
+    Here,
+}
+
+/// A change of the net for a phase. Transitions and places are told by their flattened names.
+#[derive(Drop)]
+pub enum Edit {
+    /// Another guard of a transition.
+    Guard {
+        /// The name of the transition.
+        transition: String,
+        /// The text of the guard.
+        text: String,
+    },
+    /// Another initial marking of a place.
+    Initial {
+        /// The name of the place.
+        place: String,
+        /// The text of the marking.
+        text: String,
+    },
+}
+
+/// A phase.
+#[derive(Drop)]
+pub struct Phase {
+    /// From where it starts.
+    pub start: Start,
+    /// Its edits, in order.
+    pub edits: Vec<Edit>,
+}
+
 /// A net document.
 #[derive(Drop)]
 pub struct Document {
+    /// The version of its form.
+    pub version: u64,
     /// The texts of its declarations, in order.
     pub declarations: Vec<String>,
     /// The name of its top module.
@@ -123,4 +218,8 @@ pub struct Document {
     pub modules: Vec<Module>,
     /// Its fusion sets, in order; no two have one name.
     pub fusions: Vec<Fusion>,
+    /// Its monitors, in order; no two have one name.
+    pub monitors: Vec<Monitor>,
+    /// Its phases, in order.
+    pub phases: Vec<Phase>,
 }

@@ -1,18 +1,19 @@
 //! The document that a JSON value is.
 
-ghost use Rattle.std.specs.Prelude.{true, map, string_bytes, codes};
+ghost use Rattle.std.specs.Prelude.{◌≡◌, true, map, string_bytes, codes};
 ghost use Rattle.serde_json.specs.View.{view};
+ghost use Rattle.cpn_document.specs.Names.{texts_of as bytes_of};
 ghost use Rattle.cpn_document.specs.Parts.{text_in, items_at};
-ghost use Rattle.cpn_document.specs.Document.{each_declaration, version_rules, declarations_rules, unserved_rules, document_in, document_rules};
+ghost use Rattle.cpn_document.specs.Document.{each_declaration, version_in as version_stated, version_rules, declarations_rules, document_in, document_keys as keys_of_document, document_rules};
 ghost use Rattle.cpn_document.specs.Views.{document_view};
 ghost use Rattle.cpn_document.specs.Answers.{Finds, Gives};
 
 use crate::document::Document;
 use crate::fusions::fusions_in;
 use crate::modules::modules_in;
-use crate::parts::{
-    check_keys, check_limit, list_at_key, name_at_key, optional_list_at_key, text_of,
-};
+use crate::monitors::monitors_in;
+use crate::parts::{check_keys, check_limit, list_at_key, name_at_key, text_of};
+use crate::phases::phases_in;
 use crate::pointers::Pointer;
 use crate::refusals::{DocError, Limit, Refused};
 use crate::texts::copied;
@@ -25,28 +26,43 @@ const VERSION: u64 = 1;
 /// The most declarations of a document.
 const MOST_DECLARATIONS: usize = 1024;
 
-/// The keys of a document.
-const KEYS: [&str; 7] = [
-    "version",
-    "declarations",
-    "top",
-    "modules",
-    "fusions",
-    "monitors",
-    "phases",
-];
+/// The keys of a document of this version.
+fn document_keys(_version: u64) -> [&'static str; 7]
+    ensures exact { bytes_of result ≡ keys_of_document _version }
+{
+    [
+        "version",
+        "declarations",
+        "top",
+        "modules",
+        "fusions",
+        "monitors",
+        "phases",
+    ]
+}
+
+/// The version that a document states; 0 where that is no whole number from 0 on.
+#[tactic(auto, unfolding(crate::specs::Parts::number_at))]
+fn version_in(value: &Value) -> u64
+    ensures exact { result ≡ version_stated (view value.now) }
+{
+    match value.get("version") {
+        Some(version) => version.as_u64().unwrap_or(0),
+        None => 0,
+    }
+}
 
 /// That the version is there, a whole number, and the one that is read.
 #[tactic(auto, unfolding(crate::specs::Document::version_rules, crate::specs::Rules::first_broken))]
-fn check_version(value: &Value) -> Result<(), Refused>
-    ensures finds { Finds (λ _. true) result true (version_rules (view value.now)) }
+fn check_version(value: &Value, stated: u64) -> Result<(), Refused>
+    ensures finds { Finds (λ _. true) result true (version_rules stated (view value.now)) }
 {
     match value.get("version") {
         Some(version) => {
             if !version.is_u64() && !version.is_i64() {
                 return Err(Refused::BadNumber(Pointer::Version));
             }
-            if version.as_u64().unwrap_or(0) == VERSION {
+            if stated == VERSION {
                 Ok(())
             } else {
                 Err(Refused::Version)
@@ -79,35 +95,26 @@ fn declarations_in(alloc: Global, value: &Value) -> Result<Vec<String>, DocError
     Ok(declarations)
 }
 
-/// That a list which is not served yet is missing or empty.
-#[tactic(auto, using(crate::proofs::BrokenRules::in_order, crate::proofs::SeenValues::length_seen), unfolding(crate::specs::Document::unserved_rules))]
-fn check_unserved(value: &Value, key: &str, here: Pointer) -> Result<(), Refused>
-    ensures finds { Finds (λ _. true) result true (unserved_rules key.now here (view value.now)) }
-{
-    let list = optional_list_at_key(value, key, Pointer::Root, here)?;
-    if list.is_empty() {
-        Ok(())
-    } else {
-        Err(Refused::NotYet(here))
-    }
-}
-
 /// The document that a JSON value is, where it keeps the rules of documents; else the refusal of the first that it breaks.
 pub(crate) fn document_of(alloc: Global, value: &Value) -> Result<Document, DocError>
-    ensures gives { Gives document_view result (document_in (view value.now)) (document_rules (view value.now)) }
+    ensures gives { Gives document_view result (document_in (view value.now)) (document_rules (version_stated (view value.now)) (view value.now)) }
 {
-    check_keys(value, &KEYS, Pointer::Root)?;
-    check_version(value)?;
+    let version = version_in(value);
+    check_keys(value, &document_keys(version), Pointer::Root)?;
+    check_version(value, version)?;
     let declarations = declarations_in(alloc, value)?;
     let top = name_at_key(value, "top", Pointer::Root, Pointer::Top)?;
-    let modules = modules_in(alloc, value)?;
+    let modules = modules_in(alloc, version, value)?;
     let fusions = fusions_in(alloc, value)?;
-    check_unserved(value, "monitors", Pointer::Monitors)?;
-    check_unserved(value, "phases", Pointer::Phases)?;
+    let monitors = monitors_in(alloc, value)?;
+    let phases = phases_in(alloc, value)?;
     Ok(Document {
+        version,
         declarations,
         top: copied(alloc, top)?,
         modules,
         fusions,
+        monitors,
+        phases,
     })
 }

@@ -1,7 +1,7 @@
 //! Reads net documents: from bytes to the texts that stand at the keys of a document's objects.
 //!
 //! [`read_document`] says which document the bytes are: its declarations, its modules with their places, transitions, arcs and
-//! substitution transitions, and its fusion sets, as they are written; or the refusal of the first rule that is broken, with the
+//! substitution transitions, its fusion sets, its monitors and its phases, as they are written; or the refusal of the first rule that is broken, with the
 //! place of it ([`Pointer`]). What the texts say is not looked into: the crate knows no colour set, no inscription and no net, and
 //! joins no name to what it names. It reads and writes nothing outside the program.
 #![tactic(auto)]
@@ -9,12 +9,15 @@
 mod arc_counts;
 mod arcs;
 mod document;
+mod edits;
 mod form;
 mod fusions;
 mod json;
 mod modules;
+mod monitors;
 mod names;
 mod parts;
+mod phases;
 mod places;
 mod pointers;
 mod reading;
@@ -24,11 +27,12 @@ mod texts;
 mod transitions;
 
 pub use document::{
-    Arc, Assignment, Document, Fusion, Member, Module, Place, PortType, Sub, Transition, Way,
+    Arc, Assignment, Bound, Document, Edit, Fusion, Member, Module, Monitor, MonitorKind, Phase,
+    Place, PortType, Start, Sub, Transition, Way,
 };
 pub use pointers::{
-    ArcPart, AssignmentPart, FusionPart, MemberPart, ModulePart, PlacePart, Pointer, SubPart,
-    TransitionPart,
+    ArcPart, AssignmentPart, EditPart, FusionPart, MemberPart, ModulePart, MonitorPart, PhasePart,
+    PlacePart, Pointer, SubPart, TransitionPart,
 };
 pub use reading::read_document;
 pub use refusals::{DocError, Limit};

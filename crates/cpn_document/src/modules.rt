@@ -26,11 +26,12 @@ const MOST_MODULES: usize = 256;
 /// The module of a number.
 fn module_of<'v>(
     alloc: Global,
+    version: u64,
     number: usize,
     names: &mut Names<'v>,
     value: &'v Value,
 ) -> Result<Module, DocError>
-    ensures gives { Gives module_view result (module_in (view value.now)) (module_rules number names.old (view value.now)) }
+    ensures gives { Gives module_view result (module_in (view value.now)) (module_rules version number names.old (view value.now)) }
     ensures names { OnOk result (names.new ≡ names.old ++ text_at (codes "name") (view value.now) ∷ []) }
 {
     let whole = Pointer::Module(number, ModulePart::Whole);
@@ -43,8 +44,8 @@ fn module_of<'v>(
     let name = new_name_at_key(value, names, "name", whole, at_name)?;
     let places = places_in(alloc, number, value)?;
     let mut inner = Names::new(alloc);
-    let transitions = transitions_in(alloc, number, &mut inner, value)?;
-    let arcs = arcs_in(alloc, number, &inner, value)?;
+    let transitions = transitions_in(alloc, version, number, &mut inner, value)?;
+    let arcs = arcs_in(alloc, version, number, &inner, value)?;
     let subs = subs_in(alloc, number, &mut inner, value)?;
     Ok(Module {
         name: copied(alloc, name)?,
@@ -57,23 +58,27 @@ fn module_of<'v>(
 
 /// The modules of a list, in order.
 #[tactic(auto, unfolding(crate::specs::Document::each_module))]
-fn modules_of(alloc: Global, list: &[Value]) -> Result<Vec<Module>, DocError>
-    ensures gives { Gives (λ modules. map module_view modules.items) result (map module_in (map view list.now)) (each_module (map view list.now)) }
+fn modules_of(alloc: Global, version: u64, list: &[Value]) -> Result<Vec<Module>, DocError>
+    ensures gives { Gives (λ modules. map module_view modules.items) result (map module_in (map view list.now)) (each_module version (map view list.now)) }
 {
     let mut names = Names::new(alloc);
     let mut modules = Vec::with_capacity(alloc, list.len())?;
     for (number, value) in list.iter().enumerate() {
-        modules.push(module_of(alloc, number, &mut names, value)?)?;
+        modules.push(module_of(alloc, version, number, &mut names, value)?)?;
     }
     Ok(modules)
 }
 
 /// The modules of a document.
-pub(crate) fn modules_in(alloc: Global, value: &Value) -> Result<Vec<Module>, DocError>
-    ensures gives { Gives (λ modules. map module_view modules.items) result (map module_in (items_at (codes "modules") (view value.now))) (modules_rules (view value.now)) }
+pub(crate) fn modules_in(
+    alloc: Global,
+    version: u64,
+    value: &Value,
+) -> Result<Vec<Module>, DocError>
+    ensures gives { Gives (λ modules. map module_view modules.items) result (map module_in (items_at (codes "modules") (view value.now))) (modules_rules version (view value.now)) }
 {
     let list = list_at_key(value, "modules", Pointer::Root, Pointer::Modules)?;
     check_limit(list.len() <= MOST_MODULES, Limit::Modules)?;
-    let modules = modules_of(alloc, list)?;
+    let modules = modules_of(alloc, version, list)?;
     Ok(modules)
 }

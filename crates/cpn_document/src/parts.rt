@@ -1,15 +1,15 @@
 //! The parts of a JSON value, and the rules of what stands at a key.
 
 ghost use Rattle.std.specs.Prelude.{◌≡◌, true, map, option_map};
+ghost use Rattle.std.specs.Option.{unwrap_or};
 ghost use Rattle.serde_json.specs.View.{view, members_view};
 ghost use Rattle.cpn_document.specs.Names.{texts_of as bytes_of};
-ghost use Rattle.cpn_document.specs.Parts.{is_one_of as is_among, are_among, text_in, text_at, optional_text_at, items_at, object_rules, text_in_rules, text_rules, name_rules, word_rules, list_rules, where_there};
-ghost use Rattle.cpn_document.specs.Document.{limit_rules};
+ghost use Rattle.cpn_document.specs.Parts.{is_one_of as is_among, are_among, text_in, text_at, optional_text_at, items_at, number_at, object_rules, text_in_rules, text_rules, name_rules, flat_name_rules, number_rules, word_rules, list_rules, where_there, limit_rules, unserved_rules};
 ghost use Rattle.cpn_document.specs.Answers.{Finds};
 
 use crate::pointers::Pointer;
 use crate::refusals::{Limit, Refused};
-use crate::texts::is_name;
+use crate::texts::{is_flat_name, is_name};
 use serde_json::{Map, Value};
 
 /// Whether a text is one of the texts.
@@ -50,7 +50,7 @@ pub(crate) fn check_keys(value: &Value, keys: &[&str], here: Pointer) -> Result<
 }
 
 /// That there are not too many of something.
-#[tactic(auto, unfolding(crate::specs::Document::limit_rules, crate::specs::Rules::first_broken))]
+#[tactic(auto, unfolding(crate::specs::Parts::limit_rules, crate::specs::Rules::first_broken))]
 pub(crate) fn check_limit(few: bool, kind: Limit) -> Result<(), Refused>
     ensures finds { Finds (λ _. true) result true (limit_rules few kind) }
 {
@@ -58,6 +58,18 @@ pub(crate) fn check_limit(few: bool, kind: Limit) -> Result<(), Refused>
         Ok(())
     } else {
         Err(Refused::Limit(kind))
+    }
+}
+
+/// That the list of what is not run yet is empty.
+#[tactic(auto, using(crate::proofs::SeenValues::length_seen), unfolding(crate::specs::Parts::unserved_rules, crate::specs::Rules::first_broken))]
+pub(crate) fn check_unserved(list: &[Value], here: Pointer) -> Result<(), Refused>
+    ensures finds { Finds (λ _. true) result true (unserved_rules here (map view list.now)) }
+{
+    if list.is_empty() {
+        Ok(())
+    } else {
+        Err(Refused::NotYet(here))
     }
 }
 
@@ -88,6 +100,17 @@ pub(crate) fn text_at_key<'v>(
             None => Err(Refused::Shape(here)),
         },
         None => Err(Refused::Shape(whole)),
+    }
+}
+
+/// The text at a key, or the empty one where none stands there.
+#[tactic(auto, unfolding(crate::specs::Parts::text_at))]
+pub(crate) fn text_or_empty<'v>(value: &'v Value, key: &str) -> &'v str
+    ensures exact { result.now ≡ text_at key.now (view value.now) }
+{
+    match value.get(key) {
+        Some(found) => found.as_str().unwrap_or(""),
+        None => "",
     }
 }
 
@@ -123,6 +146,51 @@ pub(crate) fn name_at_key<'v>(
         Ok(text)
     } else {
         Err(Refused::BadName(here))
+    }
+}
+
+/// The flattened name at a key.
+#[tactic(auto, using(crate::proofs::BrokenRules::in_order), unfolding(crate::specs::Parts::flat_name_rules))]
+pub(crate) fn flat_name_at_key<'v>(
+    value: &'v Value,
+    key: &str,
+    whole: Pointer,
+    here: Pointer,
+) -> Result<&'v str, Refused>
+    ensures finds { Finds (λ name. name.now) result (text_at key.now (view value.now)) (flat_name_rules key.now whole here (view value.now)) }
+{
+    let text = text_at_key(value, key, whole, here)?;
+    if is_flat_name(text) {
+        Ok(text)
+    } else {
+        Err(Refused::BadName(here))
+    }
+}
+
+/// The whole number at a key, one from the first to the last.
+#[tactic(auto, unfolding(crate::specs::Parts::number_rules, crate::specs::Parts::number_at, crate::specs::Rules::first_broken))]
+pub(crate) fn number_at_key(
+    value: &Value,
+    first: u64,
+    last: u64,
+    key: &str,
+    whole: Pointer,
+    here: Pointer,
+) -> Result<u64, Refused>
+    ensures finds { Finds (λ n. n) result (unwrap_or (number_at key.now (view value.now)) 0) (number_rules first last key.now whole here (view value.now)) }
+{
+    match value.get(key) {
+        Some(found) => match found.as_u64() {
+            Some(n) => {
+                if first <= n && n <= last {
+                    Ok(n)
+                } else {
+                    Err(Refused::BadNumber(here))
+                }
+            },
+            None => Err(Refused::BadNumber(here)),
+        },
+        None => Err(Refused::Shape(whole)),
     }
 }
 

@@ -25,8 +25,12 @@ pub enum Pointer {
     Fusion(usize, FusionPart),
     /// The list of monitors.
     Monitors,
+    /// A monitor, or a part of it.
+    Monitor(usize, MonitorPart),
     /// The list of phases.
     Phases,
+    /// A phase, or a part of it.
+    Phase(usize, PhasePart),
 }
 
 /// A part of a module.
@@ -145,4 +149,53 @@ pub enum MemberPart {
     Module,
     /// The name of its place.
     Place,
+}
+
+/// A part of a monitor.
+#[derive(Clone, Copy, Debug, PartialEq, Eq)]
+pub enum MonitorPart {
+    /// The monitor itself.
+    Whole,
+    /// Its name.
+    Name,
+    /// Its kind.
+    Kind,
+    /// The name of its transition.
+    Transition,
+    /// The name of its place.
+    Place,
+    /// The text of its inscription.
+    Expr,
+    /// Whether at least or at most so many tokens stop a run.
+    Op,
+    /// How many occurrences or tokens stop a run.
+    N,
+}
+
+/// A part of a phase.
+#[derive(Clone, Copy, Debug, PartialEq, Eq)]
+pub enum PhasePart {
+    /// The phase itself.
+    Whole,
+    /// From where it starts.
+    Start,
+    /// The list of its edits.
+    Edits,
+    /// An edit, or a part of it.
+    Edit(usize, EditPart),
+}
+
+/// A part of an edit.
+#[derive(Clone, Copy, Debug, PartialEq, Eq)]
+pub enum EditPart {
+    /// The edit itself.
+    Whole,
+    /// Its kind.
+    Kind,
+    /// The name of its transition.
+    Transition,
+    /// The name of its place.
+    Place,
+    /// The text of what it puts there.
+    Text,
 }

@@ -17,6 +17,8 @@ pub enum Limit {
     Modules,
     /// Arcs at one transition: 64, where an arc that leads both ways counts two.
     Arcs,
+    /// Phases: it may have 64.
+    Phases,
 }
 
 /// What a part of a document is refused for, by calls that take no memory.

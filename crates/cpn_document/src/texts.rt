@@ -2,7 +2,7 @@
 
 ghost use Rattle.std.specs.Prelude.{◌≡◌, option_map, string_bytes, IfOk};
 ghost use Rattle.std.specs.List.{list_all};
-ghost use Rattle.cpn_document.specs.Texts.{is_digit as digit, is_letter as letter, is_name_byte as name_byte, is_name as names};
+ghost use Rattle.cpn_document.specs.Texts.{is_digit as digit, is_letter as letter, is_name_byte as name_byte, is_name as names, is_flat_name as flat_names};
 
 use std::alloc::{AllocError, Global};
 
@@ -51,6 +51,14 @@ pub(crate) fn is_name(text: &str) -> bool
         && are_name_bytes(bytes)
         && bytes[bytes.len() - 1] != b' '
         && bytes.len() <= MOST_NAME_BYTES
+}
+
+/// Whether a text is a flattened name: names joined by `/`.
+#[tactic(auto, unfolding(crate::specs::Texts::is_flat_name))]
+pub(crate) fn is_flat_name(text: &str) -> bool
+    ensures exact { result ≡ flat_names text.now }
+{
+    text.split('/').all(|name| is_name(name))
 }
 
 /// A text of its own.

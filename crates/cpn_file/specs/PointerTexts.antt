@@ -19,8 +19,14 @@ use Rattle.cpn_document.specs.declared.pointers.FusionPart.{FusionPart}
 use Rattle.cpn_document.specs.declared.pointers.FusionPart.TheVariants as of_fusion
 use Rattle.cpn_document.specs.declared.pointers.MemberPart.{MemberPart}
 use Rattle.cpn_document.specs.declared.pointers.MemberPart.TheVariants as of_member
+use Rattle.cpn_document.specs.declared.pointers.MonitorPart.{MonitorPart}
+use Rattle.cpn_document.specs.declared.pointers.MonitorPart.TheVariants as of_monitor
+use Rattle.cpn_document.specs.declared.pointers.PhasePart.{PhasePart}
+use Rattle.cpn_document.specs.declared.pointers.PhasePart.TheVariants as of_phase
+use Rattle.cpn_document.specs.declared.pointers.EditPart.{EditPart}
+use Rattle.cpn_document.specs.declared.pointers.EditPart.TheVariants as of_edit
 
--- the pointers of the parts of a place, a transition, an arc, an assignment and a member behind that of the whole
+-- the pointers of the parts of a place, a transition, an arc, an assignment, a member, a monitor and an edit behind that of the whole
 abbrev pub place_text : PlacePart → List ℕ
 place_text of_place.Whole = []
 place_text of_place.Name = codes "/name"
@@ -51,6 +57,23 @@ member_text of_member.Whole = []
 member_text of_member.Module = codes "/module"
 member_text of_member.Place = codes "/place"
 
+abbrev pub monitor_text : MonitorPart → List ℕ
+monitor_text of_monitor.Whole = []
+monitor_text of_monitor.Name = codes "/name"
+monitor_text of_monitor.Kind = codes "/kind"
+monitor_text of_monitor.Transition = codes "/transition"
+monitor_text of_monitor.Place = codes "/place"
+monitor_text of_monitor.Expr = codes "/expr"
+monitor_text of_monitor.Op = codes "/op"
+monitor_text of_monitor.N = codes "/n"
+
+abbrev pub edit_text : EditPart → List ℕ
+edit_text of_edit.Whole = []
+edit_text of_edit.Kind = codes "/kind"
+edit_text of_edit.Transition = codes "/transition"
+edit_text of_edit.Place = codes "/place"
+edit_text of_edit.Text = codes "/text"
+
 -- an item of a list, by its number, and a part of it
 abbrev pub item_text : List ℕ → ℕ → List ℕ → List ℕ
 item_text list i part = list ++ (decimal i ++ part)
@@ -80,6 +103,12 @@ fusion_text of_fusion.Name = codes "/name"
 fusion_text of_fusion.Members = codes "/members"
 fusion_text (of_fusion.Member i part) = item_text (codes "/members/") i (member_text part)
 
+abbrev pub phase_text : PhasePart → List ℕ
+phase_text of_phase.Whole = []
+phase_text of_phase.Start = codes "/start"
+phase_text of_phase.Edits = codes "/edits"
+phase_text (of_phase.Edit i part) = item_text (codes "/edits/") i (edit_text part)
+
 -- A place of a document, as a JSON pointer; that of the whole document is empty.
 abbrev pub pointer_text : Pointer → List ℕ
 pointer_text at.Root = []
@@ -92,4 +121,6 @@ pointer_text (at.Module i part) = item_text (codes "/modules/") i (module_text p
 pointer_text at.Fusions = codes "/fusions"
 pointer_text (at.Fusion i part) = item_text (codes "/fusions/") i (fusion_text part)
 pointer_text at.Monitors = codes "/monitors"
+pointer_text (at.Monitor i part) = item_text (codes "/monitors/") i (monitor_text part)
 pointer_text at.Phases = codes "/phases"
+pointer_text (at.Phase i part) = item_text (codes "/phases/") i (phase_text part)

@@ -25,6 +25,7 @@ abbrev pub counted_name : DocumentLimit → List ℕ
 counted_name counts.Declarations = codes "declarations"
 counted_name counts.Modules = codes "modules"
 counted_name counts.Arcs = codes "arcs"
+counted_name counts.Phases = codes "phases"
 
 -- the line of a refusal of the form: it carries the place, where that is not the whole document, or what there are too many of
 abbrev pub form_line : FormRefusal → List ℕ

@@ -57,6 +57,7 @@ fn counted_name(kind: Limit) -> &'static str
         Limit::Declarations => "declarations",
         Limit::Modules => "modules",
         Limit::Arcs => "arcs",
+        Limit::Phases => "phases",
     }
 }
 

@@ -1,12 +1,12 @@
 //! Places in a document as JSON pointers.
 
 ghost use Rattle.std.specs.Prelude.{◌≡◌, IfOk, string_bytes};
-ghost use Rattle.cpn_file.specs.PointerTexts.{place_text as text_of_place, transition_text as text_of_transition, arc_text as text_of_arc, assignment_text as text_of_assignment, member_text as text_of_member, item_text as text_of_item, sub_text as text_of_sub, module_text as text_of_module, fusion_text as text_of_fusion, pointer_text as text_of_pointer};
+ghost use Rattle.cpn_file.specs.PointerTexts.{place_text as text_of_place, transition_text as text_of_transition, arc_text as text_of_arc, assignment_text as text_of_assignment, member_text as text_of_member, monitor_text as text_of_monitor, edit_text as text_of_edit, item_text as text_of_item, sub_text as text_of_sub, module_text as text_of_module, fusion_text as text_of_fusion, phase_text as text_of_phase, pointer_text as text_of_pointer};
 
 use cpn_core::Memory;
 use cpn_document::{
-    ArcPart, AssignmentPart, FusionPart, MemberPart, ModulePart, PlacePart, Pointer, SubPart,
-    TransitionPart,
+    ArcPart, AssignmentPart, EditPart, FusionPart, MemberPart, ModulePart, MonitorPart, PhasePart,
+    PlacePart, Pointer, SubPart, TransitionPart,
 };
 use std::alloc::Global;
 
@@ -62,6 +62,33 @@ fn member_text(part: MemberPart) -> &'static str
         MemberPart::Whole => "",
         MemberPart::Module => "/module",
         MemberPart::Place => "/place",
+    }
+}
+
+fn monitor_text(part: MonitorPart) -> &'static str
+    ensures text { result.now ≡ text_of_monitor part }
+{
+    match part {
+        MonitorPart::Whole => "",
+        MonitorPart::Name => "/name",
+        MonitorPart::Kind => "/kind",
+        MonitorPart::Transition => "/transition",
+        MonitorPart::Place => "/place",
+        MonitorPart::Expr => "/expr",
+        MonitorPart::Op => "/op",
+        MonitorPart::N => "/n",
+    }
+}
+
+fn edit_text(part: EditPart) -> &'static str
+    ensures text { result.now ≡ text_of_edit part }
+{
+    match part {
+        EditPart::Whole => "",
+        EditPart::Kind => "/kind",
+        EditPart::Transition => "/transition",
+        EditPart::Place => "/place",
+        EditPart::Text => "/text",
     }
 }
 
@@ -130,6 +157,17 @@ fn fusion_text(alloc: Global, part: FusionPart) -> Result<String, Memory>
     }
 }
 
+fn phase_text(alloc: Global, part: PhasePart) -> Result<String, Memory>
+    ensures text { IfOk result (λ text. string_bytes text ≡ text_of_phase part) }
+{
+    match part {
+        PhasePart::Whole => own(alloc, ""),
+        PhasePart::Start => own(alloc, "/start"),
+        PhasePart::Edits => own(alloc, "/edits"),
+        PhasePart::Edit(number, part) => item_text(alloc, "/edits/", number, edit_text(part)),
+    }
+}
+
 /// A place in a document as a JSON pointer.
 pub(crate) fn pointer_text(alloc: Global, place: Pointer) -> Result<String, Memory>
     ensures text { IfOk result (λ text. string_bytes text ≡ text_of_pointer place) }
@@ -151,6 +189,13 @@ pub(crate) fn pointer_text(alloc: Global, place: Pointer) -> Result<String, Memo
             item_text(alloc, "/fusions/", number, rest.as_str())
         }
         Pointer::Monitors => own(alloc, "/monitors"),
+        Pointer::Monitor(number, part) => {
+            item_text(alloc, "/monitors/", number, monitor_text(part))
+        }
         Pointer::Phases => own(alloc, "/phases"),
+        Pointer::Phase(number, part) => {
+            let rest = phase_text(alloc, part)?;
+            item_text(alloc, "/phases/", number, rest.as_str())
+        }
     }
 }

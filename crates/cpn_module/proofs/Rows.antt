@@ -56,7 +56,7 @@ the_other name = record {
 }
 
 abbrev two_modules : List RawArc → List RawAssignment → List RawFusion → RawDocument
-two_modules arcs assign fusions = record { declarations = []; top = codes "Top"; modules = the_top arcs assign ∷ the_other (codes "Low") ∷ []; fusions = fusions }
+two_modules arcs assign fusions = record { version = 1; declarations = []; top = codes "Top"; modules = the_top arcs assign ∷ the_other (codes "Low") ∷ []; fusions = fusions; monitors = []; phases = [] }
 
 abbrev arc_in : List RawArc
 arc_in = arc_of (codes "A") (codes "s") ways.ToTransition ∷ []
@@ -126,7 +126,7 @@ unfolding first_broken each_item each_sub each_arc each_member module_rules assi
 no_transition = not_there _ refl
 
 -- of two modules of one name, the first is named
-first_of_the_name : (hierarchy_in (record { declarations = []; top = codes "Low"; modules = the_other (codes "Side") ∷ the_other (codes "Low") ∷ the_other (codes "Low") ∷ []; fusions = [] })).top ≡ 1
+first_of_the_name : (hierarchy_in (record { version = 1; declarations = []; top = codes "Low"; modules = the_other (codes "Side") ∷ the_other (codes "Low") ∷ the_other (codes "Low") ∷ []; fusions = []; monitors = []; phases = [] })).top ≡ 1
 first_of_the_name = refl
 
 -- ---- a module that is part of itself, and that is not the top

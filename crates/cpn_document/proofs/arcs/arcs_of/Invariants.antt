@@ -10,5 +10,5 @@ use Rattle.cpn_document.proofs.arcs.arcs_of.Given as goal
 abbrev pub invariant-loop-number : goal.invariant-loop-number
 invariant-loop-number l = record {
   values : map arc_view l.arcs.items ++ map arc_in (map view (drop l.number l.list)) ≡ map arc_in (map view l.list);
-  rest : first_broken (each_item (arc_rules l.in_module) l.number (map view (drop l.number l.list))) ≡ first_broken (each_arc l.in_module (map view l.list));
+  rest : first_broken (each_item (arc_rules l.version l.in_module) l.number (map view (drop l.number l.list))) ≡ first_broken (each_arc l.version l.in_module (map view l.list));
 }

@@ -2,7 +2,8 @@
 use Rattle.std.proofs.Common.{◌≡◌, ◌++◌, drop, map}
 use Rattle.serde_json.specs.View.{view}
 use Rattle.cpn_document.specs.Rules.{first_broken}
-use Rattle.cpn_document.specs.Document.{each_named, each_fusion, fusion_in, fusion_rules}
+use Rattle.cpn_document.specs.Parts.{each_named}
+use Rattle.cpn_document.specs.Document.{each_fusion, fusion_in, fusion_rules}
 use Rattle.cpn_document.specs.Views.{fusion_view}
 use Rattle.cpn_document.proofs.fusions.fusions_of.Given as goal
 

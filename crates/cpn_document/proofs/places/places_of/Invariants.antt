@@ -2,7 +2,8 @@
 use Rattle.std.proofs.Common.{◌≡◌, ◌++◌, drop, map}
 use Rattle.serde_json.specs.View.{view}
 use Rattle.cpn_document.specs.Rules.{first_broken}
-use Rattle.cpn_document.specs.Document.{each_named, each_place, place_in, place_rules}
+use Rattle.cpn_document.specs.Parts.{each_named}
+use Rattle.cpn_document.specs.Document.{each_place, place_in, place_rules}
 use Rattle.cpn_document.specs.Views.{place_view}
 use Rattle.cpn_document.proofs.places.places_of.Given as goal
 

@@ -27,7 +27,7 @@ pub returns-clause-read : goal.returns-clause-read
 returns-clause-read c = read_as c.args.bytes.now (view c.in_ok-value.value) _ c.in_ok-value.ensures.json c.in_ok-document.ensures.gives.0 c.in_ok-document.ensures.gives.1
 
 pub returns-clause-few_arcs : goal.returns-clause-few_arcs
-returns-clause-few_arcs c = subst HaveFewArcs (sym c.in_ok-document.ensures.gives.0) (document_few (view c.in_ok-value.value) c.in_ok-document.ensures.gives.1)
+returns-clause-few_arcs c = subst HaveFewArcs (sym c.in_ok-document.ensures.gives.0) (document_few _ (view c.in_ok-value.value) c.in_ok-document.ensures.gives.1)
 
 pub returns-clause-one : goal.returns-clause-one
 returns-clause-one c = one_reading c.args.bytes.now

@@ -2,7 +2,8 @@
 use Rattle.std.proofs.Common.{◌≡◌, ◌++◌, drop, map}
 use Rattle.serde_json.specs.View.{view}
 use Rattle.cpn_document.specs.Rules.{first_broken}
-use Rattle.cpn_document.specs.Document.{each_named, each_sub, sub_in, sub_rules}
+use Rattle.cpn_document.specs.Parts.{each_named}
+use Rattle.cpn_document.specs.Document.{each_sub, sub_in, sub_rules}
 use Rattle.cpn_document.specs.Views.{sub_view}
 use Rattle.cpn_document.proofs.subs.subs_of.Given as goal
 

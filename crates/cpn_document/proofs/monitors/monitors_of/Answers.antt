@@ -1,0 +1,26 @@
+-- Each item is the next one of the list, and is read or refused with it.
+use Rattle.std.proofs.Common.{arith}
+use Rattle.std.proofs.lemmas.Result.{err_from_is_err_and}
+use Rattle.serde_json.specs.View.{view}
+use Rattle.cpn_document.specs.Monitors.{monitor_in}
+use Rattle.cpn_document.specs.Views.{monitor_view}
+use Rattle.cpn_document.specs.Answers.{refusal_of}
+use Rattle.cpn_document.proofs.ReadLists.{values_more, values_done, named_more, named_broken, named_done}
+use Rattle.cpn_document.proofs.monitors.monitors_of.Goals as goal
+
+pub returns-in_err-monitor_of : goal.returns-in_err-monitor_of
+returns-in_err-monitor_of c = record {
+  gives = (let p = err_from_is_err_and c.from_residual-in_err-monitor_of.result c.from_residual-in_err-monitor_of.ensures.1 in
+      rw (p.1, p.2) (named_broken view c.args.list.now c.loop-number.number c.index-list-number.result c.loop-number-test.true c.index-list-number.is _ c.loop-number.names _ (refusal_of c.in_err-monitor_of.field-0.0) c.loop-number.invariant.rest c.in_err-monitor_of.ensures.gives));
+}
+
+pub loop-number-preserved : goal.loop-number-preserved
+loop-number-preserved c = record {
+  values = rw c.in_ok-push.ensures.items (values_more view c.args.list.now c.loop-number.number c.index-list-number.result c.loop-number-test.true c.index-list-number.is monitor_in monitor_view c.loop-number.monitors.items c.in_ok-monitor_of.field-0 _ c.in_ok-monitor_of.ensures.gives.0 c.loop-number.invariant.values);
+  rest = named_more view c.args.list.now c.loop-number.number c.index-list-number.result c.loop-number-test.true c.index-list-number.is _ c.loop-number.names c.monitor_of.new.names _ c.in_ok-monitor_of.ensures.names c.in_ok-monitor_of.ensures.gives.1 c.loop-number.invariant.rest;
+}
+
+pub returns : goal.returns
+returns c = record {
+  gives = (values_done view c.args.list.now c.loop-number.number (omega arith) monitor_in monitor_view c.loop-number.monitors.items _ c.loop-number.invariant.values, named_done view c.args.list.now c.loop-number.number (omega arith) _ c.loop-number.names _ c.loop-number.invariant.rest);
+}

@@ -1,0 +1,27 @@
+-- Each item is the next one of the list, and is read or refused with it.
+use Rattle.std.proofs.Common.{arith}
+use Rattle.std.proofs.lemmas.Result.{err_from_is_err_and}
+use Rattle.serde_json.specs.View.{view}
+use Rattle.cpn_document.specs.Phases.{phase_in}
+use Rattle.cpn_document.specs.Views.{phase_view}
+use Rattle.cpn_document.specs.Answers.{refusal_of}
+use Rattle.cpn_document.proofs.ReadLists.{values_more, values_done}
+use Rattle.cpn_readings.proofs.BrokenRules.{item_kept, item_broken, items_kept}
+use Rattle.cpn_document.proofs.phases.phases_of.Goals as goal
+
+pub returns-in_err-phase_of : goal.returns-in_err-phase_of
+returns-in_err-phase_of c = record {
+  gives = (let p = err_from_is_err_and c.from_residual-in_err-phase_of.result c.from_residual-in_err-phase_of.ensures.1 in
+      rw (p.1, p.2) (item_broken view c.args.list.now c.loop-number.number c.index-list-number.result c.loop-number-test.true c.index-list-number.is _ _ (refusal_of c.in_err-phase_of.field-0.0) c.loop-number.invariant.rest c.in_err-phase_of.ensures.gives));
+}
+
+pub loop-number-preserved : goal.loop-number-preserved
+loop-number-preserved c = record {
+  values = rw c.in_ok-push.ensures.items (values_more view c.args.list.now c.loop-number.number c.index-list-number.result c.loop-number-test.true c.index-list-number.is phase_in phase_view c.loop-number.phases.items c.in_ok-phase_of.field-0 _ c.in_ok-phase_of.ensures.gives.0 c.loop-number.invariant.values);
+  rest = item_kept view c.args.list.now c.loop-number.number c.index-list-number.result c.loop-number-test.true c.index-list-number.is _ _ c.in_ok-phase_of.ensures.gives.1 c.loop-number.invariant.rest;
+}
+
+pub returns : goal.returns
+returns c = record {
+  gives = (values_done view c.args.list.now c.loop-number.number (omega arith) phase_in phase_view c.loop-number.phases.items _ c.loop-number.invariant.values, items_kept view c.args.list.now c.loop-number.number (omega arith) _ _ c.loop-number.invariant.rest);
+}
