@@ -2,6 +2,7 @@ mod ViewedLists
 pub mod ChangedPlaces
 pub mod DividedLists
 pub mod RisingLists
+pub mod DistinctLists
 pub mod OneEnabledList
 pub mod OrderedLists
 pub mod InsertPlaces
@@ -33,6 +34,7 @@ pub mod EarlierCalls
 mod FirstFault
 pub mod SmallColours
 mod BindableRows
+mod NameRows
 mod Patterns
 pub mod TokenCounts
 pub mod OwnVariables

@@ -18,5 +18,6 @@ pub mod Legal
 pub mod Enabled
 pub mod Sound
 pub mod Named
+pub mod DistinctNames
 pub mod Times
 pub mod Bounds
