@@ -5,4 +5,5 @@ mod ReadLists
 mod ArcCounts
 mod OneReading
 mod FewArcs
+mod WellNamed
 mod Rows

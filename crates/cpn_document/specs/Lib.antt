@@ -4,6 +4,7 @@ pub mod Texts
 pub mod Parts
 pub mod Document
 pub mod FewArcs
+pub mod WellNamed
 pub mod Json
 pub mod Reading
 pub mod Names
