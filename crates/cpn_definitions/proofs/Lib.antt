@@ -2,6 +2,7 @@ mod ViewedLists
 pub mod ChangedPlaces
 pub mod DividedLists
 pub mod RisingLists
+pub mod DistinctLists
 pub mod OneEnabledList
 mod EnabledTransitions
 pub mod OrderedLists
@@ -35,6 +36,7 @@ pub mod EarlierCalls
 mod FirstFault
 pub mod SmallColours
 mod BindableRows
+mod NameRows
 mod Patterns
 pub mod TokenCounts
 pub mod OwnVariables

@@ -18,6 +18,7 @@ pub mod Legal
 pub mod Enabled
 pub mod Sound
 pub mod Named
+pub mod DistinctNames
 pub mod Times
 pub mod Bounds
 pub mod DistinctNames

@@ -13,11 +13,11 @@ use Rattle.cpn_document.specs.FewArcs.{HasFewArcs, HaveFewArcs}
 use Rattle.cpn_document.specs.declared.refusals.Limit.{Limit}
 use Rattle.cpn_document.proofs.BrokenRules.{broken_append}
 
-none_parts : (first second : Option FormRefusal) → option_or first second ≡ None → (first ≡ None) × (second ≡ None)
+pub none_parts : (first second : Option FormRefusal) → option_or first second ≡ None → (first ≡ None) × (second ≡ None)
 none_parts None second h = (refl, h)
 none_parts (Some refusal) second h = cc
 
-limit_kept : (few : Bool) (kind : Limit) → first_broken (limit_rules few kind) ≡ None → few ≡ true
+pub limit_kept : (few : Bool) (kind : Limit) → first_broken (limit_rules few kind) ≡ None → few ≡ true
 unfolding limit_rules first_broken
 limit_kept true kind h = refl
 limit_kept false kind h = cc

@@ -5,6 +5,7 @@ mod ReadLists
 mod ArcCounts
 mod OneReading
 mod FewArcs
+mod WellNamed
 mod Rows
 mod MonitorRows
 mod PhaseRows

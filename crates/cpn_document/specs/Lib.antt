@@ -6,6 +6,7 @@ pub mod Monitors
 pub mod Phases
 pub mod Document
 pub mod FewArcs
+pub mod WellNamed
 pub mod Json
 pub mod Reading
 pub mod Names

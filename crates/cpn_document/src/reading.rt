@@ -5,6 +5,7 @@ ghost use Rattle.cpn_document.specs.Document.{RawDocument};
 ghost use Rattle.cpn_document.specs.FewArcs.{HaveFewArcs};
 ghost use Rattle.cpn_document.specs.Reading.{Reading, read, refused, IsDocument};
 ghost use Rattle.cpn_document.specs.Views.{document_view};
+ghost use Rattle.cpn_document.specs.WellNamed.{AreWellNamed, HasFewDeclarations};
 ghost use Rattle.cpn_document.specs.Answers.{refusal_of};
 
 use crate::document::Document;
@@ -29,7 +30,11 @@ pub fn read_document(alloc: Global, bytes: &[u8]) -> Result<Document, DocError>
     ensures refused { IfErr result (λ e. IfSome (refusal_of e) (λ refusal. IsDocument bytes.now (refused refusal))) }
     // No transition of a document has more than 64 arcs.
     ensures few_arcs { IfOk result (λ document. HaveFewArcs (document_view document)) }
-    // What bytes are read as is one thing: so a document that keeps the rules is never refused, and one that breaks a rule is never read.
+    // The things of each list of a module have names, no two of them the same.
+    ensures well_named { IfOk result (λ document. AreWellNamed (document_view document)) }
+    // A document has at most 1,024 declarations.
+    ensures few_declarations { IfOk result (λ document. HasFewDeclarations (document_view document)) }
+    // Bytes are read as at most one thing: so a document that keeps the rules is never refused, and one that breaks a rule is never read.
     ensures one { (first second : Reading RawDocument) → IsDocument bytes.now first → IsDocument bytes.now second → first ≡ second }
 {
     let value = value_of(alloc, bytes)?;

@@ -27,7 +27,7 @@ module _ (loaded : (d : RawDocument) → HasOne (loaded_in d)) (bytes : List ℕ
   of_one (form.read document) x y h k = loaded document x y h k
   of_one (form.refused refusal) x y h k = h ∙ sym k
 
-  -- where documents have one reading, and bytes are one document, they have one reading
+  -- where documents have at most one reading, and bytes are at most one document, they have at most one reading
   pub one_reading : HasOne (IsReadAs bytes)
   one_reading x y h k = of_one k.0 x y (subst (λ v. IsReadingOf v x) (one h.0 k.0 h.1 k.1) h.2) k.2
 

@@ -3,6 +3,5 @@ pub mod PointerTexts
 pub mod Reading
 pub mod TextLines
 pub mod Refusals
-pub mod Served
 pub mod Reads
 pub mod Answers

@@ -1,8 +1,7 @@
 -- Readings: what a document is read as: a value, or the first refusal. Source: own choice.
 use Rattle.cpn_readings.specs.Reading as readings
 pub use Rattle.cpn_readings.specs.Reading.{read, refused}
-use Rattle.cpn_document.specs.Refusals.{FormRefusal, not_yet}
-use Rattle.cpn_document.specs.declared.pointers.Pointer.TheVariants.{Root}
+use Rattle.cpn_document.specs.Refusals.{FormRefusal}
 use Rattle.cpn_module_nets.specs.Reading.{NetRefusal}
 use Rattle.cpn_flat.specs.Refusals.{FlatRefusal}
 
@@ -16,7 +15,3 @@ pub data Refusal : Type 0 where
 -- A reading: a value, or such a refusal.
 abbrev pub Reading : Type 0 → Type 0
 Reading = readings.Reading Refusal
-
--- Whatever is not served yet is refused as such, at the whole document.
-abbrev pub not_served : Refusal
-not_served = of_form (not_yet Root)

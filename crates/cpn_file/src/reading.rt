@@ -1,46 +1,34 @@
 //! From the bytes of a document to its net.
 
 ghost use Rattle.std.specs.Prelude.{◌≡◌, ℕ, List, IfOk, IfErr, IfSome};
-ghost use Rattle.cpn_declared.specs.DeclsViews.{decls_view};
+ghost use Rattle.cpn_definitions.specs.DistinctNames.{HasDistinctNames, HasWellSpelledNames};
 ghost use Rattle.cpn_document.specs.FewArcs.{HaveFewArcs};
 ghost use Rattle.cpn_document.specs.Views.{document_view};
+ghost use Rattle.cpn_document.specs.WellNamed.{AreWellNamed, HasFewDeclarations};
 ghost use Rattle.cpn_flat.specs.Flat.{PlainLoaded};
 ghost use Rattle.cpn_flat.specs.Views.{loaded_view};
 ghost use Rattle.cpn_flat.specs.WellLoaded.{IsWellLoaded};
 ghost use Rattle.cpn_file.specs.Reading.{Reading, read, refused};
 ghost use Rattle.cpn_file.specs.Reads.{loaded_in, IsReadAs};
-ghost use Rattle.cpn_file.specs.Served.{is_served as served};
 ghost use Rattle.cpn_file.specs.Answers.{Loads, LoadsBy, load_refusal_of};
 
 use crate::refusals::LoadError;
-use cpn_document::{DocError, Document, Pointer, read_document};
+use cpn_document::{Document, read_document};
 use cpn_flat::{Loaded, flatten, one_flat_net};
 use cpn_module_nets::{accept, one_acceptance};
-use cpn_types::Decls;
 use std::alloc::Global;
 
-/// How many numbers of 32 bits there are.
-const NUMBERS: usize = 4_294_967_296;
-
-/// Whether each variable has a number of 32 bits.
-#[tactic(auto, unfolding(crate::specs::Served::is_served))]
-fn is_served(decls: &Decls) -> bool
-    ensures exact { result ≡ served (decls_view decls.now) }
-{
-    decls.counts().variables < NUMBERS
-}
-
 /// What a document is read as: what is accepted of it, then its flat net.
-#[tactic(auto, unfolding(crate::specs::Served::is_served))]
 fn loaded_of(alloc: Global, document: &Document) -> Result<Loaded, LoadError>
     requires few_arcs { HaveFewArcs (document_view document.now) }
+    requires well_named { AreWellNamed (document_view document.now) }
+    requires few_declarations { HasFewDeclarations (document_view document.now) }
     ensures reads { LoadsBy loaded_view result (loaded_in (document_view document.now)) }
     ensures well_loaded { IfOk result (λ loaded. IsWellLoaded (loaded_view loaded)) }
+    ensures distinct { IfOk result (λ loaded. HasDistinctNames (loaded_view loaded).net) }
+    ensures well_spelled { IfOk result (λ loaded. HasWellSpelledNames (loaded_view loaded).net) }
 {
     let accepted = accept(alloc, document)?;
-    if !is_served(&accepted.decls) {
-        return Err(LoadError::Document(DocError::NotYet(Pointer::Root)));
-    }
     let loaded = flatten(alloc, document, accepted)?;
     Ok(loaded)
 }
@@ -54,7 +42,7 @@ fn loaded_of(alloc: Global, document: &Document) -> Result<Loaded, LoadError>
 ///
 /// # Errors
 ///
-/// - [`LoadError::Document`]: the bytes are no document, or one that is not served yet.
+/// - [`LoadError::Document`]: the bytes are no document, or one with monitors or phases, which are not served yet.
 /// - [`LoadError::Inscription`]: a text, or the variables of a transition, are not accepted.
 /// - [`LoadError::Module`]: the modules make no hierarchy.
 /// - [`LoadError::Flat`]: there are too many instances, or an initial marking has a fault or differs from another.
@@ -62,8 +50,12 @@ fn loaded_of(alloc: Global, document: &Document) -> Result<Loaded, LoadError>
 pub fn load(alloc: Global, bytes: &[u8]) -> Result<Loaded, LoadError>
     ensures reads { IfOk result (λ loaded. IsReadAs bytes.now (read (loaded_view loaded))) }
     ensures well_loaded { IfOk result (λ loaded. IsWellLoaded (loaded_view loaded)) }
+    // No two places, transitions or variables of the net have one name, nor two constants or constructors of a colour set.
+    ensures distinct { IfOk result (λ loaded. HasDistinctNames (loaded_view loaded).net) }
+    // Its names are paths and words.
+    ensures well_spelled { IfOk result (λ loaded. HasWellSpelledNames (loaded_view loaded).net) }
     ensures refuses { IfErr result (λ e. IfSome (load_refusal_of e) (λ refusal. IsReadAs bytes.now (refused refusal))) }
-    // Whatever the answer, the bytes have one reading.
+    // Whatever the answer, the bytes have at most one reading.
     ensures one_reading { (reading other : Reading PlainLoaded) → IsReadAs bytes.now reading → IsReadAs bytes.now other → reading ≡ other }
     // Whatever the bytes are read as is answered, but for want of memory.
     ensures complete { (reading : Reading PlainLoaded) → IsReadAs bytes.now reading → Loads loaded_view result reading }

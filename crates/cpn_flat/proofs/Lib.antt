@@ -12,6 +12,10 @@ mod JoinedColours
 mod SoundFlatNets
 mod ItemsThere
 mod NamedFlatNets
+mod ApartInstances
+mod JoinedNames
+mod InstancePaths
+pub mod DistinctFlatNames
 mod FlatMeanings
 mod FlatConditions
 mod NetPlaces

@@ -1,4 +1,4 @@
--- What is accepted of a document means one thing.
+-- What is accepted of a document means at most one thing.
 use Rattle.std.proofs.Common.{◌≡◌, ℕ, zero, suc, ◌+◌, ◌<◌, ◌≤◌, List, [], ◌∷◌, ◌++◌, length, get_or, refl, sym, ap, ◌∙◌, subst, arith, inl, inr}
 use Rattle.std.specs.Prelude.{Option, Some, None, All, Contains}
 use Rattle.std.specs.List.{AllByRecursion}
@@ -101,7 +101,7 @@ module _ (h : PlainHierarchy) (one_unfolding : (is is' : List PlainInstance) →
   unfolded_one x y (not_unfolded r u) (not_unfolded s u') = ap (λ q. refused (too_many q)) (one_refusal r s u u')
 
 module _ (d : RawDocument) (a : PlainAccepted) where
-  -- what is accepted of a document means one thing, where its hierarchy is unfolded to one thing
+  -- what is accepted of a document means at most one thing, where its hierarchy is unfolded to at most one
   pub flat_one : HasOne (IsUnfoldedAs a.hierarchy) → HasOne (flat_in d a)
   unfolding flat_in
   flat_one unfolds_one =

@@ -145,7 +145,7 @@ pub fn flatten(alloc: Global, document: &Document, accepted: Accepted) -> Result
     requires few_variables { length (decls_view accepted.decls).variables < 2 ^ 32 }
     // What is answered is what is meant: the flat net and its initial marking, or the first refusal.
     ensures reads { GivesBy loaded_view result (flat_in (document_view document.now) (accepted_view accepted)) }
-    // What is meant is one thing.
+    // At most one thing is meant.
     ensures one { HasOne (flat_in (document_view document.now) (accepted_view accepted)) }
     // The net is sound, and its initial marking is one of its places.
     ensures well_loaded { IfOk result (λ loaded. IsWellLoaded (loaded_view loaded)) }
@@ -171,7 +171,7 @@ pub fn flatten(alloc: Global, document: &Document, accepted: Accepted) -> Result
     Ok(Loaded { net, initial })
 }
 
-/// The law that what is accepted of a document means one thing. A call does nothing: it is there for what it ensures.
+/// The law that what is accepted of a document means at most one thing. A call does nothing: it is there for what it ensures.
 pub fn one_flat_net()
     ensures one { (d : RawDocument) (accepted : PlainAccepted) → HasOne (flat_in d accepted) }
 {

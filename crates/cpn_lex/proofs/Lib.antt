@@ -7,3 +7,4 @@ mod OneLexing
 mod Rows
 mod ByteRuns
 mod FirstBytes
+pub mod TokenCounts

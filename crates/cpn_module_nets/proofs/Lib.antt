@@ -22,4 +22,6 @@ mod KeptRules
 mod JoinedColours
 mod WellNets
 mod WellAccepted
+mod DeclaredNames
+pub mod AcceptedNames
 mod OneTree

@@ -1,4 +1,4 @@
--- A document is accepted as one thing: each step of its reading has at most one outcome.
+-- A document is accepted as at most one thing: each step of its reading has at most one outcome.
 use Rattle.std.proofs.Common.{◌≡◌, ◌<◌, inl, inr, arith, ℕ, suc, List, [], ◌∷◌, refl, sym, ap, ◌∙◌, subst}
 use Rattle.std.specs.Prelude.{Contains}
 use Rattle.std.specs.Ordering.{nat_cmp}
@@ -87,7 +87,7 @@ nets_one : (ds : Declared) (places : List (List Coloured)) (h : PlainHierarchy) 
 unfolding nets_so
 nets_one ds places h trees = each_so_one (λ m. net_so ds (places_at places m) m (structure_at h m)) (λ m. net_one ds (places_at places m) m (structure_at h m)) 0 trees
 
--- What a document is accepted as is one thing.
+-- A document is accepted as at most one thing.
 pub accepted_one : (d : RawDocument) → HasOne (accepted_in d)
 unfolding accepted_in
 accepted_one d =

@@ -32,7 +32,7 @@ use Rattle.cpn_module_nets.proofs.WellNets.{IsNetOf, net_is}
 
 -- ---- a list whose items are read one after another
 
-so_long : {A B : Type 0} (Reads : ℕ → A → Reading B → Type 0) (i : ℕ) (xs : List A) (ys : List B) → each_so Reads i xs (read ys) → length ys ≡ length xs
+pub so_long : {A B : Type 0} (Reads : ℕ → A → Reading B → Type 0) (i : ℕ) (xs : List A) (ys : List B) → each_so Reads i xs (read ys) → length ys ≡ length xs
 unfolding each_so
 so_long Reads i [] ys h = ap length (same_read ys [] h)
 so_long Reads i (x ∷ xs) ys h =
@@ -41,7 +41,7 @@ so_long Reads i (x ∷ xs) ys h =
     ap length (same_read ys (first.0 ∷ rest.0) rest.2) ∙ ap suc (so_long Reads (suc i) xs rest.0 rest.1)
 
 -- what the item at a number is read as
-so_at : {A B : Type 0} (Reads : ℕ → A → Reading B → Type 0) (i : ℕ) (xs : List A) (ys : List B) (k : ℕ) (d : A) (e : B) → each_so Reads i xs (read ys) → k < length xs → Reads (i + k) (slice_index_or xs k d) (read (slice_index_or ys k e))
+pub so_at : {A B : Type 0} (Reads : ℕ → A → Reading B → Type 0) (i : ℕ) (xs : List A) (ys : List B) (k : ℕ) (d : A) (e : B) → each_so Reads i xs (read ys) → k < length xs → Reads (i + k) (slice_index_or xs k d) (read (slice_index_or ys k e))
 unfolding each_so
 so_at Reads i [] ys k d e h lt = absurd (omega arith)
 so_at Reads i (x ∷ xs) ys zero d e h lt =
@@ -56,7 +56,7 @@ so_at Reads i (x ∷ xs) ys (suc k) d e h lt =
 
 -- ---- the document
 
-checked_read : {R S A : Type 0} (kind : R → S) (Reads : readings.Reading R A → Type 0) (x : A) → refused_by kind Reads (readings.read x) → Reads (readings.read x)
+pub checked_read : {R S A : Type 0} (kind : R → S) (Reads : readings.Reading R A → Type 0) (x : A) → refused_by kind Reads (readings.read x) → Reads (readings.read x)
 checked_read {R} {S} {A} kind Reads x h = by h.0 h.1 h.2
   where
     by : (reading : readings.Reading R A) → Reads reading → readings.read x ≡ readings.refused_as kind reading → Reads (readings.read x)

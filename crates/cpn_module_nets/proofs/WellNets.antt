@@ -29,14 +29,14 @@ use Rattle.cpn_module_nets.proofs.SoundNets.{transitions_sound}
 
 -- ---- the parts of what is read
 
-record TransitionsRead (ds : Declared) (places : List Coloured) (m : ℕ) (s : PlainStructure) (trees : ModuleTrees) (ts : List PlainTransition) : Type 0 where
-  bares : List PlainTransition
-  bares_are : each_from (bare_transition ds m) 0 trees.transitions ≡ read bares
-  arcs : List Sides
-  arcs_are : each_from (arc_of ds places m s) 0 trees.arcs ≡ read arcs
-  completed : EachIs IsCompleted (joined_from 0 bares arcs) ts
-  told : Bool
-  bindable : AreBindable (net_from ds places ts) m 0 ts (read told)
+pub record TransitionsRead (ds : Declared) (places : List Coloured) (m : ℕ) (s : PlainStructure) (trees : ModuleTrees) (ts : List PlainTransition) : Type 0 where
+  pub bares : List PlainTransition
+  pub bares_are : each_from (bare_transition ds m) 0 trees.transitions ≡ read bares
+  pub arcs : List Sides
+  pub arcs_are : each_from (arc_of ds places m s) 0 trees.arcs ≡ read arcs
+  pub completed : EachIs IsCompleted (joined_from 0 bares arcs) ts
+  pub told : Bool
+  pub bindable : AreBindable (net_from ds places ts) m 0 ts (read told)
 
 transitions_parts : (ds : Declared) (places : List Coloured) (m : ℕ) (s : PlainStructure) (trees : ModuleTrees) (ts : List PlainTransition) → transitions_so ds places m s trees (read ts) → TransitionsRead ds places m s trees ts
 unfolding transitions_so
@@ -49,14 +49,14 @@ transitions_parts ds places m s trees ts h =
     subst (TransitionsRead ds places m s trees) (sym (same_read ts listed.0 bindable.2))
     (record { bares = bares.0; bares_are = sym bares.1; arcs = arcs.0; arcs_are = sym arcs.1; completed = completed; told = bindable.0; bindable = bindable.1 })
 
-record NetRead (ds : Declared) (places : List Coloured) (m : ℕ) (s : PlainStructure) (trees : ModuleTrees) (net : PlainModuleNet) : Type 0 where
-  initials : List (Option Initial)
-  initials_are : each_from (initial_of ds places m) 0 trees.places ≡ read initials
-  ts : List PlainTransition
-  parts : TransitionsRead ds places m s trees ts
-  is : net ≡ record { places = places; initials = initials; transitions = ts }
+pub record NetRead (ds : Declared) (places : List Coloured) (m : ℕ) (s : PlainStructure) (trees : ModuleTrees) (net : PlainModuleNet) : Type 0 where
+  pub initials : List (Option Initial)
+  pub initials_are : each_from (initial_of ds places m) 0 trees.places ≡ read initials
+  pub ts : List PlainTransition
+  pub parts : TransitionsRead ds places m s trees ts
+  pub is : net ≡ record { places = places; initials = initials; transitions = ts }
 
-net_parts : (ds : Declared) (places : List Coloured) (m : ℕ) (s : PlainStructure) (trees : ModuleTrees) (net : PlainModuleNet) → net_so ds places m s trees (read net) → NetRead ds places m s trees net
+pub net_parts : (ds : Declared) (places : List Coloured) (m : ℕ) (s : PlainStructure) (trees : ModuleTrees) (net : PlainModuleNet) → net_so ds places m s trees (read net) → NetRead ds places m s trees net
 unfolding net_so
 net_parts ds places m s trees net h =
     let initials = step_parts (just (each_from (initial_of ds places m) 0 trees.places)) _ net h in

@@ -54,7 +54,7 @@ pub fn accept(alloc: Global, document: &Document) -> Result<Accepted, NetError>
     requires few_arcs { HaveFewArcs (document_view document.now) }
     // What is answered is what the document is accepted as, or the refusal of the first rule that is broken.
     ensures reads { LoadsBy accepted_view result (accepted_in (document_view document.now)) }
-    // What a document is accepted as is one thing.
+    // A document is accepted as at most one thing.
     ensures one { HasOne (accepted_in (document_view document.now)) }
     // The net of each module is sound, and the nets go together.
     ensures well { IfOk result (λ accepted. IsWellAccepted (accepted_view accepted)) }
@@ -62,7 +62,7 @@ pub fn accept(alloc: Global, document: &Document) -> Result<Accepted, NetError>
     accepted_of(alloc, document)
 }
 
-/// The law that a document is accepted as one thing. A call does nothing: it is there for what it ensures.
+/// The law that a document is accepted as at most one thing. A call does nothing: it is there for what it ensures.
 pub fn one_acceptance()
     ensures one { (d : RawDocument) → HasOne (accepted_in d) }
 {}

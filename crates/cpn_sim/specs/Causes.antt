@@ -35,11 +35,11 @@ HasCause too_long words left before now = GiveOptions words × IfSome left (λ b
 HasCause (bad_document refusal) words left before now =
     GiveOptions words × IfSome left (λ bytes. (length bytes ≤ most_bytes) × IsReadAs bytes (refused refusal))
 
--- the bytes have one reading
+-- the bytes have at most one reading
 abbrev pub HaveOneReading : List ℕ → Type 0
 HaveOneReading bytes = (reading other : Reading PlainLoaded) → IsReadAs bytes reading → IsReadAs bytes other → reading ≡ other
 
--- a document that is refused has been read, and has one reading; of the other refusals nothing is said
+-- a document that is refused has been read, and has no other reading; of the other refusals nothing is said
 abbrev pub IsReadOnce : PlainRefusal → Option (List ℕ) → Type 0
 IsReadOnce bad_words left = Unit {0}
 IsReadOnce read_fault left = Unit {0}

@@ -40,7 +40,7 @@ pub fn answer<S: Source>(alloc: Global, words: &[String], source: &mut S) -> Res
     ensures options { OnOk result (GiveOptions (map string_bytes words.now)) }
     ensures one_worker { OnOk result ((options : PlainOptions) → options_from (map string_bytes words.now) ≡ Some options → options.workers ≡ 1) }
     ensures cause { IfErr result (λ refusal. MatchOption (refusal_view refusal) (refusal ≡ Refusal.Memory) (λ plain. HasCause plain (map string_bytes words.now) (S.left source.old) (S.faults source.old) (S.faults source.new))) }
-    // What was read has one reading.
+    // What was read has at most one reading.
     ensures one_reading { OnOk result (IfSome (S.left source.old) HaveOneReading) }
     ensures read_once { IfErr result (λ refusal. IfSome (refusal_view refusal) (λ plain. IsReadOnce plain (S.left source.old))) }
 {

@@ -25,3 +25,4 @@ mod Shapes
 mod Parses
 mod Guards
 mod Delays
+pub mod DeclaredNames

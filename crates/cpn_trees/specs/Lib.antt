@@ -1,6 +1,7 @@
 -- the trees of texts
 pub mod Trees
 pub mod DeclTrees
+pub mod DeclaredNames
 pub mod Depth
 pub mod Shapes
 -- the trees of the program as plain ones

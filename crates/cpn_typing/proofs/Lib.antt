@@ -16,6 +16,7 @@ mod BothSides
 mod NamesDeclared
 mod SetsDeclared
 pub mod Consistent
+pub mod DistinctDeclared
 pub mod MeaningsInNets
 mod DeclarationRows
 mod FunctionRows

@@ -2,8 +2,10 @@
 use Rattle.std.proofs.Common.{subst, sym}
 use Rattle.serde_json.specs.View.{view}
 use Rattle.cpn_document.specs.FewArcs.{HaveFewArcs}
+use Rattle.cpn_document.specs.WellNamed.{AreWellNamed, HasFewDeclarations}
 use Rattle.cpn_document.specs.Answers.{refusal_of}
 use Rattle.cpn_document.proofs.FewArcs.{document_few}
+use Rattle.cpn_document.proofs.WellNamed.{document_named, document_declares_few}
 use Rattle.cpn_document.proofs.OneReading.{one_reading, read_as, refused_by_rules, refused_as_none, refused_at_exit}
 use Rattle.cpn_document.proofs.reading.read_document.Goals as goal
 
@@ -28,6 +30,12 @@ returns-clause-read c = read_as c.args.bytes.now (view c.in_ok-value.value) _ c.
 
 pub returns-clause-few_arcs : goal.returns-clause-few_arcs
 returns-clause-few_arcs c = subst HaveFewArcs (sym c.in_ok-document.ensures.gives.0) (document_few _ (view c.in_ok-value.value) c.in_ok-document.ensures.gives.1)
+
+pub returns-clause-well_named : goal.returns-clause-well_named
+returns-clause-well_named c = subst AreWellNamed (sym c.in_ok-document.ensures.gives.0) (document_named (view c.in_ok-value.value) c.in_ok-document.ensures.gives.1)
+
+pub returns-clause-few_declarations : goal.returns-clause-few_declarations
+returns-clause-few_declarations c = subst HasFewDeclarations (sym c.in_ok-document.ensures.gives.0) (document_declares_few (view c.in_ok-value.value) c.in_ok-document.ensures.gives.1)
 
 pub returns-clause-one : goal.returns-clause-one
 returns-clause-one c = one_reading c.args.bytes.now

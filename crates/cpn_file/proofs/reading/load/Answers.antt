@@ -1,4 +1,4 @@
--- Bytes have one reading, and it is the one that is answered.
+-- Bytes have at most one reading, and it is the one that is answered.
 use Rattle.std.proofs.lemmas.Result.{err_from_is_err_and}
 use Rattle.cpn_document.specs.Reading as form
 use Rattle.cpn_document.specs.Views.{document_view}

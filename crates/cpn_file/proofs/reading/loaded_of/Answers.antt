@@ -1,13 +1,11 @@
 -- Each step of the reading is as the program takes it.
-use Rattle.std.proofs.Common.{◌∙◌, sym}
 use Rattle.std.proofs.lemmas.Result.{err_from_is_err_and}
 use Rattle.cpn_document.specs.Views.{document_view}
 use Rattle.cpn_module_nets.specs.Answers.{net_refusal_of}
 use Rattle.cpn_module_nets.specs.Views.{accepted_view}
 use Rattle.cpn_flat.specs.Answers.{refusal_of}
 use Rattle.cpn_flat.specs.Views.{loaded_view}
-use Rattle.cpn_declared.specs.DeclsViews.{decls_view}
-use Rattle.cpn_file.proofs.LoadedDocuments.{few_served, not_accepted, unserved, not_flat, is_loaded}
+use Rattle.cpn_file.proofs.LoadedDocuments.{few_declared, names_loaded, not_accepted, not_flat, is_loaded}
 use Rattle.cpn_file.proofs.reading.loaded_of.Goals as goal
 
 pub returns-in_err-accepted-clause-reads : goal.returns-in_err-accepted-clause-reads
@@ -15,14 +13,22 @@ returns-in_err-accepted-clause-reads c =
     let p = err_from_is_err_and c.from_residual.result c.from_residual.ensures.1 in
     rw (p.1, p.2) (not_accepted (document_view c.args.document.now) (net_refusal_of c.in_err-accepted.field-0.0) c.in_err-accepted.ensures.reads)
 
-pub returns-then-not-is_served-clause-reads : goal.returns-then-not-is_served-clause-reads
-returns-then-not-is_served-clause-reads c = unserved (document_view c.args.document.now) (accepted_view c.in_ok-accepted.accepted) c.in_ok-accepted.ensures.reads (sym c.is_served.ensures.exact ∙ c.if-not-is_served.true)
+pub flatten-requires-clause-few_variables : goal.flatten-requires-clause-few_variables
+flatten-requires-clause-few_variables c = few_declared (document_view c.args.document.now) (accepted_view c.in_ok-accepted.accepted) c.requires.few_declarations c.in_ok-accepted.ensures.reads
 
 pub returns-in_err-loaded-clause-reads : goal.returns-in_err-loaded-clause-reads
 returns-in_err-loaded-clause-reads c =
     let p = err_from_is_err_and c.from_residual-in_err-loaded.result c.from_residual-in_err-loaded.ensures.1 in
-    rw (p.1, p.2) (not_flat (document_view c.args.document.now) (accepted_view c.in_ok-accepted.accepted) c.in_ok-accepted.ensures.reads (sym c.is_served.ensures.exact ∙ c.if-not-is_served.false) (refusal_of c.in_err-loaded.field-0.0) c.in_err-loaded.ensures.reads)
+    rw (p.1, p.2) (not_flat (document_view c.args.document.now) (accepted_view c.in_ok-accepted.accepted) c.in_ok-accepted.ensures.reads (refusal_of c.in_err-loaded.field-0.0) c.in_err-loaded.ensures.reads)
 
 pub returns-clause-reads : goal.returns-clause-reads
 returns-clause-reads c =
-    is_loaded (document_view c.args.document.now) (accepted_view c.in_ok-accepted.accepted) c.in_ok-accepted.ensures.reads (sym c.is_served.ensures.exact ∙ c.if-not-is_served.false) (loaded_view c.in_ok-loaded.loaded) c.in_ok-loaded.ensures.reads
+    is_loaded (document_view c.args.document.now) (accepted_view c.in_ok-accepted.accepted) c.in_ok-accepted.ensures.reads (loaded_view c.in_ok-loaded.loaded) c.in_ok-loaded.ensures.reads
+
+pub returns-clause-distinct : goal.returns-clause-distinct
+returns-clause-distinct c =
+    (names_loaded (document_view c.args.document.now) (accepted_view c.in_ok-accepted.accepted) (loaded_view c.in_ok-loaded.loaded) c.requires.well_named c.in_ok-accepted.ensures.well c.in_ok-accepted.ensures.reads c.in_ok-loaded.ensures.reads).0
+
+pub returns-clause-well_spelled : goal.returns-clause-well_spelled
+returns-clause-well_spelled c =
+    (names_loaded (document_view c.args.document.now) (accepted_view c.in_ok-accepted.accepted) (loaded_view c.in_ok-loaded.loaded) c.requires.well_named c.in_ok-accepted.ensures.well c.in_ok-accepted.ensures.reads c.in_ok-loaded.ensures.reads).1

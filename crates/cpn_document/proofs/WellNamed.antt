@@ -1,0 +1,185 @@
+-- Where the rules of documents are kept, things in one list have names, no two of them the same; and there are few declarations.
+use Rattle.std.proofs.Common.{◌≡◌, ℕ, suc, ◌≤◌, Bool, true, false, not, ◌||◌, List, [], ◌∷◌, ◌++◌, map, refl, sym, ◌∙◌, subst, leb-true}
+use Rattle.std.specs.Prelude.{None, codes}
+use Rattle.std.specs.List.{AllByRecursion, IsDistinct, list_all, list_any}
+use Rattle.std.specs.Str.{bytes_eq}
+use Rattle.std.proofs.lemmas.Bool.{and_from}
+use Rattle.std.proofs.lemmas.List.{length-map}
+use Rattle.std.proofs.lemmas.List.Folds.{list_any-append}
+use Rattle.std.proofs.lemmas.Map.Keys.{IsDistinct-cons}
+use Rattle.std.proofs.lemmas.Slice.Eq.{bytes_eq-Decides}
+use Rattle.serde_json.specs.Data.{Data}
+use Rattle.cpn_document.specs.Refusals.{FormRefusal}
+use Rattle.cpn_document.specs.Rules.{Rule, first_broken}
+use Rattle.cpn_document.specs.Texts.{is_name}
+use Rattle.cpn_document.specs.Parts.{is_one_of, text_in, text_at, items_at, name_rules, new_name_rules}
+use Rattle.cpn_document.specs.Document.{most_declarations, names_in, place_in, transition_in, sub_in, module_in, document_in, each_named, place_rules, each_place, places_rules, transition_rules, each_transition, transitions_rules, sub_rules, each_sub, subs_rules, module_rules, each_module, modules_rules, declarations_rules, document_rules}
+use Rattle.cpn_document.specs.WellNamed.{AreNames, IsWellNamed, AreWellNamed, HasFewDeclarations}
+use Rattle.cpn_document.specs.declared.pointers.Pointer.{Pointer}
+use Rattle.cpn_document.proofs.BrokenRules.{broken_append}
+use Rattle.cpn_document.proofs.FewArcs.{none_parts, limit_kept}
+
+-- ---- names that differ
+
+apart_both : (x y : List ℕ) → bytes_eq x y ≡ false → bytes_eq y x ≡ false
+apart_both x y h = by (bytes_eq y x) refl
+  where
+    by : (b : Bool) → bytes_eq y x ≡ b → b ≡ false
+    by false e = refl
+    by true e = let same = (bytes_eq-Decides y x).0 e in let again = (bytes_eq-Decides x y).1 (sym same) in cc
+
+or_false : (a b : Bool) → (a || b) ≡ false → (a ≡ false) × (b ≡ false)
+or_false false b h = (refl, h)
+or_false true b h = cc
+
+-- a name that none of these and not this one is
+not_among : (y x : List ℕ) (earlier : List (List ℕ)) → is_one_of y (earlier ++ x ∷ []) ≡ false → (is_one_of y earlier ≡ false) × (bytes_eq y x ≡ false)
+not_among y x earlier h =
+    let parts = or_false (list_any (bytes_eq y) earlier) (list_any (bytes_eq y) (x ∷ [])) (sym (list_any-append (bytes_eq y) earlier (x ∷ [])) ∙ h) in
+    (parts.0, (or_false (bytes_eq y x) false parts.1).0)
+
+-- ---- a list of things that have new names
+
+-- a name, and none of those before it
+record IsNew (earlier : List (List ℕ)) (name : List ℕ) : Type 0 where
+  pub formed : is_name name ≡ true
+  pub new : is_one_of name earlier ≡ false
+
+not_is : (b : Bool) → not b ≡ true → b ≡ false
+not_is false h = refl
+not_is true h = cc
+
+one_kept : (kept : Bool) (refusal : FormRefusal) → first_broken (record { kept = kept; refusal = refusal } ∷ []) ≡ None → kept ≡ true
+unfolding first_broken
+one_kept true refusal h = refl
+one_kept false refusal h = cc
+
+new_kept : (key : List ℕ) (whole here : Pointer) (earlier : List (List ℕ)) (d : Data) → first_broken (new_name_rules key whole here earlier d) ≡ None → IsNew earlier (text_at key d)
+unfolding new_name_rules name_rules
+new_kept key whole here earlier d h =
+    let k = none_parts _ _ (simp broken_append at h) in
+    record { formed = one_kept _ _ (none_parts _ _ k.0).1; new = not_is _ (one_kept _ _ k.1) }
+
+-- names of a list that are none of those before it
+record AreNew (earlier names : List (List ℕ)) : Type 0 where
+  pub formed : list_all is_name names ≡ true
+  pub new : AllByRecursion (λ name. is_one_of name earlier ≡ false) names
+  pub distinct : IsDistinct bytes_eq names
+
+still_new : (x : List ℕ) (earlier names : List (List ℕ)) → AllByRecursion (λ name. is_one_of name (earlier ++ x ∷ []) ≡ false) names
+    → AllByRecursion (λ name. is_one_of name earlier ≡ false) names × AllByRecursion (λ name. bytes_eq x name ≡ false) names
+still_new x earlier [] h = (tt, tt)
+still_new x earlier (y ∷ names) h =
+    let first = not_among y x earlier h.0 in
+    let rest = still_new x earlier names h.1 in
+    ((first.0, rest.0), (apart_both y x first.1, rest.1))
+
+one_new : (x : List ℕ) (earlier names : List (List ℕ)) → IsNew earlier x → AreNew (earlier ++ x ∷ []) names → AreNew earlier (x ∷ names)
+one_new x earlier names first rest =
+    let still = still_new x earlier names rest.new in
+    record { formed = and_from (is_name x) (list_all is_name names) first.formed rest.formed; new = (first.new, still.0); distinct = IsDistinct-cons bytes_eq x names still.1 rest.distinct }
+
+no_names : (earlier : List (List ℕ)) → AreNew earlier []
+unfolding IsDistinct
+no_names earlier = record { formed = refl; new = tt; distinct = tt }
+
+-- where the rules of each give a new name, all the names are new
+each_new : (rules : ℕ → List (List ℕ) → Data → List Rule)
+    → ((i : ℕ) (earlier : List (List ℕ)) (d : Data) → first_broken (rules i earlier d) ≡ None → IsNew earlier (text_at (codes "name") d))
+    → (i : ℕ) (earlier : List (List ℕ)) (ds : List Data) → first_broken (each_named rules i earlier ds) ≡ None → AreNew earlier (names_in ds)
+unfolding each_named
+each_new rules new i earlier [] h = no_names earlier
+each_new rules new i earlier (d ∷ ds) h =
+    let k = none_parts _ _ (simp broken_append at h) in
+    one_new (text_at (codes "name") d) earlier (names_in ds) (new i earlier d k.0) (each_new rules new (suc i) (earlier ++ text_at (codes "name") d ∷ []) ds k.1)
+
+names_of : {A : Type 0} (made : Data → A) (name : A → List ℕ) → ((d : Data) → name (made d) ≡ text_at (codes "name") d) → (ds : List Data) → map name (map made ds) ≡ names_in ds
+names_of made name same [] = refl
+names_of made name same (d ∷ ds) = let first = same d in let rest = names_of made name same ds in cc
+
+are_names : {A : Type 0} (made : Data → A) (name : A → List ℕ) → ((d : Data) → name (made d) ≡ text_at (codes "name") d) → (earlier : List (List ℕ)) (ds : List Data) → AreNew earlier (names_in ds) → AreNames (map name (map made ds))
+are_names made name same earlier ds new = subst AreNames (sym (names_of made name same ds)) (record { formed = new.formed; distinct = new.distinct })
+
+-- ---- places, transitions, substitution transitions
+
+place_new : (m i : ℕ) (earlier : List (List ℕ)) (d : Data) → first_broken (place_rules m i earlier d) ≡ None → IsNew earlier (text_at (codes "name") d)
+unfolding place_rules
+place_new m i earlier d h = let k = simp broken_append at h in new_kept _ _ _ earlier d (none_parts _ _ (none_parts _ _ (none_parts _ _ (none_parts _ _ k).0).0).0).1
+
+transition_new : (m i : ℕ) (earlier : List (List ℕ)) (d : Data) → first_broken (transition_rules m i earlier d) ≡ None → IsNew earlier (text_at (codes "name") d)
+unfolding transition_rules
+transition_new m i earlier d h = let k = simp broken_append at h in new_kept _ _ _ earlier d (none_parts _ _ (none_parts _ _ (none_parts _ _ k).0).0).1
+
+sub_new : (m i : ℕ) (earlier : List (List ℕ)) (d : Data) → first_broken (sub_rules m i earlier d) ≡ None → IsNew earlier (text_at (codes "name") d)
+unfolding sub_rules
+sub_new m i earlier d h = let k = simp broken_append at h in new_kept _ _ _ earlier d (none_parts _ _ (none_parts _ _ (none_parts _ _ (none_parts _ _ k).0).0).0).1
+
+places_named : (m : ℕ) (d : Data) → first_broken (places_rules m d) ≡ None → AreNames (map (λ place. place.name) (module_in d).places)
+unfolding places_rules each_place
+places_named m d h =
+    let k = simp broken_append at h in
+    are_names place_in (λ place. place.name) (λ e. refl) [] (items_at (codes "places") d) (each_new (place_rules m) (place_new m) 0 [] (items_at (codes "places") d) (none_parts _ _ k).1)
+
+transitions_named : (m : ℕ) (d : Data) → first_broken (transitions_rules m d) ≡ None → AreNames (map (λ transition. transition.name) (module_in d).transitions)
+unfolding transitions_rules each_transition
+transitions_named m d h =
+    let k = simp broken_append at h in
+    are_names transition_in (λ transition. transition.name) (λ e. refl) [] (items_at (codes "transitions") d)
+    (each_new (transition_rules m) (transition_new m) 0 [] (items_at (codes "transitions") d) (none_parts _ _ k).1)
+
+subs_named : (m : ℕ) (transitions : List (List ℕ)) (d : Data) → first_broken (subs_rules m transitions d) ≡ None → AreNames (map (λ sub. sub.name) (module_in d).subs)
+unfolding subs_rules each_sub
+subs_named m transitions d h =
+    let k = simp broken_append at h in
+    are_names sub_in (λ sub. sub.name) (λ e. refl) transitions (items_at (codes "subs") d)
+    (each_new (sub_rules m) (sub_new m) 0 transitions (items_at (codes "subs") d) (none_parts _ _ k).1)
+
+-- ---- modules
+
+module_named : (m : ℕ) (earlier : List (List ℕ)) (d : Data) → first_broken (module_rules m earlier d) ≡ None → IsWellNamed (module_in d)
+unfolding module_rules
+module_named m earlier d h =
+    let before_subs = none_parts _ _ (simp broken_append at h) in
+    let before_arcs = none_parts _ _ before_subs.0 in
+    let before_transitions = none_parts _ _ before_arcs.0 in
+    let before_places = none_parts _ _ before_transitions.0 in
+    record {
+      name = (new_kept _ _ _ earlier d (none_parts _ _ before_places.0).1).formed;
+      places = places_named m d before_places.1;
+      transitions = transitions_named m d before_transitions.1;
+      subs = subs_named m _ d before_subs.1;
+    }
+
+modules_named : (i : ℕ) (earlier : List (List ℕ)) (ds : List Data) → first_broken (each_named module_rules i earlier ds) ≡ None → AllByRecursion IsWellNamed (map module_in ds)
+unfolding each_named
+modules_named i earlier [] h = tt
+modules_named i earlier (d ∷ ds) h =
+    let k = none_parts _ _ (simp broken_append at h) in
+    (module_named i earlier d k.0, modules_named (suc i) (earlier ++ text_at (codes "name") d ∷ []) ds k.1)
+
+list_named : (d : Data) → first_broken (modules_rules d) ≡ None → AllByRecursion IsWellNamed (map module_in (items_at (codes "modules") d))
+unfolding modules_rules each_module
+list_named d h = let k = simp broken_append at h in modules_named 0 [] (items_at (codes "modules") d) (none_parts _ _ k).1
+
+-- ---- the document
+
+-- A document that keeps the rules is well named.
+pub document_named : (d : Data) → first_broken (document_rules d) ≡ None → AreWellNamed (document_in d)
+unfolding document_rules
+document_named d h =
+    let k = simp broken_append at h in
+    list_named d (none_parts _ _ (none_parts _ _ (none_parts _ _ (none_parts _ _ k).0).0).0).1
+
+declarations_few : (d : Data) → first_broken (declarations_rules d) ≡ None → HasFewDeclarations (document_in d)
+unfolding declarations_rules
+declarations_few d h =
+    let k = simp broken_append at h in
+    subst (λ (n : ℕ). n ≤ most_declarations) (sym (length-map (items_at (codes "declarations") d) text_in))
+    (leb-true _ _ (limit_kept _ _ (none_parts _ _ (none_parts _ _ k).0).1))
+
+-- It has few declarations.
+pub document_declares_few : (d : Data) → first_broken (document_rules d) ≡ None → HasFewDeclarations (document_in d)
+unfolding document_rules
+document_declares_few d h =
+    let k = simp broken_append at h in
+    declarations_few d (none_parts _ _ (none_parts _ _ (none_parts _ _ (none_parts _ _ (none_parts _ _ (none_parts _ _ k).0).0).0).0).0).1

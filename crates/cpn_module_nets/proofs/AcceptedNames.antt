@@ -1,0 +1,149 @@
+-- What is accepted has the names that the document writes.
+use Rattle.std.proofs.Common.{◌≡◌, ℕ, suc, ◌<◌, ◌≤◌, ◌*◌, List, [], ◌∷◌, length, map, slice_index_or, refl, sym, ap, ap₂, ◌∙◌, subst}
+use Rattle.std.proofs.Math.Nat.{zero-add}
+use Rattle.cpn_definitions.specs.Net.{PlainTransition, Coloured}
+use Rattle.cpn_document.specs.Document.{RawPlace, RawTransition, RawModule, RawDocument}
+use Rattle.cpn_module.specs.Checked.{IsChecked}
+use Rattle.cpn_module.specs.Hierarchy.{PlainStructure, PlainHierarchy, structure_at}
+use Rattle.cpn_module.specs.Named.{hierarchy_in, place_names, transition_names}
+use Rattle.cpn_module_trees.specs.Parsing.{most_bytes}
+use Rattle.cpn_module_trees.specs.Trees.{PlaceTrees, TransitionTrees, ModuleTrees, DocumentTrees, AreTrees, ArePlaceTrees, AreTransitionTrees, AreModuleTrees}
+use Rattle.cpn_readings.specs.ItemByItem.{EachIs}
+use Rattle.cpn_readings.specs.Relations.{just, such_that, refused_by}
+use Rattle.cpn_readings.proofs.Readings.{same_read, steps}
+use Rattle.cpn_readings.proofs.RelatedReadings.{step_parts, such_holds}
+use Rattle.cpn_typing.specs.Names.{Declared, nothing_declared}
+use Rattle.cpn_typing.specs.Declarations.{colour_of}
+use Rattle.cpn_typing.proofs.DistinctDeclared.{AreNamed}
+use Rattle.cpn_module_nets.specs.Reading.{Reading, read, of_modules, each_from}
+use Rattle.cpn_module_nets.specs.Nets.{PlainModuleNet, PlainAccepted, places_at, no_module_net}
+use Rattle.cpn_module_nets.specs.Accepted.{accepted_at, guard_at, delay_at, declared_from, net_place, places_of, bare_transition, Sides, joined_from}
+use Rattle.cpn_module_nets.specs.Transitions.{IsCompleted}
+use Rattle.cpn_module_nets.specs.Documents.{net_so, nets_so, accepted_in}
+use Rattle.cpn_module_nets.specs.Fitting.{no_trees, trees_at}
+use Rattle.cpn_module_nets.specs.Pointers.{colour_pointer, guard_pointer, delay_pointer}
+use Rattle.cpn_module_nets.proofs.CheckedModules.{kept}
+use Rattle.cpn_module_nets.proofs.DeclaredNames.{IsWord, all_named}
+use Rattle.cpn_module_nets.proofs.ModuleParts.{raw_at, as_many_trees, trees_are, places_read}
+use Rattle.cpn_module_nets.proofs.WellAccepted.{so_long, so_at, checked_read}
+use Rattle.cpn_module_nets.proofs.WellNets.{net_parts}
+
+-- the names of the places and of the transitions of a module
+abbrev pub names_of_places : List Coloured → List (List ℕ)
+names_of_places places = map (λ place. place.name) places
+
+abbrev pub names_of_transitions : List PlainTransition → List (List ℕ)
+names_of_transitions transitions = map (λ transition. transition.name) transitions
+
+-- What is accepted: the hierarchy is the one that the document names; the places and the transitions of each module have the names
+-- that the document writes; what is declared is well named, and has no more variables than the texts have room for.
+pub record HasItsNames (d : RawDocument) (a : PlainAccepted) : Type 0 where
+  pub hierarchy : a.hierarchy ≡ hierarchy_in d
+  pub many : length a.modules ≡ length d.modules
+  pub places : (m : ℕ) → m < length d.modules → names_of_places (slice_index_or a.modules m no_module_net).places ≡ place_names (raw_at d m)
+  pub transitions : (m : ℕ) → m < length d.modules → names_of_transitions (slice_index_or a.modules m no_module_net).transitions ≡ transition_names (raw_at d m)
+  pub declared : AreNamed IsWord a.declared
+  pub few_variables : length a.declared.variables ≤ most_bytes * length d.declarations
+
+-- ---- lists
+
+-- what is read item by item has the names that the items have
+names_read : {A B : Type 0} (f : ℕ → A → Reading B) (written : A → List ℕ) (name : B → List ℕ) → ((i : ℕ) (x : A) (y : B) → f i x ≡ read y → name y ≡ written x)
+    → (i : ℕ) (xs : List A) (ys : List B) → each_from f i xs ≡ read ys → map name ys ≡ map written xs
+unfolding each_from
+names_read f written name same i [] ys h = ap (map name) (sym (same_read [] ys h))
+names_read f written name same i (x ∷ xs) ys h =
+    let first = steps _ (f i x) ys h in
+    let rest = steps _ (each_from f (suc i) xs) ys first.2 in
+    ap (map name) (sym (same_read (first.0 ∷ rest.0) ys rest.2)) ∙ ap₂ (λ (n : List ℕ) (ns : List (List ℕ)). n ∷ ns) (same i x first.0 first.1) (names_read f written name same (suc i) xs rest.0 rest.1)
+
+names_correspond : {A B : Type 0} (Is : A → B → Type 0) (written : A → List ℕ) (name : B → List ℕ) → ((x : A) (y : B) → Is x y → name y ≡ written x) → (xs : List A) (ys : List B) → EachIs Is xs ys → map name ys ≡ map written xs
+names_correspond Is written name same [] [] are = refl
+names_correspond Is written name same [] (y ∷ ys) are = absurd are
+names_correspond Is written name same (x ∷ xs) [] are = absurd are
+names_correspond Is written name same (x ∷ xs) (y ∷ ys) are = ap₂ (λ (n : List ℕ) (ns : List (List ℕ)). n ∷ ns) (same x y are.0) (names_correspond Is written name same xs ys are.1)
+
+-- ---- places
+
+place_name : (ds : Declared) (m i : ℕ) (place : PlaceTrees) (made : Coloured) → net_place ds m i place ≡ read made → made.name ≡ place.name
+unfolding net_place
+place_name ds m i place made h =
+    let colour = steps _ (accepted_at (colour_pointer m i) (colour_of ds place.colour)) made h in
+    ap (λ (c : Coloured). c.name) (sym (same_read _ made colour.2))
+
+places_have : (ds : Declared) (m : ℕ) (raw : RawModule) (trees : ModuleTrees) (places : List Coloured) → AreModuleTrees raw trees → each_from (net_place ds m) 0 trees.places ≡ read places → names_of_places places ≡ place_names raw
+places_have ds m raw trees places are h =
+    names_read (net_place ds m) (λ (t : PlaceTrees). t.name) (λ (c : Coloured). c.name) (place_name ds m) 0 trees.places places h
+    ∙ names_correspond ArePlaceTrees (λ (p : RawPlace). p.name) (λ (t : PlaceTrees). t.name) (λ p t is. is.name) raw.places trees.places are.places
+
+-- ---- transitions
+
+bare_name : (ds : Declared) (m i : ℕ) (transition : TransitionTrees) (made : PlainTransition) → bare_transition ds m i transition ≡ read made → made.name ≡ transition.name
+unfolding bare_transition
+bare_name ds m i transition made h =
+    let guard = steps _ (guard_at ds (guard_pointer m i) transition.guard) made h in
+    let delay = steps _ (delay_at ds (delay_pointer m i) transition.delay) made guard.2 in
+    ap (λ (t : PlainTransition). t.name) (sym (same_read _ made delay.2))
+
+joined_names : (t : ℕ) (xs : List PlainTransition) (arcs : List Sides) → names_of_transitions (joined_from t xs arcs) ≡ names_of_transitions xs
+joined_names t [] arcs = refl
+joined_names t (x ∷ xs) arcs = ap (λ (ns : List (List ℕ)). x.name ∷ ns) (joined_names (suc t) xs arcs)
+
+completed_name : (bare t : PlainTransition) → IsCompleted bare t → t.name ≡ bare.name
+completed_name bare t is = ap (λ (u : PlainTransition). u.name) is.same
+
+transitions_have : (ds : Declared) (places : List Coloured) (m : ℕ) (s : PlainStructure) (raw : RawModule) (trees : ModuleTrees) (net : PlainModuleNet) → AreModuleTrees raw trees → net_so ds places m s trees (read net)
+    → names_of_transitions net.transitions ≡ transition_names raw
+transitions_have ds places m s raw trees net are h =
+    let parts = net_parts ds places m s trees net h in
+    let its = parts.parts in
+    ap (λ (x : PlainModuleNet). names_of_transitions x.transitions) parts.is
+    ∙ names_correspond IsCompleted (λ (t : PlainTransition). t.name) (λ (t : PlainTransition). t.name) completed_name (joined_from 0 its.bares its.arcs) parts.ts its.completed
+    ∙ joined_names 0 its.bares its.arcs
+    ∙ names_read (bare_transition ds m) (λ (t : TransitionTrees). t.name) (λ (t : PlainTransition). t.name) (bare_name ds m) 0 trees.transitions its.bares its.bares_are
+    ∙ names_correspond AreTransitionTrees (λ (t : RawTransition). t.name) (λ (t : TransitionTrees). t.name) (λ p t is. is.name) raw.transitions trees.transitions are.transitions
+
+net_places : (ds : Declared) (places : List Coloured) (m : ℕ) (s : PlainStructure) (trees : ModuleTrees) (net : PlainModuleNet) → net_so ds places m s trees (read net) → net.places ≡ places
+net_places ds places m s trees net h = let parts = net_parts ds places m s trees net h in ap (λ (x : PlainModuleNet). x.places) parts.is
+
+-- ---- the document
+
+module _ (ds : Declared) (d : RawDocument) (trees : DocumentTrees) (are : AreTrees d trees) (ds_is : declared_from 0 nothing_declared trees.declarations ≡ read ds) (places : List (List Coloured)) (places_are : each_from (places_of ds) 0 trees.modules ≡ read places) where
+  module _ (h : PlainHierarchy) (is : h ≡ hierarchy_in d) (nets : List PlainModuleNet) (nets_are : nets_so ds places h trees.modules (read nets)) where
+    below : (m : ℕ) → m < length d.modules → m < length trees.modules
+    below m lt = subst (λ (k : ℕ). m < k) (sym (as_many_trees ds d trees are)) lt
+
+    net_read : (m : ℕ) → m < length trees.modules → net_so ds (places_at places m) m (structure_at h m) (trees_at trees.modules m) (read (slice_index_or nets m no_module_net))
+    unfolding nets_so
+    net_read m lt =
+        let at = so_at (λ m. net_so ds (places_at places m) m (structure_at h m)) 0 trees.modules nets m no_trees no_module_net nets_are lt in
+        subst (λ k. net_so ds (places_at places k) k (structure_at h k) (trees_at trees.modules m) (read (slice_index_or nets m no_module_net))) (zero-add m) at
+
+    many_nets : length nets ≡ length trees.modules
+    unfolding nets_so
+    many_nets = so_long (λ m. net_so ds (places_at places m) m (structure_at h m)) 0 trees.modules nets nets_are
+
+    all_have : HasItsNames d (record { declared = ds; hierarchy = h; modules = nets })
+    all_have = record {
+      hierarchy = is;
+      many = many_nets ∙ as_many_trees ds d trees are;
+      places = λ m lt. ap names_of_places (net_places ds (places_at places m) m (structure_at h m) (trees_at trees.modules m) (slice_index_or nets m no_module_net) (net_read m (below m lt)))
+          ∙ places_have ds m (raw_at d m) (trees_at trees.modules m) (places_at places m) (trees_are ds d trees are m lt) (places_read ds d trees are places places_are m (below m lt));
+      transitions = λ m lt. transitions_have ds (places_at places m) m (structure_at h m) (raw_at d m) (trees_at trees.modules m) (slice_index_or nets m no_module_net) (trees_are ds d trees are m lt) (net_read m (below m lt));
+      declared = (all_named d.declarations trees.declarations ds are.declarations ds_is).0;
+      few_variables = (all_named d.declarations trees.declarations ds are.declarations ds_is).1;
+    }
+
+-- What is accepted of a document has the names that the document writes.
+pub accepted_names : (d : RawDocument) (a : PlainAccepted) → accepted_in d (read a) → HasItsNames d a
+unfolding accepted_in
+accepted_names d a h =
+    let trees = step_parts (such_that (AreTrees d)) _ a h in
+    let ds = step_parts (just (declared_from 0 nothing_declared trees.0.declarations)) _ a trees.2 in
+    let places = step_parts (just (each_from (places_of ds.0) 0 trees.0.modules)) _ a ds.2 in
+    let hierarchy = step_parts (refused_by of_modules (IsChecked ds.0 d)) _ a places.2 in
+    let nets = step_parts (nets_so ds.0 places.0 hierarchy.0 trees.0.modules) _ a hierarchy.2 in
+    let are = such_holds (AreTrees d) trees.0 trees.1 in
+    let checked = kept ds.0 d hierarchy.0 (checked_read of_modules (IsChecked ds.0 d) hierarchy.0 hierarchy.1) in
+    subst (HasItsNames d) (sym (same_read a (record { declared = ds.0; hierarchy = hierarchy.0; modules = nets.0 }) nets.2))
+    (all_have ds.0 d trees.0 are (sym ds.1) places.0 (sym places.1) hierarchy.0 checked.is nets.0 nets.1)
