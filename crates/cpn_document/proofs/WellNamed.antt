@@ -12,8 +12,8 @@ use Rattle.serde_json.specs.Data.{Data}
 use Rattle.cpn_document.specs.Refusals.{FormRefusal}
 use Rattle.cpn_document.specs.Rules.{Rule, first_broken}
 use Rattle.cpn_document.specs.Texts.{is_name}
-use Rattle.cpn_document.specs.Parts.{is_one_of, text_in, text_at, items_at, name_rules, new_name_rules}
-use Rattle.cpn_document.specs.Document.{most_declarations, names_in, place_in, transition_in, sub_in, module_in, document_in, each_named, place_rules, each_place, places_rules, transition_rules, each_transition, transitions_rules, sub_rules, each_sub, subs_rules, module_rules, each_module, modules_rules, declarations_rules, document_rules}
+use Rattle.cpn_document.specs.Parts.{is_one_of, text_in, text_at, items_at, name_rules, new_name_rules, names_in, each_named}
+use Rattle.cpn_document.specs.Document.{most_declarations, place_in, transition_in, sub_in, module_in, document_in, place_rules, each_place, places_rules, transition_rules, each_transition, transitions_rules, sub_rules, each_sub, subs_rules, module_rules, each_module, modules_rules, declarations_rules, document_rules}
 use Rattle.cpn_document.specs.WellNamed.{AreNames, IsWellNamed, AreWellNamed, HasFewDeclarations}
 use Rattle.cpn_document.specs.declared.pointers.Pointer.{Pointer}
 use Rattle.cpn_document.proofs.BrokenRules.{broken_append}
@@ -106,9 +106,9 @@ place_new : (m i : ℕ) (earlier : List (List ℕ)) (d : Data) → first_broken 
 unfolding place_rules
 place_new m i earlier d h = let k = simp broken_append at h in new_kept _ _ _ earlier d (none_parts _ _ (none_parts _ _ (none_parts _ _ (none_parts _ _ k).0).0).0).1
 
-transition_new : (m i : ℕ) (earlier : List (List ℕ)) (d : Data) → first_broken (transition_rules m i earlier d) ≡ None → IsNew earlier (text_at (codes "name") d)
+transition_new : (version m i : ℕ) (earlier : List (List ℕ)) (d : Data) → first_broken (transition_rules version m i earlier d) ≡ None → IsNew earlier (text_at (codes "name") d)
 unfolding transition_rules
-transition_new m i earlier d h = let k = simp broken_append at h in new_kept _ _ _ earlier d (none_parts _ _ (none_parts _ _ (none_parts _ _ k).0).0).1
+transition_new version m i earlier d h = let k = simp broken_append at h in new_kept _ _ _ earlier d (none_parts _ _ (none_parts _ _ (none_parts _ _ k).0).0).1
 
 sub_new : (m i : ℕ) (earlier : List (List ℕ)) (d : Data) → first_broken (sub_rules m i earlier d) ≡ None → IsNew earlier (text_at (codes "name") d)
 unfolding sub_rules
@@ -120,12 +120,12 @@ places_named m d h =
     let k = simp broken_append at h in
     are_names place_in (λ place. place.name) (λ e. refl) [] (items_at (codes "places") d) (each_new (place_rules m) (place_new m) 0 [] (items_at (codes "places") d) (none_parts _ _ k).1)
 
-transitions_named : (m : ℕ) (d : Data) → first_broken (transitions_rules m d) ≡ None → AreNames (map (λ transition. transition.name) (module_in d).transitions)
+transitions_named : (version m : ℕ) (d : Data) → first_broken (transitions_rules version m d) ≡ None → AreNames (map (λ transition. transition.name) (module_in d).transitions)
 unfolding transitions_rules each_transition
-transitions_named m d h =
+transitions_named version m d h =
     let k = simp broken_append at h in
     are_names transition_in (λ transition. transition.name) (λ e. refl) [] (items_at (codes "transitions") d)
-    (each_new (transition_rules m) (transition_new m) 0 [] (items_at (codes "transitions") d) (none_parts _ _ k).1)
+    (each_new (transition_rules version m) (transition_new version m) 0 [] (items_at (codes "transitions") d) (none_parts _ _ k).1)
 
 subs_named : (m : ℕ) (transitions : List (List ℕ)) (d : Data) → first_broken (subs_rules m transitions d) ≡ None → AreNames (map (λ sub. sub.name) (module_in d).subs)
 unfolding subs_rules each_sub
@@ -136,9 +136,9 @@ subs_named m transitions d h =
 
 -- ---- modules
 
-module_named : (m : ℕ) (earlier : List (List ℕ)) (d : Data) → first_broken (module_rules m earlier d) ≡ None → IsWellNamed (module_in d)
+module_named : (version m : ℕ) (earlier : List (List ℕ)) (d : Data) → first_broken (module_rules version m earlier d) ≡ None → IsWellNamed (module_in d)
 unfolding module_rules
-module_named m earlier d h =
+module_named version m earlier d h =
     let before_subs = none_parts _ _ (simp broken_append at h) in
     let before_arcs = none_parts _ _ before_subs.0 in
     let before_transitions = none_parts _ _ before_arcs.0 in
@@ -146,29 +146,29 @@ module_named m earlier d h =
     record {
       name = (new_kept _ _ _ earlier d (none_parts _ _ before_places.0).1).formed;
       places = places_named m d before_places.1;
-      transitions = transitions_named m d before_transitions.1;
+      transitions = transitions_named version m d before_transitions.1;
       subs = subs_named m _ d before_subs.1;
     }
 
-modules_named : (i : ℕ) (earlier : List (List ℕ)) (ds : List Data) → first_broken (each_named module_rules i earlier ds) ≡ None → AllByRecursion IsWellNamed (map module_in ds)
+modules_named : (version i : ℕ) (earlier : List (List ℕ)) (ds : List Data) → first_broken (each_named (module_rules version) i earlier ds) ≡ None → AllByRecursion IsWellNamed (map module_in ds)
 unfolding each_named
-modules_named i earlier [] h = tt
-modules_named i earlier (d ∷ ds) h =
+modules_named version i earlier [] h = tt
+modules_named version i earlier (d ∷ ds) h =
     let k = none_parts _ _ (simp broken_append at h) in
-    (module_named i earlier d k.0, modules_named (suc i) (earlier ++ text_at (codes "name") d ∷ []) ds k.1)
+    (module_named version i earlier d k.0, modules_named version (suc i) (earlier ++ text_at (codes "name") d ∷ []) ds k.1)
 
-list_named : (d : Data) → first_broken (modules_rules d) ≡ None → AllByRecursion IsWellNamed (map module_in (items_at (codes "modules") d))
+list_named : (version : ℕ) (d : Data) → first_broken (modules_rules version d) ≡ None → AllByRecursion IsWellNamed (map module_in (items_at (codes "modules") d))
 unfolding modules_rules each_module
-list_named d h = let k = simp broken_append at h in modules_named 0 [] (items_at (codes "modules") d) (none_parts _ _ k).1
+list_named version d h = let k = simp broken_append at h in modules_named version 0 [] (items_at (codes "modules") d) (none_parts _ _ k).1
 
 -- ---- the document
 
 -- A document that keeps the rules is well named.
-pub document_named : (d : Data) → first_broken (document_rules d) ≡ None → AreWellNamed (document_in d)
+pub document_named : (version : ℕ) (d : Data) → first_broken (document_rules version d) ≡ None → AreWellNamed (document_in d)
 unfolding document_rules
-document_named d h =
+document_named version d h =
     let k = simp broken_append at h in
-    list_named d (none_parts _ _ (none_parts _ _ (none_parts _ _ (none_parts _ _ k).0).0).0).1
+    list_named version d (none_parts _ _ (none_parts _ _ (none_parts _ _ (none_parts _ _ k).0).0).0).1
 
 declarations_few : (d : Data) → first_broken (declarations_rules d) ≡ None → HasFewDeclarations (document_in d)
 unfolding declarations_rules
@@ -178,8 +178,8 @@ declarations_few d h =
     (leb-true _ _ (limit_kept _ _ (none_parts _ _ (none_parts _ _ k).0).1))
 
 -- It has few declarations.
-pub document_declares_few : (d : Data) → first_broken (document_rules d) ≡ None → HasFewDeclarations (document_in d)
+pub document_declares_few : (version : ℕ) (d : Data) → first_broken (document_rules version d) ≡ None → HasFewDeclarations (document_in d)
 unfolding document_rules
-document_declares_few d h =
+document_declares_few version d h =
     let k = simp broken_append at h in
     declarations_few d (none_parts _ _ (none_parts _ _ (none_parts _ _ (none_parts _ _ (none_parts _ _ (none_parts _ _ k).0).0).0).0).0).1

@@ -32,10 +32,10 @@ pub returns-clause-few_arcs : goal.returns-clause-few_arcs
 returns-clause-few_arcs c = subst HaveFewArcs (sym c.in_ok-document.ensures.gives.0) (document_few _ (view c.in_ok-value.value) c.in_ok-document.ensures.gives.1)
 
 pub returns-clause-well_named : goal.returns-clause-well_named
-returns-clause-well_named c = subst AreWellNamed (sym c.in_ok-document.ensures.gives.0) (document_named (view c.in_ok-value.value) c.in_ok-document.ensures.gives.1)
+returns-clause-well_named c = subst AreWellNamed (sym c.in_ok-document.ensures.gives.0) (document_named _ (view c.in_ok-value.value) c.in_ok-document.ensures.gives.1)
 
 pub returns-clause-few_declarations : goal.returns-clause-few_declarations
-returns-clause-few_declarations c = subst HasFewDeclarations (sym c.in_ok-document.ensures.gives.0) (document_declares_few (view c.in_ok-value.value) c.in_ok-document.ensures.gives.1)
+returns-clause-few_declarations c = subst HasFewDeclarations (sym c.in_ok-document.ensures.gives.0) (document_declares_few _ (view c.in_ok-value.value) c.in_ok-document.ensures.gives.1)
 
 pub returns-clause-one : goal.returns-clause-one
 returns-clause-one c = one_reading c.args.bytes.now
