@@ -4,9 +4,10 @@ use Rattle.std.proofs.Common.{◌≡◌, ℕ, ◌+◌, ◌-◌, ◌<◌, Bool, f
 use Rattle.std.proofs.Math.Seq.{drop-length}
 use Rattle.std.specs.Option.{option_map}
 use Rattle.std.proofs.lemmas.List.{drop_more}
+use Rattle.std.proofs.lemmas.Option.{same_Some}
 use Rattle.cpn_definitions.specs.Outcome.{Fault}
 use Rattle.cpn_definitions.specs.Occurrence.{PlainElement, Needed, Made}
-use Rattle.cpn_runs.specs.HoleRun.{PlainClaim, Status, open_claim, done_with, faulted_with, is_done}
+use Rattle.cpn_runs.specs.HoleRun.{PlainClaim, Status, done_with, faulted_with, is_done}
 use Rattle.cpn_log.specs.Logs.{PlainHead, PlainLog, claims_made, begin_done, opened, standing_of, standings, stands_open, stands_done, stands_failed, with_status}
 use Rattle.cpn_log.specs.ClaimViews.{claim_view}
 use Rattle.cpn_log.specs.LogViews.{log_view}
@@ -14,17 +15,13 @@ use Rattle.cpn_log.specs.declared.claims.Claim.{Claim}
 use Rattle.cpn_log.specs.declared.logs.Log.{Log}
 use Rattle.cpn_log.proofs.KeptLogs.{among_at}
 use Rattle.cpn_log.proofs.LogParts.{IsOpen, stands_in_second}
+use Rattle.cpn_log.proofs.StatusStandings.{done_status}
 
 -- a claim at a position behind the committed ones
 stands_at : (log : PlainLog) (k n : ℕ) (claim : PlainClaim) → n ≡ length log.committed + k → slice_get log.claims k ≡ Some claim → slice_get (standings log) n ≡ Some (standing_of claim.status)
 stands_at log k n claim at is = ap (slice_get (standings log)) at ∙ stands_in_second log k ∙ ap (option_map (λ (c : PlainClaim). standing_of c.status)) is
 
 -- ---- the next one
-
-done_stands : (status : Status) → IsTrue (is_done status) ↔ (Some (standing_of status) ≡ Some stands_done)
-done_stands open_claim = (λ h. cc, λ h. cc)
-done_stands (done_with outputs) = (λ h. refl, λ h. refl)
-done_stands (faulted_with fault) = (λ h. cc, λ h. cc)
 
 -- it is committed exactly where it stands done
 next_stands : (log : PlainLog) (done : Bool) → done ≡ begin_done log.claims → IsTrue done ↔ (slice_get (standings log) (length log.committed) ≡ Some stands_done)
@@ -35,7 +32,9 @@ next_stands log done is =
   where
     first : (claims : List PlainClaim) → IsTrue (begin_done claims) ↔ (option_map (λ (c : PlainClaim). standing_of c.status) (slice_get claims 0) ≡ Some stands_done)
     first [] = (λ h. cc, λ h. cc)
-    first (claim ∷ claims) = done_stands claim.status
+    first (claim ∷ claims) =
+        let own = done_status claim.status in
+        (λ h. ap Some (own.0 h), λ h. own.1 (same_Some (standing_of claim.status) stands_done h))
 
 module _ (log : Log) where
   abbrev Stands : Bool → Type 0

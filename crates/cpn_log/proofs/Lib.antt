@@ -6,6 +6,7 @@ mod TouchedStamps
 mod LeftMarkings
 mod CopiedTokens
 mod KeptLogs
+mod StatusStandings
 mod LogParts
 mod LogSteps
 mod Completions

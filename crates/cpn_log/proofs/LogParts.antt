@@ -4,9 +4,10 @@ use Rattle.std.specs.Option.{option_map}
 use Rattle.std.proofs.lemmas.Bool.{cases_lt}
 use Rattle.std.proofs.lemmas.List.{map-set, length-map, length-take-le, length-drop}
 use Rattle.std.proofs.lemmas.Option.{slice_get-map, slice_get_past, same_Some}
-use Rattle.cpn_runs.specs.HoleRun.{PlainClaim, Status, open_claim, done_with, faulted_with}
+use Rattle.cpn_runs.specs.HoleRun.{PlainClaim, open_claim}
 use Rattle.cpn_jobs.specs.declared.work.Job.{Job}
 use Rattle.cpn_log.specs.Logs.{PlainHead, PlainLog, claims_made, head_of, seats, stands_open, stands_done, standing_of, standings, with_status, changed_to}
+use Rattle.cpn_log.proofs.StatusStandings.{open_status}
 use Rattle.cpn_log.specs.ClaimViews.{claim_view, head_view, status_view, with_course, changed_course}
 use Rattle.cpn_log.specs.LogViews.{log_view}
 use Rattle.cpn_log.specs.declared.claims.Claim.{Claim}
@@ -107,11 +108,6 @@ pub record IsOpen (log : PlainLog) (number : ℕ) : Type 0 where
   pub claim : PlainClaim
   pub is : slice_get log.claims (number - length log.committed) ≡ Some claim
   pub is_open : claim.status ≡ open_claim
-
-open_status : (status : Status) → standing_of status ≡ stands_open → status ≡ open_claim
-open_status open_claim h = refl
-open_status (done_with outputs) h = cc
-open_status (faulted_with fault) h = cc
 
 pub open_at : (log : PlainLog) (number : ℕ) → slice_get (standings log) number ≡ Some stands_open → IsOpen log number
 open_at log number is = ⊎_elim (λ lt. absurd (not_committed lt)) (λ ge. behind_at ge) (cases_lt number (length log.committed))

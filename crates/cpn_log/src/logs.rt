@@ -124,7 +124,8 @@ impl Log {
     }
 
     /// Completes an open claim with its outputs, which it adds at its own place in the claim order, and tells which stamps of
-    /// the unclaimed marking change by that: those of each output's value on its place, since there is a token more of it. After `Memory` the committed part and its marking stand, and nothing else is known.
+    /// the unclaimed marking change by that: those of each output's value on its place, since there is a token more of it. After
+    /// `Memory` the committed part and its marking stand, and nothing else is known.
     pub fn fill(&mut self, number: u64, outputs: Outputs) -> Result<Changes, Memory>
         requires kept { IsKept (log_view self.old) }
         requires open { slice_get (standings (log_view self.old)) number ≡ Some stands_open }
