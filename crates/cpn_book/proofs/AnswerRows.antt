@@ -1,5 +1,5 @@
 -- Answers in worked states, computed: seats 0 and 2 have open claims, seat 1 has completed one, and nothing is enabled.
-use Rattle.std.proofs.Common.{◌≡◌, ℕ, ◌<◌, Bool, true, false, nat_lt, List, [], ◌∷◌, length, Some, None, refl, sym, ◌∙◌, arith}
+use Rattle.std.proofs.Common.{◌≡◌, ℕ, false, nat_lt, [], ◌∷◌, Some, None, refl, arith}
 use Rattle.std.proofs.lemmas.Bool.Decides.{nat_tests}
 use Rattle.cpn_definitions.specs.Enabled.{Enabled}
 use Rattle.cpn_definitions.specs.Marking.{Marking}
@@ -10,7 +10,7 @@ use Rattle.cpn_definitions.proofs.TruthValues.{not_both}
 use Rattle.cpn_runs.specs.HoleRun.{PlainClaim, Status, open_claim, done_with}
 use Rattle.cpn_runs.specs.State.{PlainSetup, PlainState, dead}
 use Rattle.cpn_book.specs.Answers.{AnswersClaim, AnswersAdvance}
-use Rattle.cpn_book.specs.States.{IsIndex, AreReady, open_claims}
+use Rattle.cpn_book.specs.States.{AreReady, open_claims}
 use Rattle.cpn_book.specs.declared.answers.Claimed.TheVariants as claims
 use Rattle.cpn_book.specs.declared.answers.Advanced.TheVariants as moves
 

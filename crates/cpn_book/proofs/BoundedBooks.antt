@@ -1,5 +1,5 @@
 -- The bounds of a run: its clock is one that it may reach, and its markings are of the net's places, with few tokens on each.
-use Rattle.std.proofs.Common.{◌≡◌, ℕ, ◌+◌, ◌-◌, ◌^◌, ◌≤◌, length, sym, subst, arith}
+use Rattle.std.proofs.Common.{◌≡◌, ℕ, ◌-◌, ◌^◌, ◌≤◌, length, sym, subst, arith}
 use Rattle.cpn_definitions.specs.Bounds.{IsBounded}
 use Rattle.cpn_definitions.specs.Marking.{Marking}
 use Rattle.cpn_definitions.specs.Sound.{IsMarking}

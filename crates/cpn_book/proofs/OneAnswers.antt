@@ -1,6 +1,5 @@
 -- A book has one state, and a call on it one answer in that state: so each answer comes exactly where what it says holds.
 use Rattle.std.proofs.Common.{◌≡◌, ℕ, ◌<◌, ◌≤◌, ◌%◌, true, false, List, [], ◌∷◌, length, Option, Some, None, refl, sym, ap, ◌∙◌, subst, slice_get, arith}
-use Rattle.std.specs.Option.{option_map}
 use Rattle.std.proofs.lemmas.Option.{same_Some}
 use Rattle.cpn_definitions.specs.Enabled.{PlainEntry, Enabled, ready, IsDead}
 use Rattle.cpn_definitions.specs.Legal.{LeastTime}
@@ -9,7 +8,6 @@ use Rattle.cpn_definitions.specs.Occurrence.{covered}
 use Rattle.cpn_definitions.proofs.OneEnabledList.{enabled_is_unique}
 use Rattle.cpn_definitions.proofs.ListItems.{place_known}
 use Rattle.cpn_draw.specs.Draw.{word}
-use Rattle.cpn_jobs.specs.Views.{job_view}
 use Rattle.cpn_runs.specs.HoleRun.{PlainClaim}
 use Rattle.cpn_runs.specs.State.{PlainSetup, PlainState, unclaimed_in, PlainCut, PlainEvent, owed_cut, claim_completed, MayClaim, MayMove}
 use Rattle.cpn_runs.proofs.States.{one_state, claim_is_unique, completion_is_unique, least_is_unique, move_is_unique}
@@ -17,10 +15,10 @@ use Rattle.cpn_book.specs.Held.{held_from}
 use Rattle.cpn_book.proofs.HeldClaims.{held_none}
 use Rattle.cpn_book.proofs.OpenClaims.{some_counted}
 use Rattle.cpn_book.specs.States.{open_claims, IsFull, IsIndex, AreReady, claimed_job, cut_events}
-use Rattle.cpn_book.specs.Tickets.{number_of, job_of, evaluated_number}
+use Rattle.cpn_book.specs.Tickets.{number_of, evaluated_number}
 use Rattle.cpn_book.specs.Answers.{AnswersClaim, IsNotCut, AnswersCompletion, AnswersAdvance}
-use Rattle.cpn_book.specs.Books.{setup_in, journal_in, IsBook}
-use Rattle.cpn_book.specs.OneAnswers.{HasOneState, BooksHaveOneState, IsSameClaimed, IsSameCompleted, ClaimsHaveOneAnswer, CompletionsHaveOneAnswer, MovesHaveOneAnswer}
+use Rattle.cpn_book.specs.Books.{setup_in, journal_in}
+use Rattle.cpn_book.specs.OneAnswers.{BooksHaveOneState, IsSameClaimed, IsSameCompleted, ClaimsHaveOneAnswer, CompletionsHaveOneAnswer, MovesHaveOneAnswer}
 use Rattle.cpn_book.specs.declared.answers.Claimed.{Claimed}
 use Rattle.cpn_book.specs.declared.answers.Claimed.TheVariants as claims
 use Rattle.cpn_book.specs.declared.tickets.Evaluated.{Evaluated}

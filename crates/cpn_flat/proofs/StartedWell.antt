@@ -8,7 +8,7 @@ use Rattle.cpn_definitions.specs.Bounds.{last_stamp, IsBounded, IsInTime}
 use Rattle.cpn_definitions.specs.Colour.{PlainColour, admits}
 use Rattle.cpn_definitions.specs.Inscription.{Functions}
 use Rattle.cpn_definitions.specs.Lists.{IsInOrder}
-use Rattle.cpn_definitions.specs.Marking.{PlainToken, Tokens, Marking, tokens_at, AreSorted, token_cmp}
+use Rattle.cpn_definitions.specs.Marking.{PlainToken, Tokens, Marking, AreSorted, token_cmp}
 use Rattle.cpn_definitions.specs.Meaning.{setting_of}
 use Rattle.cpn_definitions.specs.Net.{Coloured, PlainNet, nothing, place_at}
 use Rattle.cpn_definitions.specs.Outcome.{Outcome, gives, faults, no_meaning}

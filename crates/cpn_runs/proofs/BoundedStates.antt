@@ -217,7 +217,7 @@ events_within setup old (event ∷ events) state within leads = events_within se
 
 -- What holds in every state that a journal leads to: the clock is one that the run may reach, no more claims were made than may
 -- be, each claim was made at a time up to the clock, and the marking that the claims leave is one of the net's places, and what as many
--- occurrences leave of the start.
+-- occurrences leave of the start; so is the one that the committed claims leave.
 pub record HasBounds (setup : PlainSetup) (state : PlainState) : Type 0 where
   pub clock : state.clock ≤ setup.limits.until
   pub few_claims : length state.claims ≤ setup.limits.steps
