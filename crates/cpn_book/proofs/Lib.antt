@@ -17,6 +17,7 @@ mod RunningBooks
 mod BoundedBooks
 mod GoingAlone
 mod AloneRows
+mod AnswerRows
 mod PlayedRounds
 mod AnsweredBooks
 mod AnsweredCompletions

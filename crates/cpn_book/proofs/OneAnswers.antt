@@ -1,6 +1,5 @@
--- A call on a book has one answer in a state: so each refusal comes just where what it says holds.
+-- A book has one state, and a call on it one answer in that state: so each answer comes exactly where what it says holds.
 use Rattle.std.proofs.Common.{◌≡◌, ℕ, ◌<◌, ◌≤◌, ◌%◌, true, false, List, [], ◌∷◌, length, Option, Some, None, refl, sym, ap, ◌∙◌, subst, slice_get, arith}
-use Rattle.std.specs.Option.{option_map}
 use Rattle.std.proofs.lemmas.Option.{same_Some}
 use Rattle.cpn_definitions.specs.Enabled.{PlainEntry, Enabled, ready, IsDead}
 use Rattle.cpn_definitions.specs.Legal.{LeastTime}
@@ -9,16 +8,17 @@ use Rattle.cpn_definitions.specs.Occurrence.{covered}
 use Rattle.cpn_definitions.proofs.OneEnabledList.{enabled_is_unique}
 use Rattle.cpn_definitions.proofs.ListItems.{place_known}
 use Rattle.cpn_draw.specs.Draw.{word}
-use Rattle.cpn_jobs.specs.Views.{job_view}
 use Rattle.cpn_runs.specs.HoleRun.{PlainClaim}
 use Rattle.cpn_runs.specs.State.{PlainSetup, PlainState, unclaimed_in, PlainCut, PlainEvent, owed_cut, claim_completed, MayClaim, MayMove}
-use Rattle.cpn_runs.proofs.States.{claim_is_unique, completion_is_unique, least_is_unique, move_is_unique}
+use Rattle.cpn_runs.proofs.States.{one_state, claim_is_unique, completion_is_unique, least_is_unique, move_is_unique}
 use Rattle.cpn_book.specs.Held.{held_from}
 use Rattle.cpn_book.proofs.HeldClaims.{held_none}
 use Rattle.cpn_book.proofs.OpenClaims.{some_counted}
 use Rattle.cpn_book.specs.States.{open_claims, IsFull, IsIndex, AreReady, claimed_job, cut_events}
-use Rattle.cpn_book.specs.Tickets.{number_of, job_of, evaluated_number}
+use Rattle.cpn_book.specs.Tickets.{number_of, evaluated_number}
 use Rattle.cpn_book.specs.Answers.{AnswersClaim, IsNotCut, AnswersCompletion, AnswersAdvance}
+use Rattle.cpn_book.specs.Books.{setup_in, journal_in}
+use Rattle.cpn_book.specs.OneAnswers.{BooksHaveOneState, IsSameClaimed, IsSameCompleted, ClaimsHaveOneAnswer, CompletionsHaveOneAnswer, MovesHaveOneAnswer}
 use Rattle.cpn_book.specs.declared.answers.Claimed.{Claimed}
 use Rattle.cpn_book.specs.declared.answers.Claimed.TheVariants as claims
 use Rattle.cpn_book.specs.declared.tickets.Evaluated.{Evaluated}
@@ -45,15 +45,6 @@ none_or_some : (setup : PlainSetup) (state : PlainState) (n : ℕ) → AreReady 
 none_or_some setup state n none are some = let same : 0 ≡ n = one_ready_count setup state 0 n none are in omega (arith, same, some)
 
 -- ---- a claim
-
--- the same answer: of one kind, with the same numbers, or tickets of the same number and job
-abbrev pub SameClaimed : Claimed → Claimed → Type 0
-SameClaimed claims.Over claims.Over = Unit {0}
-SameClaimed claims.StepLimit claims.StepLimit = Unit {0}
-SameClaimed (claims.Busy number) (claims.Busy number') = number ≡ number'
-SameClaimed (claims.Nothing held) (claims.Nothing held') = held ≡ held'
-SameClaimed (claims.Ticket ticket) (claims.Ticket ticket') = (number_of ticket ≡ number_of ticket') × (job_of ticket ≡ job_of ticket')
-SameClaimed a b = ⊥
 
 -- a claim that may be made is below the limit
 not_full : (setup : PlainSetup) (state : PlainState) (seat number : ℕ) (after : PlainState) → MayClaim setup state seat number after → IsFull setup state → ⊥
@@ -96,7 +87,7 @@ module _ (setup : PlainSetup) (state : PlainState) (seat : ℕ) where
       ap (claimed_job setup) (same_Some claim claim' (sym moved ∙ is'))
 
   -- a claim has one answer in a state
-  pub one_claim_answer : (a b : Claimed) → AnswersClaim setup state seat a → AnswersClaim setup state seat b → SameClaimed a b
+  one_claim_answer : (a b : Claimed) → AnswersClaim setup state seat a → AnswersClaim setup state seat b → IsSameClaimed a b
   one_claim_answer claims.Over claims.Over x y = tt
   one_claim_answer claims.Over claims.StepLimit x y = absurd (x y.0)
   one_claim_answer claims.Over (claims.Busy number) x y = absurd (x y.0)
@@ -127,24 +118,16 @@ module _ (setup : PlainSetup) (state : PlainState) (seat : ℕ) where
 
 -- ---- a completion
 
--- the same answer: of one kind, with the same number, or the same job and evaluation
-abbrev pub SameCompleted : Completed → Completed → Type 0
-SameCompleted completions.Done completions.Done = Unit {0}
-SameCompleted (completions.Void number) (completions.Void number') = number ≡ number'
-SameCompleted (completions.Stranger kept brought) (completions.Stranger kept' brought') =
-    (option_map (λ job. job_view job.value) kept ≡ option_map (λ job. job_view job.value) kept') × (brought ≡ brought')
-SameCompleted a b = ⊥
-
 module _ (setup : PlainSetup) (state : PlainState) (seat : ℕ) (done : Evaluated) where
   cut_or_not : (cut : PlainCut) → state.cut ≡ Some cut → cut.number ≤ evaluated_number done → IsNotCut state (evaluated_number done) → ⊥
   cut_or_not cut is upto not_cut = let above : evaluated_number done < cut.number = not_cut cut is in omega (arith, upto, above)
 
   -- a completion has one answer in a state
-  pub one_completion_answer
+  one_completion_answer
       : (events events' : List PlainEvent) (a b : Completed)
       → AnswersCompletion setup state seat done events a
       → AnswersCompletion setup state seat done events' b
-      → SameCompleted a b
+      → IsSameCompleted a b
   one_completion_answer events events' completions.Done completions.Done x y = tt
   one_completion_answer events events' completions.Done (completions.Void number) x y = absurd (cut_or_not y.1.0 y.1.1 y.1.3 x.0)
   one_completion_answer events events' completions.Done (completions.Stranger kept brought) x y = absurd (y.2 x.1.open_claim)
@@ -158,7 +141,7 @@ module _ (setup : PlainSetup) (state : PlainState) (seat : ℕ) (done : Evaluate
   one_completion_answer events events' (completions.Stranger kept brought) (completions.Stranger kept' brought') x y = (x.3 ∙ sym y.3, x.4 ∙ sym y.4)
 
   -- and it appends the same events
-  pub one_completion_journal
+  one_completion_journal
       : (events events' : List PlainEvent) (a b : Completed)
       → AnswersCompletion setup state seat done events a
       → AnswersCompletion setup state seat done events' b
@@ -231,7 +214,7 @@ none_or_some_open : (setup : PlainSetup) (state : PlainState) (number : ℕ) →
 none_or_some_open setup state number are some none = omega (arith, are, some, none)
 
 -- a move of the clock has one answer in a state
-pub one_advance_answer : (setup : PlainSetup) (state : PlainState) (a b : Advanced) → AnswersAdvance setup state a → AnswersAdvance setup state b → a ≡ b
+one_advance_answer : (setup : PlainSetup) (state : PlainState) (a b : Advanced) → AnswersAdvance setup state a → AnswersAdvance setup state b → a ≡ b
 one_advance_answer setup state moves.Over moves.Over x y = refl
 one_advance_answer setup state moves.Over moves.StepLimit x y = absurd (x y.0)
 one_advance_answer setup state moves.Over moves.Ready x y = absurd (x y.0.0)
@@ -289,3 +272,22 @@ one_advance_answer setup state (moves.Open number) moves.Spent x y = absurd y
 one_advance_answer setup state moves.Dead moves.Spent x y = absurd y
 one_advance_answer setup state (moves.Until time) moves.Spent x y = absurd y
 one_advance_answer setup state (moves.Moved time) moves.Spent x y = absurd y
+
+-- ---- the laws
+
+pub books_have_one_state : BooksHaveOneState
+books_have_one_state book is = record {
+  state = is.state;
+  reached = is.reached;
+  only = λ other at. one_state (setup_in book) (journal_in book) other is.state at is.reached;
+}
+
+pub claims_have_one_answer : ClaimsHaveOneAnswer
+claims_have_one_answer setup state seat a b x y = one_claim_answer setup state seat a b x y
+
+pub completions_have_one_answer : CompletionsHaveOneAnswer
+completions_have_one_answer setup state seat done events events' a b x y =
+    (one_completion_answer setup state seat done events events' a b x y, one_completion_journal setup state seat done events events' a b x y)
+
+pub moves_have_one_answer : MovesHaveOneAnswer
+moves_have_one_answer setup state a b x y = one_advance_answer setup state a b x y

@@ -1,7 +1,6 @@
 -- What the calls on a book answer in a state, and which events they append. Source: own choice.
-use Rattle.std.specs.Prelude.{◌≡◌, ◌≢◌, ℕ, ◌<◌, ◌≤◌, if◌then◌else◌, true, false, List, [], ◌∷◌, ◌++◌, ◌-◌, ◌^◌, length, Option, Some, None, slice_get}
+use Rattle.std.specs.Prelude.{◌≡◌, ◌≢◌, ℕ, ◌<◌, ◌≤◌, if◌then◌else◌, true, false, List, [], ◌∷◌, ◌++◌, length, Option, Some, None, slice_get}
 use Rattle.std.specs.Option.{option_map}
-use Rattle.cpn_definitions.specs.Bounds.{IsBounded}
 use Rattle.cpn_definitions.specs.Enabled.{IsDead}
 use Rattle.cpn_definitions.specs.Legal.{LeastTime}
 use Rattle.cpn_definitions.specs.Marking.{Marking}
@@ -12,6 +11,7 @@ use Rattle.cpn_runs.specs.HoleRun.{PlainClaim, is_open}
 use Rattle.cpn_runs.specs.Run.{IsRun}
 use Rattle.cpn_runs.specs.State.{PlainSetup, PlainState, PlainCut, PlainEvent, PlainEnd, claim_made, claim_completed, clock_moved, unclaimed_in, owed_cut, is_held_by, MayClaim, MayComplete, MayMove, EndsBy}
 use Rattle.cpn_runs.specs.FinishedViews.{setup_view, finished_view}
+use Rattle.cpn_book.specs.Bounds.{EndsInBounds}
 use Rattle.cpn_book.specs.Held.{held_from}
 use Rattle.cpn_book.specs.States.{open_claims, IsFull, AreReady, claimed_job, cut_events}
 use Rattle.cpn_book.specs.Evaluations.{outputs_told}
@@ -143,4 +143,4 @@ AnswersFinish book finishes.Spent = is_spent_in book ≡ true
 AnswersFinish book (finishes.Running same) = (is_spent_in book ≡ false) × (same ≡ book) × InState book (λ state. (cause : PlainEnd) → EndsBy (setup_in book) state cause → ⊥)
 AnswersFinish book (finishes.Ended finished) =
     (is_spent_in book ≡ false) × IsRun (setup_in book) (finished_view finished) × ((finished_view finished).journal ≡ journal_in book) × (setup_view finished.setup ≡ setup_in book)
-    × (finished.clock ≤ (setup_in book).limits.until) × IsBounded (2 ^ 48 - 1) finished.marking
+    × EndsInBounds (setup_in book) (finished_view finished)

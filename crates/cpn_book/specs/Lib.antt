@@ -6,7 +6,9 @@ pub mod DrawnClaims
 pub mod Shown
 pub mod Books
 pub mod States
+pub mod Bounds
 pub mod Answers
+pub mod OneAnswers
 pub mod GoingAlone
 pub mod Steps
 pub mod Held

@@ -1,10 +1,9 @@
 //! A run that one seat takes to its end.
 
-ghost use Rattle.std.specs.Prelude.{◌≡◌, ◌≢◌, ℕ, ◌+◌, ◌-◌, ◌^◌, ◌<◌, ◌≤◌, ◌++◌, Some, None, false, List, length, map, slice_get, IfOk, OnOk, vec_len, vec_capacity};
+ghost use Rattle.std.specs.Prelude.{◌≡◌, ◌≢◌, ℕ, ◌+◌, ◌<◌, ◌≤◌, ◌++◌, Some, None, false, List, length, map, slice_get, IfOk, OnOk, vec_len, vec_capacity};
 ghost use Rattle.std.specs.List.{count_by};
 ghost use Rattle.std.specs.Option.{is_some};
 ghost use Rattle.cpn_core.specs.Elements.{entry_view};
-ghost use Rattle.cpn_definitions.specs.Bounds.{IsBounded};
 ghost use Rattle.cpn_definitions.specs.Enabled.{ready};
 ghost use Rattle.cpn_log.specs.Logs.{claims_made};
 ghost use Rattle.cpn_log.specs.LogViews.{log_view};
@@ -12,6 +11,7 @@ ghost use Rattle.cpn_runs.specs.Playable.{IsPlayable};
 ghost use Rattle.cpn_runs.specs.Run.{IsRun};
 ghost use Rattle.cpn_runs.specs.State.{PlainEvent};
 ghost use Rattle.cpn_runs.specs.FinishedViews.{setup_view, finished_view};
+ghost use Rattle.cpn_book.specs.Bounds.{EndsInBounds};
 ghost use Rattle.cpn_book.specs.Books.{setup_in, journal_in, is_spent_in, IsBook, IsRunning};
 ghost use Rattle.cpn_book.specs.Standings.{IsAt, StillCommitted, events_in};
 ghost use Rattle.cpn_search.specs.PlannedNets.{planned_net, IsPlanned};
@@ -47,10 +47,9 @@ impl Book {
         ensures run { IfOk result (λ f. IsRun (setup_in self) (finished_view f)) }
         // It goes on from the book's journal: by the completions of the open claims, in order of number, and then by rounds of seat 0.
         ensures goes_on { IfOk result (λ f. (more : List PlainEvent) × ((finished_view f).journal ≡ journal_in self ++ more) × GoesOnAlone more) }
-        // The clock does not pass the last time that the run may reach.
-        ensures in_time { IfOk result (λ f. f.clock ≤ (setup_in self).limits.until) }
-        // On each place there are fewer than 2^48 tokens, with time stamps of at most three times the last time.
-        ensures bounded { IfOk result (λ f. IsBounded (2 ^ 48 - 1) f.marking) }
+        // The clock does not pass the last time that the run may reach; each place has tokens of its colour set, fewer than 2^48, and at
+        // most as many more than the start as the occurrences make.
+        ensures bounds { IfOk result (λ f. EndsInBounds (setup_in self) (finished_view f)) }
     {
         if self.spent {
             return Err(Memory);

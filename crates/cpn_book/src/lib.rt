@@ -11,6 +11,7 @@ mod books;
 mod claiming;
 mod completing;
 mod ends;
+mod laws;
 mod occurring;
 mod outlooks;
 mod readers;
@@ -19,4 +20,5 @@ mod tickets;
 
 pub use answers::{Advanced, Claimed, Completed, Finish};
 pub use books::Book;
+pub use laws::{one_answer, phases_go_on};
 pub use tickets::{Evaluated, Ticket};

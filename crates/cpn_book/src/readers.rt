@@ -1,11 +1,12 @@
 //! What is to be read in a book.
 
-ghost use Rattle.std.specs.Prelude.{◌≡◌, ◌≤◌, ◌-◌, ◌^◌, Some, false, map};
+ghost use Rattle.std.specs.Prelude.{◌≡◌, ◌≤◌, ◌-◌, ◌^◌, Some, false, length, map};
 ghost use Rattle.cpn_definitions.specs.Bounds.{IsBounded};
 ghost use Rattle.cpn_definitions.specs.Legal.{Legal, timed};
 ghost use Rattle.cpn_definitions.specs.Sound.{IsMarking};
+ghost use Rattle.cpn_runs.specs.Bounds.{HasGrown};
 ghost use Rattle.cpn_runs.specs.FinishedViews.{setup_view};
-ghost use Rattle.cpn_runs.specs.State.{unclaimed_in, settled_in, committed_occurrences};
+ghost use Rattle.cpn_runs.specs.State.{unclaimed_in, settled_in, committed, committed_occurrences};
 ghost use Rattle.cpn_runs.specs.Views.{event_view};
 ghost use Rattle.cpn_book.specs.Books.{setup_in, journal_in, is_spent_in, InState, IsBook};
 ghost use Rattle.cpn_book.specs.States.{AreReady, IsNextTime, open_claims};
@@ -21,9 +22,12 @@ impl Book {
         requires kept { IsBook self.now }
         requires unspent { is_spent_in self.now ≡ false }
         ensures unclaimed { InState self.now (λ state. unclaimed_in (setup_in self.now) state ≡ Some result.now) }
-        // Each place has tokens of its colour set, fewer than 2^48, with time stamps of at most three times the last time.
+        // Each place has tokens of its colour set, fewer than 2^48.
         ensures marking { IsMarking (setup_in self.now).net.places result.now }
         ensures bounded { IsBounded (2 ^ 48 - 1) result.now }
+        // It has at most as many more than the start as so many occurrences make as there are claims, and no later time stamp than three
+        // times the last time where the start had none.
+        ensures grown { InState self.now (λ state. HasGrown (setup_in self.now).net.places (setup_in self.now).start (length state.claims) result.now) }
     {
         self.standing.log.unclaimed()
     }
@@ -35,10 +39,14 @@ impl Book {
         ensures settled { InState self.now (λ state. settled_in (setup_in self.now) state ≡ Some result.now) }
         // The committed claims are a legal occurrence sequence from the start to it.
         ensures legal { InState self.now (λ state. Legal (setup_in self.now).net (setup_in self.now).start (setup_in self.now).clock (map timed (committed_occurrences (setup_in self.now) state)) result.now state.clock) }
-        // Each place has tokens of its colour set, fewer than 2^48, with time stamps of at most three times the last time.
+        // Each place has tokens of its colour set, fewer than 2^48.
         ensures marking { IsMarking (setup_in self.now).net.places result.now }
         ensures bounded { IsBounded (2 ^ 48 - 1) result.now }
-        // Where no claim is open it is the unclaimed marking.
+        // It has at most as many more than the start as the committed claims make, and no later time stamp than three times the last time
+        // where the start had none.
+        ensures grown { InState self.now (λ state. HasGrown (setup_in self.now).net.places (setup_in self.now).start (committed (setup_in self.now) state) result.now) }
+        // Where no claim is open each claim is committed, and it is the unclaimed marking.
+        ensures all_committed { InState self.now (λ state. open_claims state ≡ 0 → committed (setup_in self.now) state ≡ length state.claims) }
         ensures all { InState self.now (λ state. open_claims state ≡ 0 → unclaimed_in (setup_in self.now) state ≡ Some result.now) }
     {
         self.standing.log.settled()

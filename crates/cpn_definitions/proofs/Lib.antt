@@ -47,6 +47,7 @@ pub mod DelayBounds
 pub mod PlaceCounts
 pub mod PlaceStamps
 pub mod BoundedMarkings
+mod BoundRows
 pub mod SameTokens
 pub mod NumberTests
 pub mod TruthValues

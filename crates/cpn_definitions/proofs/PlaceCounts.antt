@@ -4,7 +4,7 @@ use Rattle.std.proofs.Common.{◌≡◌, ℕ, suc, ◌+◌, ◌*◌, ◌≤◌, 
 use Rattle.std.specs.List.{list_any, flat_map}
 use Rattle.std.proofs.lemmas.List.{length-replicate, length-append}
 use Rattle.cpn_definitions.specs.Value.{PlainValue}
-use Rattle.cpn_definitions.specs.Bounds.{most_made}
+use Rattle.cpn_definitions.specs.Bounds.{most_made, IsBounded}
 use Rattle.cpn_definitions.specs.Lists.{with_item, with_items, in_order}
 use Rattle.cpn_definitions.specs.Marking.{PlainToken, Tokens, Marking, tokens_at, on_place, token_at, token_cmp, add_token, without_token, is_taken_by}
 use Rattle.cpn_definitions.specs.Outcome.{gives}
@@ -90,12 +90,8 @@ not_more_without v t (k ∷ ks) = split (list_any (is_taken_by v t) ks) (is_take
     split false true rest = omega arith
     split false false rest = omega arith
 
--- each place has at most so many tokens
-abbrev pub HasUpTo : ℕ → Marking → Type 0
-HasUpTo number m = (p : ℕ) → length (tokens_at m p) ≤ number
-
 -- what is taken leaves no more
-pub taken_up_to : (latest : Needed → ℕ) (needs : List Needed) (m : Marking) (number : ℕ) → HasUpTo number m → HasUpTo number (subtract latest needs m)
+pub taken_up_to : (latest : Needed → ℕ) (needs : List Needed) (m : Marking) (number : ℕ) → IsBounded number m → IsBounded number (subtract latest needs m)
 taken_up_to latest [] m number up_to = up_to
 taken_up_to latest (need ∷ needs) m number up_to =
     taken_up_to latest needs (on_place need.place (without_token need.value (latest need)) m) number
@@ -103,11 +99,11 @@ taken_up_to latest (need ∷ needs) m number up_to =
     (λ at. let fewer = not_more_without need.value (latest need) (tokens_at m need.place) in omega (arith, at, fewer)))
 
 -- what is put in adds at most as many as there are
-pub added_up_to : (outputs : List Made) (m : Marking) (number : ℕ) → HasUpTo number m → HasUpTo (number + length outputs) (add_made outputs m)
+pub added_up_to : (outputs : List Made) (m : Marking) (number : ℕ) → IsBounded number m → IsBounded (number + length outputs) (add_made outputs m)
 added_up_to [] m number up_to p = let all = up_to p in omega (arith, all)
 added_up_to (made ∷ more) m number up_to p =
     let next = on_place made.place (add_token (token_at made.value made.stamp)) m in
-    let after : HasUpTo (number + 1) next = tokens_on_place (λ q (ks : Tokens). length ks ≤ number + 1) made.place (add_token (token_at made.value made.stamp)) m
+    let after : IsBounded (number + 1) next = tokens_on_place (λ q (ks : Tokens). length ks ≤ number + 1) made.place (add_token (token_at made.value made.stamp)) m
     (λ q. let all = up_to q in omega (arith, all))
     (λ at. let all = up_to made.place in let one = length-add_token (token_at made.value made.stamp) (tokens_at m made.place) in omega (arith, all, one)) in
     let rest = added_up_to more next (number + 1) after p in

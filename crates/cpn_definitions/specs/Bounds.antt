@@ -14,7 +14,10 @@ most_made = 64 * most_tokens
 abbrev pub last_stamp : ℕ
 last_stamp = 3 * last_time
 
--- Bounded: each place has at most so many tokens, none with a later stamp than the latest.
-pub record IsBounded (number : ℕ) (m : Marking) : Type 0 where
-  pub few : (p : ℕ) → length (tokens_at m p) ≤ number
-  pub stamped : (p : ℕ) → list_all (λ token. nat_le token.stamp last_stamp) (tokens_at m p) ≡ true
+-- Bounded: each place has at most so many tokens.
+abbrev pub IsBounded : ℕ → Marking → Type 0
+IsBounded number m = (p : ℕ) → length (tokens_at m p) ≤ number
+
+-- Stamped in time: no token has a later stamp than the latest.
+abbrev pub IsInTime : Marking → Type 0
+IsInTime m = (p : ℕ) → list_all (λ token. nat_le token.stamp last_stamp) (tokens_at m p) ≡ true

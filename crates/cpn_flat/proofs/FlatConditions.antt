@@ -88,5 +88,6 @@ module _ (a : PlainAccepted) (well : IsWellAccepted a) where
               marking = start.marking;
               places = start.long;
               bounded = start.bounded;
+              in_time = start.in_time;
               named = flat_named a well is names classes compound u;
             }

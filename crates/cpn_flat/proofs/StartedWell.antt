@@ -4,11 +4,11 @@ use Rattle.std.specs.Prelude.{Some}
 use Rattle.std.specs.List.{list_all, flat_map, AllByRecursion}
 use Rattle.std.proofs.lemmas.Bool.{and_parts, and_from}
 use Rattle.std.proofs.lemmas.Bool.Decides.{nat_tests}
-use Rattle.cpn_definitions.specs.Bounds.{last_stamp, IsBounded}
+use Rattle.cpn_definitions.specs.Bounds.{last_stamp, IsBounded, IsInTime}
 use Rattle.cpn_definitions.specs.Colour.{PlainColour, admits}
 use Rattle.cpn_definitions.specs.Inscription.{Functions}
 use Rattle.cpn_definitions.specs.Lists.{IsInOrder}
-use Rattle.cpn_definitions.specs.Marking.{PlainToken, Tokens, Marking, tokens_at, AreSorted, token_cmp}
+use Rattle.cpn_definitions.specs.Marking.{PlainToken, Tokens, Marking, AreSorted, token_cmp}
 use Rattle.cpn_definitions.specs.Meaning.{setting_of}
 use Rattle.cpn_definitions.specs.Net.{Coloured, PlainNet, nothing, place_at}
 use Rattle.cpn_definitions.specs.Outcome.{Outcome, gives, faults, no_meaning}
@@ -156,21 +156,19 @@ lists_start n i (initials ∷ written) lists have h =
     (values_start (place_at n i) n.functions initials first.0 here first.1, lists_start n (suc i) written rest.0 (λ c lt. subst (λ k. AreOfColour (place_at n k).colour (slice_index_or written c [])) (one_later i c) (have (suc c) (omega (arith, lt)))) rest.1)
 
 -- a place more
-more_bounded : (tokens : Tokens) (m : Marking) → length tokens ≤ most_tokens → list_all is_stamped tokens ≡ true → IsBounded most_tokens m → IsBounded most_tokens (tokens ∷ m)
-more_bounded tokens m few stamped later = record { few = each_few; stamped = each_stamped }
-  where
-    each_few : (p : ℕ) → length (tokens_at (tokens ∷ m) p) ≤ most_tokens
-    each_few zero = few
-    each_few (suc p) = later.few p
+more_bounded : (tokens : Tokens) (m : Marking) → length tokens ≤ most_tokens → IsBounded most_tokens m → IsBounded most_tokens (tokens ∷ m)
+more_bounded tokens m few later zero = few
+more_bounded tokens m few later (suc p) = later p
 
-    each_stamped : (p : ℕ) → list_all is_stamped (tokens_at (tokens ∷ m) p) ≡ true
-    each_stamped zero = stamped
-    each_stamped (suc p) = later.stamped p
+more_in_time : (tokens : Tokens) (m : Marking) → list_all is_stamped tokens ≡ true → IsInTime m → IsInTime (tokens ∷ m)
+more_in_time tokens m stamped later zero = stamped
+more_in_time tokens m stamped later (suc p) = later p
 
--- A marking of these places, with tokens on each, and bounded.
+-- A marking of these places, with tokens on each, bounded, and stamped in time.
 pub record IsStartOf (places : List Coloured) (m : Marking) : Type 0 where
   pub marking : IsMarking places m
   pub bounded : IsBounded most_tokens m
+  pub in_time : IsInTime m
   pub long : length m ≡ length places
 
 abbrev AreThere : PlainNet → ℕ → List Coloured → Type 0
@@ -180,12 +178,12 @@ later_there : (n : PlainNet) (i : ℕ) (place : Coloured) (places : List Coloure
 later_there n i place places there k = there (suc k) ∙ ap (place_at n) (one_later i k)
 
 marking_from : (n : PlainNet) (i : ℕ) (places : List Coloured) (lists : List (List (List PlainTerm))) (m : Marking) → AreThere n i places → length lists ≡ length places → AreStarts n i lists → AreRead (Shares n) i lists m → IsStartOf places m
-marking_from n i [] [] [] there long starts are = record { marking = tt; bounded = record { few = λ p. omega arith; stamped = λ p. refl }; long = refl }
+marking_from n i [] [] [] there long starts are = record { marking = tt; bounded = λ p. omega arith; in_time = λ p. refl; long = refl }
 marking_from n i (place ∷ places) (values ∷ lists) (tokens ∷ m) there long starts are =
     let here = there 0 ∙ ap (place_at n) (add-zero i) in
     let start = subst (λ (p : Coloured). IsStart p.colour tokens) (sym here) (shared_start (place_at n i) values (read tokens) are.0 starts.0 tokens refl) in
     let later = marking_from n (suc i) places lists m (later_there n i place places there) (shorter (length lists) (length places) long) starts.1 are.1 in
-    record { marking = (start.sorted, start.held, later.marking); bounded = more_bounded tokens m start.few start.stamped later.bounded; long = ap suc later.long }
+    record { marking = (start.sorted, start.held, later.marking); bounded = more_bounded tokens m start.few later.bounded; in_time = more_in_time tokens m start.stamped later.in_time; long = ap suc later.long }
   where
     shorter : (a b : ℕ) → suc a ≡ suc b → a ≡ b
     shorter a b e = omega (arith, e)

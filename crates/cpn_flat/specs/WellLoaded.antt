@@ -1,6 +1,6 @@
 -- What holds of each flat net and its initial marking.
 use Rattle.std.specs.Prelude.{◌≡◌, length}
-use Rattle.cpn_definitions.specs.Bounds.{IsBounded}
+use Rattle.cpn_definitions.specs.Bounds.{IsBounded, IsInTime}
 use Rattle.cpn_definitions.specs.Named.{IsNamed}
 use Rattle.cpn_definitions.specs.Sound.{IsSound, IsMarking}
 use Rattle.cpn_definitions.specs.Terms.{most_tokens}
@@ -13,4 +13,5 @@ pub record IsWellLoaded (loaded : PlainLoaded) : Type 0 where
   pub marking : IsMarking loaded.net.places loaded.initial
   pub places : length loaded.initial ≡ length loaded.net.places
   pub bounded : IsBounded most_tokens loaded.initial
+  pub in_time : IsInTime loaded.initial
   pub named : IsNamed loaded.net

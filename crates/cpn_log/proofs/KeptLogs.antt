@@ -4,13 +4,13 @@ use Rattle.std.specs.List.{AllByRecursion}
 use Rattle.std.specs.Option.{option_map}
 use Rattle.std.proofs.lemmas.List.{length-append, take-append-drop}
 use Rattle.std.proofs.lemmas.Option.{same_Some}
-use Rattle.cpn_definitions.specs.Bounds.{most_made}
+use Rattle.cpn_definitions.specs.Bounds.{most_made, IsBounded}
 use Rattle.cpn_definitions.specs.Lists.{IsInOrder}
 use Rattle.cpn_definitions.specs.Marking.{Marking, tokens_at, stamps}
 use Rattle.cpn_definitions.specs.Value.{PlainValue}
 use Rattle.cpn_definitions.specs.Occurrence.{PlainElement, Needed, Made, needed_cmp, threshold, are_covered, subtract, add_made}
 use Rattle.cpn_definitions.specs.Times.{last_time}
-use Rattle.cpn_definitions.proofs.PlaceCounts.{HasUpTo, taken_up_to}
+use Rattle.cpn_definitions.proofs.PlaceCounts.{taken_up_to}
 use Rattle.cpn_definitions.proofs.Subtraction.{AllAreSorted}
 use Rattle.cpn_definitions.proofs.RisingLists.{each_implied, each_appended}
 use Rattle.cpn_definitions.proofs.RicherMarkings.{sorted_subtracted}
@@ -37,7 +37,7 @@ pub unclaimed_sorted : (log : PlainLog) → IsKept log → AllAreSorted log.uncl
 unclaimed_sorted log kept = subst AllAreSorted (left_is_after log.settled log.claims log.unclaimed kept.left) (left_sorted log.settled log.claims kept.sorted)
 
 -- there is room for what claims in range add, as many as may be made
-pub room_for_all : (m : Marking) (k : ℕ) (claims : List PlainClaim) → HasUpTo (most_after k) m → k + length claims ≤ most_steps → AllByRecursion IsInRange claims → HaveRoomFor (number_added claims) m
+pub room_for_all : (m : Marking) (k : ℕ) (claims : List PlainClaim) → IsBounded (most_after k) m → k + length claims ≤ most_steps → AllByRecursion IsInRange claims → HaveRoomFor (number_added claims) m
 room_for_all m k claims few number each =
     let all = few_added claims each in room_for m (most_after k) (number_added claims) few (omega (arith, all, number))
 
@@ -154,7 +154,7 @@ module _ (log : PlainLog) (place : ℕ) (claim : PlainClaim) (kept : IsKept log)
   room_where_last outputs last few =
       let own : ahead ≡ log.unclaimed = ap (λ cs. after_claims cs ahead) (sym last) ∙ unclaimed_is in
       let each = (all_parts IsInRange parts.before (claim ∷ parts.later) (subst (AllByRecursion IsInRange) parts.is kept.each)).0 in
-      let up_to : HasUpTo (most_after (length log.committed) + number_added parts.before) ahead =
+      let up_to : IsBounded (most_after (length log.committed) + number_added parts.before) ahead =
       taken_up_to (threshold claim.time) claim.needs (after_claims parts.before log.settled) (most_after (length log.committed) + number_added parts.before) (left_up_to parts.before log.settled (most_after (length log.committed)) kept.few) in
       let added_before = few_added parts.before each in
       let number = kept.number in

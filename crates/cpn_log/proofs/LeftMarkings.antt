@@ -2,10 +2,10 @@
 use Rattle.std.proofs.Common.{◌≡◌, ℕ, ◌+◌, ◌-◌, ◌*◌, ◌<◌, ◌≤◌, ◌^◌, List, [], ◌∷◌, ◌++◌, length, Some, refl, arith}
 use Rattle.std.specs.List.{AllByRecursion}
 use Rattle.std.proofs.lemmas.Option.{same_Some}
-use Rattle.cpn_definitions.specs.Bounds.{most_made}
+use Rattle.cpn_definitions.specs.Bounds.{most_made, IsBounded}
 use Rattle.cpn_definitions.specs.Marking.{Marking}
 use Rattle.cpn_definitions.specs.Occurrence.{threshold, subtract}
-use Rattle.cpn_definitions.proofs.PlaceCounts.{HasUpTo, taken_up_to, added_up_to}
+use Rattle.cpn_definitions.proofs.PlaceCounts.{taken_up_to, added_up_to}
 use Rattle.cpn_definitions.proofs.Subtraction.{AllAreSorted}
 use Rattle.cpn_runs.specs.HoleRun.{PlainClaim, added, after_claim, marking_left}
 use Rattle.cpn_runs.proofs.Sequences.{left_parts}
@@ -30,10 +30,10 @@ after_joined (claim ∷ first) more m = after_joined first more (after_claim cla
 
 -- ---- how many tokens
 
-after_up_to : (claim : PlainClaim) (m : Marking) (number : ℕ) → HasUpTo number m → HasUpTo (number + length (added claim.status)) (after_claim claim m)
+after_up_to : (claim : PlainClaim) (m : Marking) (number : ℕ) → IsBounded number m → IsBounded (number + length (added claim.status)) (after_claim claim m)
 after_up_to claim m number few = added_up_to (added claim.status) (subtract (threshold claim.time) claim.needs m) number (taken_up_to (threshold claim.time) claim.needs m number few)
 
-pub left_up_to : (claims : List PlainClaim) (m : Marking) (number : ℕ) → HasUpTo number m → HasUpTo (number + number_added claims) (after_claims claims m)
+pub left_up_to : (claims : List PlainClaim) (m : Marking) (number : ℕ) → IsBounded number m → IsBounded (number + number_added claims) (after_claims claims m)
 left_up_to [] m number few p = let own = few p in omega (arith, own)
 left_up_to (claim ∷ claims) m number few p = let rest = left_up_to claims (after_claim claim m) (number + length (added claim.status)) (after_up_to claim m number few) p in omega (arith, rest)
 
@@ -42,7 +42,7 @@ few_added [] each = omega arith
 few_added (claim ∷ claims) each = let own = each.0.few in let rest = few_added claims each.1 in omega (arith, own, rest)
 
 -- there is room for a number of tokens where there are few
-pub room_for : (m : Marking) (few number : ℕ) → HasUpTo few m → few + number < 2 ^ 48 → HaveRoomFor number m
+pub room_for : (m : Marking) (few number : ℕ) → IsBounded few m → few + number < 2 ^ 48 → HaveRoomFor number m
 room_for m few number up_to room = λ p. (let own = up_to p in omega (arith, own, room))
 
 -- after a claim there is room for what those behind it add

@@ -90,10 +90,10 @@ one_journal setup run =
 
 pub journals_differ : JournalsDiffer
 unfolding report_text
-journals_differ setup setup' run other spelled spelled' printable printable' numbered numbered' e =
+journals_differ setup setup' run other spelled spelled' printable printable' playable playable' is is' e =
     let lines = report_lines traces.On setup run in
     let others = report_lines traces.On setup' other in
     let texts = lines_differ setup.net setup'.net lines others (lines_end_once traces.On setup run spelled printable) (lines_end_once traces.On setup' other spelled' printable') e in
     let told : map schedule_text (run.journal ∷ []) ≡ map schedule_text (other.journal ∷ []) =
     sym (found setup.net lines ∙ ap (map schedule_text) (one_journal setup run)) ∙ ap (filter begins_so) texts ∙ found setup'.net others ∙ ap (map schedule_text) (one_journal setup' other) in
-    schedules_differ run.journal other.journal numbered numbered' (ap (λ ts. get_or ts 0 []) told)
+    schedules_differ setup setup' run other playable playable' is is' (ap (λ ts. get_or ts 0 []) told)

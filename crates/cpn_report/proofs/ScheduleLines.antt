@@ -6,8 +6,10 @@ use Rattle.std.specs.List.{flat_map}
 use Rattle.std.specs.Fmt.{decimal}
 use Rattle.cpn_definitions.specs.DistinctNames.{is_word_byte}
 use Rattle.cpn_runs.specs.State.{PlainEvent, claim_made, claim_completed, clock_moved, cut_made}
+use Rattle.cpn_runs.specs.WithoutSeats.{Kind, claim, completion, move, cut, without_seat, without_seats, AreNumbered}
+use Rattle.cpn_runs.proofs.NumberedJournals.{run_is_numbered}
 use Rattle.cpn_report.specs.Lines.{event_text, schedule_text}
-use Rattle.cpn_report.specs.Schedule.{Kind, claim, completion, move, cut, without_seat, without_seats, AreNumbered, SchedulesDiffer}
+use Rattle.cpn_report.specs.Schedule.{SchedulesDiffer}
 use Rattle.cpn_report.proofs.BytesApart.{numbers_apart}
 
 -- the events, and the end of the line
@@ -61,6 +63,10 @@ told (event ∷ journal) (event' ∷ other) numbered other_numbered e =
     let apart = numbers_apart (without_seat event).1 (without_seat event').1 (line_end journal) (line_end other) numbered.0 other_numbered.0 (line_ends journal) (line_ends other) (ap (drop 2) same) in
     ap₂ (λ (told : Kind × ℕ) rest. told ∷ rest) (ap₂ (λ kind n. (kind, n)) kinds apart.0) (told journal other numbered.1 other_numbered.1 apart.1)
 
-pub schedules_differ : SchedulesDiffer
+lines_differ : (journal other : List PlainEvent) → AreNumbered journal → AreNumbered other → schedule_text journal ≡ schedule_text other → without_seats journal ≡ without_seats other
 unfolding schedule_text line_end
-schedules_differ journal other numbered other_numbered e = told journal other numbered other_numbered (ap (λ text. drop 8 text ++ codes "\n") e)
+lines_differ journal other numbered other_numbered e = told journal other numbered other_numbered (ap (λ text. drop 8 text ++ codes "\n") e)
+
+-- the numbers and times of a run's journal are of 64 bits
+pub schedules_differ : SchedulesDiffer
+schedules_differ setup setup' run run' playable playable' is is' e = lines_differ run.journal run'.journal (run_is_numbered setup run playable is) (run_is_numbered setup' run' playable' is') e

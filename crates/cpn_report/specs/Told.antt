@@ -8,12 +8,13 @@ use Rattle.cpn_definitions.specs.Integers.{has_short_integers, HasShortIntegers}
 use Rattle.cpn_definitions.specs.Named.{has_names}
 use Rattle.cpn_definitions.specs.Net.{PlainNet}
 use Rattle.cpn_definitions.specs.Occurrence.{PlainElement}
+use Rattle.cpn_runs.specs.Playable.{IsPlayable}
+use Rattle.cpn_runs.specs.Run.{PlainFinished, IsRun}
 use Rattle.cpn_runs.specs.State.{PlainSetup}
-use Rattle.cpn_runs.specs.Run.{PlainFinished}
+use Rattle.cpn_runs.specs.WithoutSeats.{without_seats}
 use Rattle.cpn_report.specs.Lines.{Line, element_text, line_text, lines_text}
 use Rattle.cpn_report.specs.Printable.{IsPrintableNet, is_binding_element, IsPrintable}
 use Rattle.cpn_report.specs.Report.{report_lines, report_text}
-use Rattle.cpn_report.specs.Schedule.{without_seats, AreNumbered}
 use Rattle.cpn_report.specs.ValueText.{value_text}
 use Rattle.cpn_report.specs.declared.traces.Trace.{Trace}
 use Rattle.cpn_report.specs.declared.traces.Trace.TheVariants as traces
@@ -63,5 +64,5 @@ LinesDiffer =
 abbrev pub JournalsDiffer : Type 0
 JournalsDiffer =
     (setup other_setup : PlainSetup) (run other : PlainFinished) → HasWellSpelledNames setup.net → HasWellSpelledNames other_setup.net
-    → IsPrintable setup.net run → IsPrintable other_setup.net other → AreNumbered run.journal → AreNumbered other.journal
+    → IsPrintable setup.net run → IsPrintable other_setup.net other → IsPlayable setup → IsPlayable other_setup → IsRun setup run → IsRun other_setup other
     → report_text traces.On setup run ≡ report_text traces.On other_setup other → without_seats run.journal ≡ without_seats other.journal

@@ -1,6 +1,6 @@
 -- The bounds of a run, for any number of seats: what each state keeps of its clock, of its claims and of the marking that they
 -- leave; and what the outputs of a claim keep.
-use Rattle.std.proofs.Common.{◌≡◌, ℕ, zero, suc, ◌+◌, ◌<◌, ◌≤◌, List, [], ◌∷◌, ◌++◌, length, replicate, take, drop, Some, refl, sym, ap, subst, ◌∙◌, arith, length-append}
+use Rattle.std.proofs.Common.{◌≡◌, ℕ, zero, suc, ◌+◌, ◌*◌, ◌<◌, ◌≤◌, List, [], ◌∷◌, ◌++◌, length, replicate, take, drop, Some, refl, sym, ap, subst, ◌∙◌, arith, length-append}
 use Rattle.std.specs.List.{flat_map, AllByRecursion}
 use Rattle.std.proofs.lemmas.Bool.{and_parts}
 use Rattle.std.proofs.lemmas.List.{take-append-drop, length-take}
@@ -9,25 +9,26 @@ use Rattle.cpn_definitions.specs.Bounds.{most_made, IsBounded}
 use Rattle.cpn_definitions.specs.Lists.{in_order}
 use Rattle.cpn_definitions.specs.Marking.{Marking}
 use Rattle.cpn_definitions.specs.Meaning.{PlainBinding}
-use Rattle.cpn_definitions.specs.Net.{PlainArc, PlainTransition, PlainNet, transition_at}
+use Rattle.cpn_definitions.specs.Net.{PlainArc, PlainTransition, PlainNet, Coloured, transition_at}
 use Rattle.cpn_definitions.specs.Occurrence.{PlainElement, Made, made_cmp, gather, threshold, made_by, stamp_on, transition_delay, outputs_of, subtract, add_made}
 use Rattle.cpn_definitions.specs.Outcome.{gives}
 use Rattle.cpn_definitions.specs.Sound.{IsSoundArc, IsSoundTransition, IsSound, IsMarking}
 use Rattle.cpn_definitions.specs.Terms.{PlainTerm, terms_of}
 use Rattle.cpn_definitions.specs.Times.{last_time}
-use Rattle.cpn_definitions.proofs.BoundedMarkings.{bounded_by, taken_bounded, made_bounded}
+use Rattle.cpn_definitions.proofs.BoundedMarkings.{bounded_by, taken_in_time, made_bounded, made_in_time}
 use Rattle.cpn_definitions.proofs.LegalSequences.{covered_is_bound}
 use Rattle.cpn_definitions.proofs.Markings.{MayBeHeld, subtracted_marking, outputs_sound_at, outputs_held, occurred_marking}
 use Rattle.cpn_definitions.proofs.OrderedLists.{each_with_items}
 use Rattle.cpn_definitions.proofs.Outcomes.{bound_parts, same_given}
-use Rattle.cpn_definitions.proofs.PlaceCounts.{outputs_are_few}
+use Rattle.cpn_definitions.proofs.PlaceCounts.{outputs_are_few, taken_up_to}
 use Rattle.cpn_definitions.proofs.RisingLists.{each_in, each_implied, each_appended, each_flat}
 use Rattle.cpn_definitions.proofs.SoundElements.{sound_transition}
 use Rattle.cpn_definitions.proofs.ListItems.{split_at, all_parts}
-use Rattle.cpn_runs.specs.Bounds.{most_after}
+use Rattle.cpn_runs.specs.Bounds.{HasGrown}
 use Rattle.cpn_runs.specs.HoleRun.{PlainClaim, Status, open_claim, done_with, faulted_with, added, after_claim, marking_left}
 use Rattle.cpn_runs.specs.Playable.{IsPlayable}
-use Rattle.cpn_runs.specs.State.{PlainSetup, PlainEvent, claim_made, claim_completed, clock_moved, cut_made, PlainState, first_state, unclaimed_in, new_claim, MayClaim, MayComplete, MayMove, MayCut, Happens, Leads, IsState}
+use Rattle.cpn_runs.specs.State.{PlainSetup, PlainEvent, claim_made, claim_completed, clock_moved, cut_made, PlainState, first_state, unclaimed_in, settled_in, committed, new_claim, MayClaim, MayComplete, MayMove, MayCut, Happens, Leads, IsState}
+use Rattle.cpn_runs.proofs.Cuts.{as_many_are_committed}
 use Rattle.cpn_runs.proofs.Journals.{outputs_are}
 use Rattle.cpn_runs.proofs.Sequences.{left_parts}
 use Rattle.cpn_runs.proofs.States.{IsClaimOf, every_state}
@@ -89,60 +90,74 @@ claim_has_few_outputs setup claim outputs playable is made = record {
 
 -- ---- the marking that claims leave
 
--- What a marking keeps that so many claims leave: it is one of the net's places, and bounded by their number.
-pub record IsWithinBounds (setup : PlainSetup) (number : ℕ) (m : Marking) : Type 0 where
-  pub marking : IsMarking setup.net.places m
-  pub bounded : IsBounded (most_after number) m
+-- what no occurrence leaves is what there was
+pub none_grown : (places : List Coloured) (m : Marking) → HasGrown places m 0 m
+none_grown places m = record { marking = λ is. is; few = λ number is p. (let own = is p in omega (arith, own)); in_time = λ is. is }
 
--- a claim keeps a marking of the net's places, bounded by one claim more
-pub claim_keeps : (setup : PlainSetup) (claim : PlainClaim) (number : ℕ) (m : Marking) → IsPlayable setup → IsClaimOf setup claim → claim.time ≤ last_time → IsWithinBounds setup number m → IsWithinBounds setup (number + 1) (after_claim claim m)
-claim_keeps setup claim number m playable is early kept = split claim.status refl
+-- a marking has grown by what some occurrences leave, and by what others leave of that
+pub grown_on : (places : List Coloured) (start mid last : Marking) (i j : ℕ) → HasGrown places start i mid → HasGrown places mid j last → HasGrown places start (i + j) last
+grown_on places start mid last i j first second = record {
+  marking = λ is. second.marking (first.marking is);
+  few = λ number is p. (let all = second.few (number + i * most_made) (first.few number is) p in omega (arith, all));
+  in_time = λ is. second.in_time (first.in_time is);
+}
+
+-- and it has not grown by more than by what more occurrences leave
+pub grown_by : (places : List Coloured) (start last : Marking) (i j : ℕ) → i ≤ j → HasGrown places start i last → HasGrown places start j last
+grown_by places start last i j le grown = record {
+  marking = grown.marking;
+  few = λ number is p. (let all = grown.few number is p in omega (arith, all, le));
+  in_time = grown.in_time;
+}
+
+-- a claim leaves what one occurrence leaves
+claim_grows : (setup : PlainSetup) (claim : PlainClaim) (m : Marking) → IsPlayable setup → IsClaimOf setup claim → claim.time ≤ last_time → HasGrown setup.net.places m 1 (after_claim claim m)
+claim_grows setup claim m playable is early = split claim.status refl
   where
     left : Marking
     left = subtract (threshold claim.time) claim.needs m
 
-    left_marking : IsMarking setup.net.places left
-    left_marking = subtracted_marking setup.net.places (threshold claim.time) claim.needs m kept.marking
+    left_bounded : (number : ℕ) → IsBounded number m → IsBounded number left
+    left_bounded number up_to = taken_up_to (threshold claim.time) claim.needs m number up_to
 
-    left_bounded : IsBounded (most_after number) left
-    left_bounded = taken_bounded (threshold claim.time) claim.needs m (most_after number) kept.bounded
+    none_added : HasGrown setup.net.places m 1 left
+    none_added = record {
+      marking = subtracted_marking setup.net.places (threshold claim.time) claim.needs m;
+      few = λ number up_to. bounded_by number (number + 1 * most_made) left (omega arith) (left_bounded number up_to);
+      in_time = taken_in_time (threshold claim.time) claim.needs m;
+    }
 
-    more : most_after number ≤ most_after (number + 1)
-    more = omega arith
-
-    much_more : most_after number + most_made ≤ most_after (number + 1)
-    much_more = omega arith
-
-    none_added : IsWithinBounds setup (number + 1) left
-    none_added = record { marking = left_marking; bounded = bounded_by (most_after number) (most_after (number + 1)) left more left_bounded }
-
-    split : (status : Status) → claim.status ≡ status → IsWithinBounds setup (number + 1) (add_made (added status) (subtract (threshold claim.time) claim.needs m))
+    split : (status : Status) → claim.status ≡ status → HasGrown setup.net.places m 1 (add_made (added status) (subtract (threshold claim.time) claim.needs m))
     split open_claim e = none_added
     split (done_with made) e =
         let outputs : outputs_of setup.net claim.element claim.time ≡ gives made = outputs_are setup claim made is e in
         record {
-          marking = occurred_marking setup.net (threshold claim.time) claim.needs claim.element claim.time made m playable.sound outputs kept.marking;
-          bounded = bounded_by (most_after number + most_made) (most_after (number + 1)) (add_made made left) much_more (made_bounded setup.net claim.element claim.time made (claim_is_sound setup claim playable is) early outputs left (most_after number) left_bounded);
+          marking = occurred_marking setup.net (threshold claim.time) claim.needs claim.element claim.time made m playable.sound outputs;
+          few = λ number up_to. bounded_by (number + most_made) (number + 1 * most_made) (add_made made left) (omega arith)
+              (made_bounded setup.net claim.element claim.time made outputs (claim_is_sound setup claim playable is) left number (left_bounded number up_to));
+          in_time = λ stamped. made_in_time setup.net claim.element claim.time made outputs early left (taken_in_time (threshold claim.time) claim.needs m stamped);
         }
     split (faulted_with fault) e = none_added
 
--- claims keep a marking of the net's places, bounded by as many claims more
-pub claims_keep : (setup : PlainSetup) (claims : List PlainClaim) (number : ℕ) (m last : Marking) → IsPlayable setup → AllByRecursion (IsClaimOf setup) claims → AllByRecursion (λ claim. claim.time ≤ last_time) claims → IsWithinBounds setup number m
-    → marking_left m claims ≡ Some last → IsWithinBounds setup (number + length claims) last
-claims_keep setup [] number m last playable each early kept is =
-    let none : number ≡ number + 0 = omega arith in
-    subst (λ (k : ℕ). IsWithinBounds setup k last) none (subst (IsWithinBounds setup number) (same_Some m last is) kept)
-claims_keep setup (claim ∷ claims) number m last playable each early kept is =
-    let one : (number + 1) + length claims ≡ number + suc (length claims) = omega arith in
-    subst (λ (k : ℕ). IsWithinBounds setup k last) one
-    (claims_keep setup claims (number + 1) (after_claim claim m) last playable each.1 early.1 (claim_keeps setup claim number m playable each.0 early.0 kept) (left_parts m claim claims last is).1)
+-- claims leave what as many occurrences leave
+pub claims_grow : (setup : PlainSetup) (claims : List PlainClaim) (m last : Marking) → IsPlayable setup → AllByRecursion (IsClaimOf setup) claims → AllByRecursion (λ claim. claim.time ≤ last_time) claims
+    → marking_left m claims ≡ Some last → HasGrown setup.net.places m (length claims) last
+claims_grow setup [] m last playable each early is = subst (HasGrown setup.net.places m 0) (same_Some m last is) (none_grown setup.net.places m)
+claims_grow setup (claim ∷ claims) m last playable each early is =
+    let one : 1 + length claims ≡ suc (length claims) = omega arith in
+    subst (λ (k : ℕ). HasGrown setup.net.places m k last) one
+    (grown_on setup.net.places m (after_claim claim m) last 1 (length claims) (claim_grows setup claim m playable each.0 early.0) (claims_grow setup claims (after_claim claim m) last playable each.1 early.1 (left_parts m claim claims last is).1))
 
 -- ---- how many claims there are, and when they were made
 
 -- Within the limits: there are no more claims than may be, each made at a time up to the clock.
-record IsWithin (setup : PlainSetup) (state : PlainState) : Type 0 where
-  few_claims : length state.claims ≤ setup.limits.steps
-  in_time : AllByRecursion (λ claim. claim.time ≤ state.clock) state.claims
+pub record IsWithin (setup : PlainSetup) (state : PlainState) : Type 0 where
+  pub few_claims : length state.claims ≤ setup.limits.steps
+  pub in_time : AllByRecursion (λ claim. claim.time ≤ state.clock) state.claims
+
+-- it is so at the start
+pub first_within : (setup : PlainSetup) → IsWithin setup (first_state setup)
+first_within setup = record { few_claims = omega arith; in_time = tt }
 
 claim_within : (setup : PlainSetup) (old : PlainState) (seat number : ℕ) (new : PlainState) → IsWithin setup old → MayClaim setup old seat number new → IsWithin setup new
 claim_within setup old seat number new within c =
@@ -188,7 +203,7 @@ cut_within setup old number new within c =
       in_time = (all_parts (λ k. k.time ≤ old.clock) (take number old.claims) (drop number old.claims) whole).0;
     })
 
-event_within : (setup : PlainSetup) (old : PlainState) (event : PlainEvent) (new : PlainState) → IsWithin setup old → Happens setup old event new → IsWithin setup new
+pub event_within : (setup : PlainSetup) (old : PlainState) (event : PlainEvent) (new : PlainState) → IsWithin setup old → Happens setup old event new → IsWithin setup new
 event_within setup old (claim_made seat number) new within happens = claim_within setup old seat number new within happens
 event_within setup old (claim_completed seat number) new within happens = completion_within setup old seat number new within happens
 event_within setup old (clock_moved time) new within happens = move_within setup old time new within happens
@@ -201,14 +216,15 @@ events_within setup old (event ∷ events) state within leads = events_within se
 -- ---- every state
 
 -- What holds in every state that a journal leads to: the clock is one that the run may reach, no more claims were made than may
--- be, each claim was made at a time up to the clock, and the marking that the claims leave is one of the net's places and bounded
--- by their number.
+-- be, each claim was made at a time up to the clock, and the marking that the claims leave is one of the net's places, and what as many
+-- occurrences leave of the start; so is the one that the committed claims leave.
 pub record HasBounds (setup : PlainSetup) (state : PlainState) : Type 0 where
   pub clock : state.clock ≤ setup.limits.until
   pub few_claims : length state.claims ≤ setup.limits.steps
   pub claims_in_time : AllByRecursion (λ claim. claim.time ≤ state.clock) state.claims
   pub marking : (m : Marking) → unclaimed_in setup state ≡ Some m → IsMarking setup.net.places m
-  pub bounded : (m : Marking) → unclaimed_in setup state ≡ Some m → IsBounded (most_after (length state.claims)) m
+  pub grown : (m : Marking) → unclaimed_in setup state ≡ Some m → HasGrown setup.net.places setup.start (length state.claims) m
+  pub settled : (m : Marking) → settled_in setup state ≡ Some m → HasGrown setup.net.places setup.start (committed setup state) m
 
 -- each state that a journal leads to has its bounds, for any number of seats
 pub every_state_has_bounds : (setup : PlainSetup) (journal : List PlainEvent) (state : PlainState) → IsPlayable setup → IsState setup journal state → HasBounds setup state
@@ -216,28 +232,32 @@ every_state_has_bounds setup journal state playable reached = record {
   clock = clock;
   few_claims = within.few_claims;
   claims_in_time = within.in_time;
-  marking = λ m is. (kept m is).marking;
-  bounded = λ m is. (kept m is).bounded;
+  marking = λ m is. (grown m is).marking playable.marking;
+  grown = grown;
+  settled = settled;
 }
   where
-    first : IsWithin setup (first_state setup)
-    first = record { few_claims = omega arith; in_time = tt }
-
     within : IsWithin setup state
-    within = events_within setup (first_state setup) journal state first reached
+    within = events_within setup (first_state setup) journal state (first_within setup) reached
 
     clock : state.clock ≤ setup.limits.until
     clock = (every_state setup journal state reached).clock_in_time playable.clock
+
+    claims_are : AllByRecursion (IsClaimOf setup) state.claims
+    claims_are = (every_state setup journal state reached).claims_are
 
     early : AllByRecursion (λ (claim : PlainClaim). claim.time ≤ last_time) state.claims
     early =
         let until = playable.until in
         each_implied (λ k. k.time ≤ state.clock) (λ k. k.time ≤ last_time) state.claims (λ k up_to. omega (arith, up_to, clock, until)) within.in_time
 
-    none : 0 + length state.claims ≡ length state.claims
-    none = omega arith
+    grown : (m : Marking) → unclaimed_in setup state ≡ Some m → HasGrown setup.net.places setup.start (length state.claims) m
+    grown m is = claims_grow setup state.claims setup.start m playable claims_are early is
 
-    kept : (m : Marking) → unclaimed_in setup state ≡ Some m → IsWithinBounds setup (length state.claims) m
-    kept m is =
-        subst (λ (k : ℕ). IsWithinBounds setup k m) none
-        (claims_keep setup state.claims 0 setup.start m playable (every_state setup journal state reached).claims_are early (record { marking = playable.marking; bounded = playable.bounded }) is)
+    settled : (m : Marking) → settled_in setup state ≡ Some m → HasGrown setup.net.places setup.start (committed setup state) m
+    settled m is =
+        let k = committed setup state in
+        let whole : state.claims ≡ take k state.claims ++ drop k state.claims = sym (take-append-drop k state.claims) in
+        let front : (P : PlainClaim → Type 0) → AllByRecursion P state.claims → AllByRecursion P (take k state.claims) = λ P each. (all_parts P (take k state.claims) (drop k state.claims) (subst (AllByRecursion P) whole each)).0 in
+        subst (λ (number : ℕ). HasGrown setup.net.places setup.start number m) (as_many_are_committed state.claims)
+        (claims_grow setup (take k state.claims) setup.start m playable (front (IsClaimOf setup) claims_are) (front (λ claim. claim.time ≤ last_time) early) is)

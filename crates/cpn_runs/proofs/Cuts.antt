@@ -39,6 +39,12 @@ as_many_are_committed [] = refl
 as_many_are_committed (claim ∷ claims) =
     cond_both (is_done claim.status) (suc (done_prefix claims)) 0 (λ k. length (take k (claim ∷ claims)) ≡ k) (λ h. ap (λ (k : ℕ). suc k) (as_many_are_committed claims)) (λ _. refl)
 
+-- no more are committed than there are
+pub no_more_committed : (claims : List PlainClaim) → done_prefix claims ≤ length claims
+no_more_committed [] = omega arith
+no_more_committed (claim ∷ claims) =
+    cond_both (is_done claim.status) (suc (done_prefix claims)) 0 (λ k. k ≤ suc (length claims)) (λ _. let rest = no_more_committed claims in omega (arith, rest)) (λ _. omega arith)
+
 -- claims that are all done are all committed
 pub done_are_all : (claims : List PlainClaim) → AreDone claims → done_prefix claims ≡ length claims
 done_are_all [] done = refl

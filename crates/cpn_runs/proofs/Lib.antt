@@ -7,6 +7,8 @@ mod OneJournal
 pub mod OneRun
 pub mod Journals
 pub mod BoundedStates
+pub mod GrownRuns
+pub mod NumberedJournals
 mod Picks
 mod CarriedStamps
 mod TwoPlaces
@@ -20,3 +22,4 @@ mod WorkedNet
 mod TwoSeats
 mod FaultyRuns
 mod MovedRows
+mod PlayableRows

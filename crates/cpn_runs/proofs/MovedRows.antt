@@ -7,13 +7,13 @@ use Rattle.cpn_definitions.specs.Legal.{LeastTime}
 use Rattle.cpn_definitions.proofs.TruthValues.{not_both}
 use Rattle.cpn_runs.specs.HoleRun.{PlainClaim, done_with}
 use Rattle.cpn_runs.specs.State.{PlainSetup, claim_made, claim_completed, clock_moved, dead, steps_made, until_passed, PlainState, first_state, new_claim, MayClaim, MayComplete, MayMove, EndsBy}
-use Rattle.cpn_runs.specs.Run.{IsRun}
+use Rattle.cpn_runs.specs.Run.{PlainFinished, IsRun}
 use Rattle.cpn_runs.proofs.States.{least_is_unique}
 use Rattle.cpn_runs.proofs.TwoSeats.{drawn_alone, enabled_now}
 use Rattle.cpn_runs.proofs.WorkedNet.{seven, worked, move, seven_at_three, moved, entry, covered_at_three, covered_no_earlier, after_three, least_is_three, one_is_enabled, no_other, moved_is_dead, none_is_enabled}
 
 -- runs that may make so many claims up to a last time
-abbrev setup : ℕ → ℕ → PlainSetup
+abbrev pub setup : ℕ → ℕ → PlainSetup
 setup steps until = record { net = worked; start = seven_at_three; clock = 0; limits = record { steps = steps; until = until; seats = 1 }; seed = 11 }
 
 -- a state at a clock with these claims
@@ -95,7 +95,8 @@ completes_at_three : MayComplete (setup 2 3) (state 3 (opened ∷ [])) 0 0 (stat
 unfolding outputs_of
 completes_at_three = record { none_owed = refl; held_claim = opened; claim_is = refl; held = refl; status = done_with (output ∷ []); status_is = refl; new_is = refl }
 
-moved_run : IsRun (setup 2 3) (record {
+abbrev pub moved_shown : PlainFinished
+moved_shown = record {
   opening = record { ready_count = 0; next = Some 3 };
   journal = clock_moved 3 ∷ claim_made 0 0 ∷ claim_completed 0 0 ∷ [];
   occurrences = record { number = 0; time = 3; element = move } ∷ [];
@@ -103,7 +104,9 @@ moved_run : IsRun (setup 2 3) (record {
   clock = 3;
   cause = dead;
   closing = record { ready_count = 0; next = None };
-})
+}
+
+pub moved_run : IsRun (setup 2 3) moved_shown
 unfolding covered needs_of outputs_of after
 moved_run = record {
   state = state 3 (done ∷ []);

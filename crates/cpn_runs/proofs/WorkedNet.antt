@@ -6,7 +6,7 @@ use Rattle.std.proofs.lemmas.Option.{same_Some}
 use Rattle.cpn_definitions.specs.Value.{PlainValue, int}
 use Rattle.cpn_definitions.specs.Colour.{PlainColour, int_shape}
 use Rattle.cpn_definitions.specs.Marking.{Marking, token_at}
-use Rattle.cpn_definitions.specs.Inscription.{literal, one}
+use Rattle.cpn_definitions.specs.Inscription.{literal, literal_pattern, one}
 use Rattle.cpn_definitions.specs.Net.{PlainNet, PlainTransition, transition_at}
 use Rattle.cpn_definitions.specs.Meaning.{PlainBinding}
 use Rattle.cpn_definitions.specs.Occurrence.{PlainElement, binds, guard_holds, may_occur, covered, needs_of, outputs_of, after}
@@ -27,7 +27,7 @@ move_transition = record {
   name = [];
   guard = [];
   delay = Some (literal (int (pos 2)));
-  inputs = record { place = 0; colour = digits; expr = one (literal seven); terms = [] } ∷ [];
+  inputs = record { place = 0; colour = digits; expr = one (literal seven); terms = record { count = 1; pattern = literal_pattern seven } ∷ [] } ∷ [];
   outputs = record { place = 1; colour = digits; expr = one (literal seven); terms = [] } ∷ [];
   vars = [];
 }

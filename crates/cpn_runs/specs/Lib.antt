@@ -6,3 +6,5 @@ pub mod Views
 pub mod FinishedViews
 pub mod Bounds
 pub mod Playable
+pub mod Phases
+pub mod WithoutSeats

@@ -1,5 +1,5 @@
 -- A run stands at its start where no claim is made and no seat holds one.
-use Rattle.std.proofs.Common.{◌≡◌, ℕ, zero, suc, ◌<◌, arith, map, take, List, [], length, replicate, Option, Some, None, refl, sym, ap, ◌∙◌, subst, slice_get}
+use Rattle.std.proofs.Common.{◌≡◌, ℕ, zero, suc, ◌<◌, ◌≤◌, ◌^◌, arith, map, take, List, [], length, replicate, Option, Some, None, refl, sym, ap, ◌∙◌, subst, slice_get}
 use Rattle.cpn_definitions.specs.Marking.{Marking, tokens_at, AreSorted}
 use Rattle.cpn_definitions.proofs.Markings.{held_at}
 use Rattle.cpn_log.specs.Kept.{IsKept}
@@ -19,6 +19,9 @@ use Rattle.cpn_book.proofs.standings.at_start.Goals as goal
 
 pub start-requires-clause-sorted : goal.start-requires-clause-sorted
 start-requires-clause-sorted c = λ p. subst (λ (m : Marking). AreSorted (tokens_at m p)) (sym c.in_ok-copy.ensures.same) (held_at (setup_view c.args.setup.now).net.places c.args.setup.now.start c.requires.playable.marking p).0
+
+pub start-requires-clause-few : goal.start-requires-clause-few
+start-requires-clause-few c = λ p. subst (λ (m : Marking). length (tokens_at m p) ≤ 2 ^ 47) (sym c.in_ok-copy.ensures.same) (c.requires.playable.bounded p)
 
 abbrev nobody : Option ℕ
 nobody = None

@@ -1,4 +1,4 @@
--- A run with an open claim has no end; what is shown is a run, which is in time and bounded.
+-- A run with an open claim has no end; what is shown is a run, which ends within its bounds.
 use Rattle.std.proofs.Common.{◌<◌, refl, ap, ◌∙◌, arith}
 use Rattle.std.specs.List.{count_by}
 use Rattle.std.specs.Option.{is_some}
@@ -7,7 +7,7 @@ use Rattle.cpn_runs.specs.Run.{PlainFinished, IsRun}
 use Rattle.cpn_runs.specs.Views.{end_view}
 use Rattle.cpn_book.specs.Books.{setup_in}
 use Rattle.cpn_book.proofs.AnsweredBooks.{open_has_no_end}
-use Rattle.cpn_book.proofs.BoundedBooks.{shown_run, run_in_time, run_bounded}
+use Rattle.cpn_book.proofs.BoundedBooks.{shown_run, run_ends_in_bounds}
 use Rattle.cpn_book.proofs.books.Book.finish.Goals as goal
 
 pub returns-then-open-gt0 : goal.returns-then-open-gt0
@@ -29,7 +29,6 @@ returns-in-Some c =
         run,
         ap (λ (shown : PlainFinished). shown.journal) c.ended.ensures.shown ∙ c.take_end.ensures.journal,
         c.ended.ensures.setup ∙ c.take_end.ensures.setup,
-        run_in_time s f c.requires.kept.playable run,
-        run_bounded s f c.requires.kept.playable run,
+        run_ends_in_bounds s f c.requires.kept.playable run,
       );
     }

@@ -1,4 +1,4 @@
--- A round leads from a book to a book, and what is shown at the end is a run, which is in time and bounded.
+-- A round leads from a book to a book, and what is shown at the end is a run, which ends within its bounds.
 use Rattle.std.proofs.Common.{◌≡◌, ◌++◌, sym, ap, ◌∙◌, subst, arith, append_assoc}
 use Rattle.cpn_log.specs.Logs.{claims_made}
 use Rattle.cpn_log.specs.LogViews.{log_view}
@@ -6,21 +6,15 @@ use Rattle.cpn_runs.specs.Views.{end_view}
 use Rattle.cpn_runs.specs.FinishedViews.{setup_view, finished_view}
 use Rattle.cpn_book.specs.Books.{setup_in, journal_in, IsBook}
 use Rattle.cpn_book.specs.declared.books.Book.{Book}
-use Rattle.cpn_book.proofs.BoundedBooks.{shown_run, run_in_time, run_bounded}
+use Rattle.cpn_book.proofs.BoundedBooks.{shown_run, run_ends_in_bounds}
 use Rattle.cpn_book.proofs.GoingAlone.{goes_on_by, goes_on_from}
 use Rattle.cpn_book.proofs.RunningBooks.{running_is_book}
 use Rattle.cpn_book.proofs.books.Book.run_alone.Goals as goal
 
-pub returns-in-Some-clause-in_time : goal.returns-in-Some-clause-in_time
-returns-in-Some-clause-in_time c =
+pub returns-in-Some-clause-bounds : goal.returns-in-Some-clause-bounds
+returns-in-Some-clause-bounds c =
     let s = setup_in c.args.self in
-    run_in_time s (finished_view c.ended.result) c.requires.kept.playable
-    (shown_run s c.take_end.new.self (end_view c.in-Some.cause) (finished_view c.ended.result) c.in-Some.ensures.end c.ended.ensures.shown (c.take_end.ensures.setup ∙ ap setup_view c.loop-number.invariant.setup))
-
-pub returns-in-Some-clause-bounded : goal.returns-in-Some-clause-bounded
-returns-in-Some-clause-bounded c =
-    let s = setup_in c.args.self in
-    run_bounded s (finished_view c.ended.result) c.requires.kept.playable
+    run_ends_in_bounds s (finished_view c.ended.result) c.requires.kept.playable
     (shown_run s c.take_end.new.self (end_view c.in-Some.cause) (finished_view c.ended.result) c.in-Some.ensures.end c.ended.ensures.shown (c.take_end.ensures.setup ∙ ap setup_view c.loop-number.invariant.setup))
 
 pub complete_open-requires-clause-running : goal.complete_open-requires-clause-running
@@ -57,14 +51,8 @@ loop-number-preserved c =
       made = λ uncut. (let one = c.in_ok-play_round.ensures.made uncut in let old = ap (λ (b : Book). claims_made (log_view b.standing.log)) same in let number = c.loop-number.invariant.made goes_on.uncut in omega (arith, one, old, number));
     }
 
-pub returns-clause-in_time : goal.returns-clause-in_time
-returns-clause-in_time c =
+pub returns-clause-bounds : goal.returns-clause-bounds
+returns-clause-bounds c =
     let s = setup_in c.args.self in
-    run_in_time s (finished_view c.ended-in-Some-take_end.result) c.requires.kept.playable
-    (shown_run s c.take_end-2.new.self (end_view c.in-Some-take_end.cause) (finished_view c.ended-in-Some-take_end.result) c.in-Some-take_end.ensures.end c.ended-in-Some-take_end.ensures.shown (c.take_end-2.ensures.setup ∙ ap setup_view c.loop-number.invariant.setup))
-
-pub returns-clause-bounded : goal.returns-clause-bounded
-returns-clause-bounded c =
-    let s = setup_in c.args.self in
-    run_bounded s (finished_view c.ended-in-Some-take_end.result) c.requires.kept.playable
+    run_ends_in_bounds s (finished_view c.ended-in-Some-take_end.result) c.requires.kept.playable
     (shown_run s c.take_end-2.new.self (end_view c.in-Some-take_end.cause) (finished_view c.ended-in-Some-take_end.result) c.in-Some-take_end.ensures.end c.ended-in-Some-take_end.ensures.shown (c.take_end-2.ensures.setup ∙ ap setup_view c.loop-number.invariant.setup))
