@@ -1,5 +1,5 @@
 -- The text of a binding element tells it apart from each other one of its net, and from what follows it.
-use Rattle.std.proofs.Common.{◌≡◌, ◌∙◌, refl, sym, ap, ap₂, subst, ℕ, ◌<◌, ◌==◌, Bool, true, false, ◌&&◌, nat_lt, List, [], ◌∷◌, ◌++◌, length, map, drop, get_or, append_assoc, arith}
+use Rattle.std.proofs.Common.{◌≡◌, ◌∙◌, refl, sym, ap, ap₂, subst, ℕ, ◌<◌, ◌==◌, true, ◌&&◌, nat_lt, List, [], ◌∷◌, ◌++◌, length, map, drop, append_assoc}
 use Rattle.std.specs.Prelude.{codes}
 use Rattle.std.specs.List.{list_all, flat_map}
 use Rattle.std.proofs.lemmas.Bool.{and_parts, and_from, eqb-true, ltb-true}
@@ -9,7 +9,7 @@ use Rattle.cpn_definitions.specs.Colour.{admits}
 use Rattle.cpn_definitions.specs.DistinctNames.{HasDistinctNames, HasWellSpelledNames, is_path_byte}
 use Rattle.cpn_definitions.specs.Integers.{HasShortIntegers, is_short}
 use Rattle.cpn_definitions.specs.Meaning.{PlainBinding}
-use Rattle.cpn_definitions.specs.Named.{IsNamed, is_named}
+use Rattle.cpn_definitions.specs.Named.{is_named}
 use Rattle.cpn_definitions.specs.Net.{PlainNet, nothing, variable_at, transition_at}
 use Rattle.cpn_definitions.specs.Occurrence.{PlainElement, binds}
 use Rattle.cpn_report.specs.Lines.{pair_text, binding_text, element_text}

@@ -1,31 +1,30 @@
 -- No text of a line has a line feed: no name has one, no value, and no number.
-use Rattle.std.proofs.Common.{◌≡◌, ◌∙◌, refl, sym, ap, subst, true≢false, ℕ, zero, suc, ◌+◌, ◌<◌, ◌==◌, ◌||◌, Bool, true, false, not, ◌&&◌, if◌then◌else◌, nat_le, nat_lt, ℤ, pos, negsuc, List, [], ◌∷◌, ◌++◌, length, map, get_or, Option, Some, None, arith}
+use Rattle.std.proofs.Common.{◌≡◌, ◌∙◌, refl, sym, ap, subst, true≢false, ℕ, zero, suc, ◌+◌, ◌<◌, ◌==◌, ◌||◌, Bool, true, false, not, if◌then◌else◌, nat_le, nat_lt, pos, negsuc, List, [], ◌∷◌, ◌++◌, length, map, get_or, Option, Some, None, arith}
 use Rattle.std.specs.Prelude.{codes}
 use Rattle.std.specs.List.{list_all, flat_map, filter}
 use Rattle.std.specs.Fmt.{decimal}
-use Rattle.std.proofs.lemmas.Bool.{and_parts, and_from, ltb-true, leb-true, eqb-true}
+use Rattle.std.proofs.lemmas.Bool.{and_parts, and_from, ltb-true, eqb-true}
 use Rattle.std.proofs.lemmas.List.{get_or-map, length-map}
 use Rattle.std.proofs.lemmas.List.Folds.{list_all-append}
 use Rattle.cpn_definitions.specs.Value.{PlainValue, PlainValues, unit, boolean, int, constant, text, tuple, bare, applied, list, none, more}
 use Rattle.cpn_definitions.specs.Colour.{PlainShape, PlainShapes, PlainColour, text_shape, constant_shape, tuple_shape, union_shape, list_shape, more_shapes, no_shapes, Constructors, no_constructors, without, taking, constructor_at, is_bare, takes, is_printable, has_shape, have_shapes, all_have_shape, admits}
 use Rattle.cpn_definitions.specs.DistinctNames.{HasWellSpelledNames, is_word_byte, is_path_byte, is_word, is_path, variable_names}
-use Rattle.cpn_definitions.specs.Marking.{PlainToken, Tokens, Marking, tokens_at}
+use Rattle.cpn_definitions.specs.Marking.{Tokens, Marking, tokens_at}
 use Rattle.cpn_definitions.specs.Meaning.{PlainBinding}
 use Rattle.cpn_definitions.specs.Named.{constructors_of, count_of, has_names, have_names, arguments_have_names, is_named}
 use Rattle.cpn_definitions.specs.Net.{Coloured, PlainNet, nothing, variable_at, transition_at}
 use Rattle.cpn_definitions.specs.Occurrence.{PlainElement, binds}
 use Rattle.cpn_definitions.specs.Outcome.{Fault, overflow, divide_by_zero, empty_list, no_case, not_in_colour, bad_coefficient, bad_delay, too_large}
-use Rattle.cpn_definitions.specs.Sound.{IsMarking, may_hold}
+use Rattle.cpn_definitions.specs.Sound.{may_hold}
 use Rattle.cpn_runs.specs.Run.{PlainFinished, Outlook}
 use Rattle.cpn_definitions.specs.Legal.{PlainOccurrence}
 use Rattle.cpn_runs.specs.State.{PlainSetup, PlainEvent, claim_made, claim_completed, clock_moved, cut_made, PlainEnd, dead, steps_made, until_passed, fault_end}
 use Rattle.cpn_tmset.specs.Listed.{Group, groups}
-use Rattle.cpn_report.specs.Lines.{Line, report_line, run_line, occurrence_line, schedule_line, end_line, occurrences_line, clock_line, place_line, ready_line, next_line, total_line, pair_text, binding_text, element_text, time_text, event_text, fault_text, cause_text, group_text, tokens_text, opening_text, occurrence_text, schedule_text, end_text, occurrences_text, clock_text, place_text, ready_text, next_text, total_text, line_text}
+use Rattle.cpn_report.specs.Lines.{Line, report_line, run_line, occurrence_line, schedule_line, end_line, occurrences_line, clock_line, ready_line, next_line, total_line, pair_text, binding_text, element_text, time_text, event_text, fault_text, group_text, tokens_text, opening_text, occurrence_text, schedule_text, end_text, occurrences_text, clock_text, place_text, ready_text, next_text, total_text, line_text}
 use Rattle.cpn_report.specs.Printable.{is_bound, is_binding_element, is_occurrence, IsCause, IsPrintableNet, IsPrintable}
 use Rattle.cpn_report.specs.Report.{trace_lines, place_lines_from, place_lines, last_lines, whole_run, is_told, run_lines, report_lines}
 use Rattle.cpn_report.specs.Told.{is_one_line, are_lines, LinesEndOnce}
 use Rattle.cpn_report.specs.ValueText.{joined, byte_text, constant_name, constructor_name, argument_text, shaped_text, tuple_texts, list_texts, value_text}
-use Rattle.cpn_report.specs.declared.traces.Trace.{Trace}
 use Rattle.cpn_report.proofs.BytesApart.{all_weaker, word_bytes, path_bytes, decimal_bytes}
 use Rattle.cpn_report.proofs.GroupedTokens.{groups_pass}
 use Rattle.cpn_report.proofs.NamesApart.{passes_at, counted_at, constant_is_word, constructor_is_word, transition_is_path}

@@ -1,9 +1,10 @@
 -- Of a net whose names are distinct and well spelled, a name tells its position: among the constants of an enumeration, the
 -- constructors of a union, and the transitions.
-use Rattle.std.proofs.Common.{◌≡◌, ◌∙◌, refl, sym, ap, subst, true≢false, ℕ, zero, suc, ◌+◌, ◌<◌, Bool, true, false, ◌&&◌, nat_le, nat_lt, List, [], ◌∷◌, length, length-append, map, get_or, slice_index_or, bytes_eq, Option, Some, None, arith}
+use Rattle.std.proofs.Common.{◌≡◌, ◌∙◌, refl, sym, subst, true≢false, ℕ, zero, suc, ◌<◌, Bool, true, false, nat_le, nat_lt, List, [], ◌∷◌, length, get_or, slice_index_or, bytes_eq, Option, Some, None, arith}
 use Rattle.std.specs.List.{AllByRecursion, IsDistinct, list_all}
-use Rattle.std.proofs.lemmas.Bool.{and_parts, leb-true, ltb-true}
+use Rattle.std.proofs.lemmas.Bool.{and_parts, leb-true, ltb-true, true_from_ne_false}
 use Rattle.std.proofs.lemmas.List.{get_or-map, length-map}
+use Rattle.std.proofs.lemmas.List.Folds.{list_all_at}
 use Rattle.std.proofs.lemmas.Slice.Eq.{bytes_eq-Decides}
 use Rattle.cpn_definitions.specs.Colour.{PlainShape, Constructors, constant_shape, union_shape, no_constructors, without, taking, constructor_at, is_bare, takes}
 use Rattle.cpn_definitions.specs.DistinctNames.{AreDistinct, HasDistinctNames, HasWellSpelledNames, is_word, is_path, transition_names}
@@ -15,9 +16,7 @@ use Rattle.cpn_report.specs.ValueText.{constant_name, constructor_name}
 
 -- what each item passes, the one at a position passes
 pub passes_at : {X : Type 0} (test : X → Bool) (xs : List X) (i : ℕ) (d : X) → list_all test xs ≡ true → i < length xs → test (get_or xs i d) ≡ true
-passes_at test [] i d all lt = absurd (omega arith)
-passes_at test (x ∷ xs) zero d all lt = (and_parts (test x) (list_all test xs) all).0
-passes_at test (x ∷ xs) (suc i) d all lt = passes_at test xs i d (and_parts (test x) (list_all test xs) all).1 (omega arith)
+passes_at test xs i d all lt = true_from_ne_false (test (get_or xs i d)) (λ fails. true≢false (sym all ∙ list_all_at test xs i d lt fails))
 
 -- the names of a number are distinct, and words
 distinct_of : (ns : List (List (List ℕ))) (number : ℕ) → AllByRecursion AreDistinct ns → AreDistinct (slice_index_or ns number [])

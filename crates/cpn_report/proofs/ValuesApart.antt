@@ -1,12 +1,12 @@
 -- The text of a value tells it apart from each other value of its colour set, and from what follows it: two values and what
 -- follows them are the same where their texts with that are, and no byte of a word follows.
-use Rattle.std.proofs.Common.{◌≡◌, ◌∙◌, refl, sym, ap, ap₂, subst, true≢false, ℕ, zero, suc, ◌<◌, Bool, true, false, ◌&&◌, nat_lt, nat_le, int_le, ℤ, pos, negsuc, List, [], ◌∷◌, ◌++◌, length, drop, get_or, append_assoc, Option, Some, None, arith}
+use Rattle.std.proofs.Common.{◌≡◌, ◌∙◌, refl, sym, ap, ap₂, subst, true≢false, ℕ, zero, suc, ◌<◌, Bool, true, false, nat_le, int_le, ℤ, pos, negsuc, List, [], ◌∷◌, ◌++◌, length, drop, get_or, append_assoc, Option, Some, None, arith}
 use Rattle.std.specs.Prelude.{codes}
 use Rattle.std.specs.List.{flat_map}
 use Rattle.std.proofs.lemmas.Bool.{and_parts}
 use Rattle.cpn_definitions.specs.Value.{PlainValue, PlainValues, unit, boolean, int, constant, text, tuple, bare, applied, list, none, more}
 use Rattle.cpn_definitions.specs.Colour.{PlainShape, PlainShapes, Constructors, unit_shape, boolean_shape, int_shape, text_shape, constant_shape, tuple_shape, union_shape, list_shape, no_shapes, more_shapes, no_constructors, without, taking, constructor_at, is_bare, takes, has_shape, have_shapes, all_have_shape}
-use Rattle.cpn_definitions.specs.DistinctNames.{HasDistinctNames, HasWellSpelledNames, is_letter, is_digit, is_word_byte, is_word}
+use Rattle.cpn_definitions.specs.DistinctNames.{HasDistinctNames, HasWellSpelledNames, is_letter, is_digit, is_word_byte}
 use Rattle.cpn_definitions.specs.Integers.{has_64_bits, has_short_integers, have_short_integers, arguments_have_short_integers}
 use Rattle.cpn_definitions.specs.Named.{constructors_of, count_of, has_names, have_names, arguments_have_names}
 use Rattle.cpn_definitions.specs.Net.{PlainNet}
