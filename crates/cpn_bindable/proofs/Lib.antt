@@ -4,6 +4,7 @@ mod EquationForms
 mod FoundSteps
 mod GatheredVariables
 mod ListedNumbers
+mod NumberedEquations
 mod PatternLists
 mod RisingNumbers
 mod SmallAdded

@@ -1,6 +1,7 @@
 //! The equations of a guard between a variable and an inscription.
 
-ghost use Rattle.std.specs.Prelude.{◌≡◌, ◌++◌, map, IfOk};
+ghost use Rattle.std.specs.Prelude.{◌≡◌, ◌≤◌, ◌++◌, map, length, Some, IfOk, MatchOption, slice_get};
+ghost use Rattle.std.specs.Option.{option_map};
 ghost use Rattle.std.specs.List.{flat_map, AllByRecursion};
 ghost use Rattle.cpn_definitions.specs.Bindable.{variables_of, conjuncts_of};
 ghost use Rattle.cpn_core.specs.Inscriptions.{op_view, expr_view, exprs_view};
@@ -8,7 +9,7 @@ ghost use Rattle.cpn_typing.specs.Closure.{equation_with, equations_of_part};
 ghost use Rattle.cpn_typing.specs.Closure as closure;
 ghost use Rattle.cpn_definitions.specs.Inscription.{equality, apply, operation};
 ghost use Rattle.cpn_stages.specs.Stages.{equation_between, equations_at};
-ghost use Rattle.cpn_bindable.specs.Equations.{is_equality, equation_view, equations_view, equation_pair, HasItsSources};
+ghost use Rattle.cpn_bindable.specs.Equations.{is_equality, equation_view, equations_view, equation_pair, HasItsSources, equations_in_guard, inscriptions_of, IsReached};
 
 use crate::variables::push_variables;
 use cpn_core::{Expr, Exprs, Guard, Memory, Op};
@@ -136,4 +137,87 @@ pub fn equations_of<'n>(alloc: Global, guard: &'n Guard) -> Result<Vec<Equation<
         push_equations(alloc, conjunct, &mut equations)?;
     }
     Ok(equations)
+}
+
+/// The second part, where the first is a variable and no equation is to be passed.
+fn inscription_between<'g>(
+    first: &'g Expr,
+    second: &'g Expr,
+    passed: &mut usize,
+) -> Option<&'g Expr>
+    ensures reached { IsReached (inscriptions_of (equation_between (expr_view first.now) (expr_view second.now))) passed.old passed.new (option_map (λ e. expr_view e.now) result) }
+{
+    match first {
+        Expr::Var(_) => {
+            if *passed == 0 {
+                return Some(second);
+            }
+            *passed -= 1;
+            None
+        }
+        _ => None,
+    }
+}
+
+/// The same of two parts, both ways round; other than two make no equation.
+#[tactic(auto, using(crate::proofs::NumberedEquations::reached_both, crate::proofs::NumberedEquations::reached_first))]
+fn inscription_of_both<'g>(parts: &'g Exprs, passed: &mut usize) -> Option<&'g Expr>
+    ensures reached { IsReached (inscriptions_of (equations_at (apply (operation equality) (exprs_view parts.now.items)))) passed.old passed.new (option_map (λ e. expr_view e.now) result) }
+{
+    if parts.len() != 2 {
+        return None;
+    }
+    match inscription_between(&parts[0], &parts[1], passed) {
+        Some(inscription) => Some(inscription),
+        None => inscription_between(&parts[1], &parts[0], passed),
+    }
+}
+
+/// The same of a conjunct of a guard, which is split where `andalso` stands at its root.
+fn inscription_in<'g>(conjunct: &'g Expr, passed: &mut usize) -> Option<&'g Expr>
+    ensures reached { IsReached (inscriptions_of (flat_map equations_at (conjuncts_of (expr_view conjunct.now)))) passed.old passed.new (option_map (λ e. expr_view e.now) result) }
+{
+    match conjunct {
+        Expr::And(first, second) => match inscription_in(first, passed) {
+            Some(inscription) => Some(inscription),
+            None => inscription_in(second, passed),
+        },
+        Expr::Op(operation, parts) => match is_equality(*operation) {
+            true => inscription_of_both(parts, passed),
+            false => None,
+        },
+        Expr::Lit(_) => None,
+        Expr::Var(_) => None,
+        Expr::Local(_) => None,
+        Expr::Time => None,
+        Expr::Or(_, _) => None,
+        Expr::If(_, _, _) => None,
+        Expr::Case(_, _) => None,
+        Expr::Let(_, _) => None,
+        Expr::Fold {
+            list: _,
+            start: _,
+            body: _,
+        } => None,
+        Expr::Tuple(_) => None,
+        Expr::List(_) => None,
+        Expr::Con(_, argument) => match argument {
+            None => None,
+            Some(_) => None,
+        },
+        Expr::Call(_, _) => None,
+    }
+}
+
+/// The inscription of the equation of a number of a guard, as `equations_of` lists them; `None` past the last one. It takes no memory.
+pub fn inscription_at<'g>(guard: &'g Guard, number: usize) -> Option<&'g Expr>
+    ensures exact { MatchOption result (length (equations_in_guard guard.now) ≤ number) (λ e. slice_get (inscriptions_of (equations_in_guard guard.now)) number ≡ Some (expr_view e.now)) }
+{
+    let mut passed = number;
+    for conjunct in &guard.conjuncts {
+        if let Some(inscription) = inscription_in(conjunct, &mut passed) {
+            return Some(inscription);
+        }
+    }
+    None
 }

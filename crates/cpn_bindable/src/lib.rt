@@ -12,6 +12,6 @@ mod small_sets;
 mod variables;
 
 pub use bindable::first_unbindable;
-pub use equations::{Equation, equations_of};
+pub use equations::{Equation, equations_of, inscription_at};
 pub use input_terms::binding_terms;
 pub use variables::{push_carried, variables_of};
