@@ -5,7 +5,7 @@ use Rattle.std.specs.List.{count_by, list_any}
 use Rattle.std.proofs.lemmas.List.{take-map, length-map}
 use Rattle.std.proofs.lemmas.Option.{same_Some, slice_get-map}
 use Rattle.std.proofs.Math.Seq.{take-append_seam}
-use Rattle.cpn_core.specs.Elements.{entry_view}
+use Rattle.cpn_core.specs.Elements.{enabled_view}
 use Rattle.cpn_definitions.specs.Enabled.{PlainEntry, ready}
 use Rattle.cpn_definitions.proofs.ListItems.{last_is_at}
 use Rattle.cpn_draw.specs.Draw.{word}
@@ -118,22 +118,22 @@ module _ (book : Book) (running : IsRunning book) where
           in_state book running (λ state. AnswersClaim (setup_in book) state seat (claims.Busy number)) (state_uncut, goes_on.1, held_is seat known (Some number) at)
 
       -- nothing is ready
-      pub nothing : (seat ready_now held : ℕ) → seat < (setup_in book).limits.seats → slice_get book.standing.held.items seat ≡ Some None → ready_now ≡ length (ready book.standing.clock (map entry_view book.listed.entries.items)) → ready_now ≡ 0
+      pub nothing : (seat ready_now held : ℕ) → seat < (setup_in book).limits.seats → slice_get book.standing.held.items seat ≡ Some None → ready_now ≡ length (ready book.standing.clock (map enabled_view book.listed.items)) → ready_now ≡ 0
           → held ≡ count_by is_some book.standing.held.items → InState book (λ state. AnswersClaim (setup_in book) state seat (claims.Nothing held))
       nothing seat ready_now held known at are none held_are =
           in_state book running (λ state. AnswersClaim (setup_in book) state seat (claims.Nothing held))
           (state_uncut, goes_on.1, held_is seat known None at, are_ready book running 0 (sym none ∙ are), held_are ∙ open_is)
 
       -- a ticket is due
-      pub due : (seat : ℕ) → seat < (setup_in book).limits.seats → slice_get book.standing.held.items seat ≡ Some None → claims_made (log_view book.standing.log) < (setup_in book).limits.steps → 0 < length (ready book.standing.clock (map entry_view book.listed.entries.items))
+      pub due : (seat : ℕ) → seat < (setup_in book).limits.seats → slice_get book.standing.held.items seat ≡ Some None → claims_made (log_view book.standing.log) < (setup_in book).limits.steps → 0 < length (ready book.standing.clock (map enabled_view book.listed.items))
           → InState book (λ state. MayClaimNext (setup_in book) state seat)
       due seat known at below some = in_state book running (λ state. MayClaimNext (setup_in book) state seat) (_, may_claim (setup_in book) (journal_in book) running.at.at.state (log_view book.standing.log) (log_view book.standing.log) book.standing.held.items (stands_at (setup_in book) book.standing running.at) seat drawn.0 next)
         where
-          some_then : 0 < length (ready running.at.at.state.clock (map entry_view book.listed.entries.items))
-          some_then = subst (λ (t : ℕ). 0 < length (ready t (map entry_view book.listed.entries.items))) running.at.at.clock some
+          some_then : 0 < length (ready running.at.at.state.clock (map enabled_view book.listed.items))
+          some_then = subst (λ (t : ℕ). 0 < length (ready t (map enabled_view book.listed.items))) running.at.at.clock some
 
-          drawn : (x : PlainEntry) × IsDrawn (setup_in book).seed (length running.at.at.state.claims) (ready running.at.at.state.clock (map entry_view book.listed.entries.items)) x
-          drawn = item_at (ready running.at.at.state.clock (map entry_view book.listed.entries.items)) (word (setup_in book).seed (length running.at.at.state.claims) % length (ready running.at.at.state.clock (map entry_view book.listed.entries.items))) (omega (arith, some_then))
+          drawn : (x : PlainEntry) × IsDrawn (setup_in book).seed (length running.at.at.state.claims) (ready running.at.at.state.clock (map enabled_view book.listed.items)) x
+          drawn = item_at (ready running.at.at.state.clock (map enabled_view book.listed.items)) (word (setup_in book).seed (length running.at.at.state.claims) % length (ready running.at.at.state.clock (map enabled_view book.listed.items))) (omega (arith, some_then))
 
           next : IsNextClaim (setup_in book) running.at.at.state (log_view book.standing.log) seat drawn.0
           next = record {
@@ -141,7 +141,7 @@ module _ (book : Book) (running : IsRunning book) where
             below_limit = (let n = number_is in omega (arith, n, below));
             known = known;
             had_none = held_is seat known None at;
-            entries = map entry_view book.listed.entries.items;
+            entries = map enabled_view book.listed.items;
             enabled = enabled_in book running;
             drawn_is = drawn.1;
           }
@@ -149,10 +149,10 @@ module _ (book : Book) (running : IsRunning book) where
       -- ---- a move of the clock
 
       -- something is ready
-      pub some_ready : (number : ℕ) → number ≡ length (ready book.standing.clock (map entry_view book.listed.entries.items)) → 0 < number → InState book (λ state. AnswersAdvance (setup_in book) state moves.Ready)
+      pub some_ready : (number : ℕ) → number ≡ length (ready book.standing.clock (map enabled_view book.listed.items)) → 0 < number → InState book (λ state. AnswersAdvance (setup_in book) state moves.Ready)
       some_ready number are some = in_state book running (λ state. AnswersAdvance (setup_in book) state moves.Ready) (goes_on, (number, are_ready book running number are, some))
 
-      module _ (none_ready : length (ready book.standing.clock (map entry_view book.listed.entries.items)) ≡ 0) where
+      module _ (none_ready : length (ready book.standing.clock (map enabled_view book.listed.items)) ≡ 0) where
         none_are : AreReady (setup_in book) running.at.at.state 0
         none_are = are_ready book running 0 (sym none_ready)
 
@@ -168,10 +168,10 @@ module _ (book : Book) (running : IsRunning book) where
             in_state book running (λ state. AnswersAdvance (setup_in book) state (moves.Moved time)) (m.0.at.at.state, happens_last (setup_in book) (journal_in book) (clock_moved time) running.at.at.state m.0.at.at.state running.at.at.told.reached after)
         moves_answer none_open new (moves.Until time) m =
             in_state book running (λ state. AnswersAdvance (setup_in book) state (moves.Until time))
-            (goes_on, (none_are, sym open_is ∙ none_open), ((log_view book.standing.log).unclaimed, unclaimed_is book running, next_is_least (setup_in book).net (log_view book.standing.log).unclaimed running.at.at.state.clock time (map entry_view book.listed.entries.items) (enabled_in book running) m.1), m.2)
+            (goes_on, (none_are, sym open_is ∙ none_open), ((log_view book.standing.log).unclaimed, unclaimed_is book running, next_is_least (setup_in book).net (log_view book.standing.log).unclaimed running.at.at.state.clock time (map enabled_view book.listed.items) (enabled_in book running) m.1), m.2)
         moves_answer none_open new moves.Dead m =
             in_state book running (λ state. AnswersAdvance (setup_in book) state moves.Dead)
-            (goes_on, (none_are, sym open_is ∙ none_open), ((log_view book.standing.log).unclaimed, unclaimed_is book running, no_next_is_dead (setup_in book).net (log_view book.standing.log).unclaimed running.at.at.state.clock (map entry_view book.listed.entries.items) (enabled_in book running) m.1))
+            (goes_on, (none_are, sym open_is ∙ none_open), ((log_view book.standing.log).unclaimed, unclaimed_is book running, no_next_is_dead (setup_in book).net (log_view book.standing.log).unclaimed running.at.at.state.clock (map enabled_view book.listed.items) (enabled_in book running) m.1))
         moves_answer none_open new (moves.Open number) m = absurd m
         moves_answer none_open new moves.Ready m = absurd m
         moves_answer none_open new moves.StepLimit m = absurd m
@@ -226,4 +226,4 @@ module _ (old mid new : Book) (is : IsBook old) (follows : Follows old mid) (spe
   -- and it is a book still
   pub spent_still : is_spent_in new ≡ true → IsBook new
   spent_still now =
-      spent_is_book old new is (ap (λ (b : Book). b.setup) spent.book ∙ follows.setup) (ap (λ (b : Book). b.works) spent.book ∙ follows.works) (ap (λ (b : Book). b.opening) spent.book ∙ follows.opening) events_back committed_still now
+      spent_is_book old new is (ap (λ (b : Book). b.setup) spent.book ∙ follows.setup) (ap (λ (b : Book). b.works) spent.book ∙ follows.works) (ap (λ (b : Book). b.plans) spent.book ∙ follows.plans) (ap (λ (b : Book). b.opening) spent.book ∙ follows.opening) events_back committed_still now

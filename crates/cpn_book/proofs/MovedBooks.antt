@@ -3,7 +3,7 @@ use Rattle.std.proofs.Common.{◌≡◌, ◌≢◌, ℕ, ◌<◌, ◌≤◌, [],
 use Rattle.std.specs.Option.{is_some}
 use Rattle.std.specs.List.{count_by}
 use Rattle.std.specs.Prelude.{MatchOption}
-use Rattle.cpn_core.specs.Elements.{entry_view}
+use Rattle.cpn_core.specs.Elements.{enabled_view}
 use Rattle.cpn_definitions.specs.Enabled.{Enabled, ready, next_time}
 use Rattle.cpn_definitions.specs.Sound.{IsMarking}
 use Rattle.cpn_log.specs.Logs.{claims_made}
@@ -43,8 +43,8 @@ claims_below setup s is playable not_all =
 
 -- ---- the move
 
-module _ (book : Book) (time : ℕ) (s : Standing) (running : IsRunning book) (none_ready : length (ready book.standing.clock (map entry_view book.listed.entries.items)) ≡ 0) (none_open : count_by is_some book.standing.held.items ≡ 0)
-    (uncut : book.standing.cut ≡ None) (below : claims_made (log_view book.standing.log) < book.setup.limits.steps) (next : next_time (map entry_view book.listed.entries.items) ≡ Some time) (in_time : time ≤ book.setup.limits.until)
+module _ (book : Book) (time : ℕ) (s : Standing) (running : IsRunning book) (none_ready : length (ready book.standing.clock (map enabled_view book.listed.items)) ≡ 0) (none_open : count_by is_some book.standing.held.items ≡ 0)
+    (uncut : book.standing.cut ≡ None) (below : claims_made (log_view book.standing.log) < book.setup.limits.steps) (next : next_time (map enabled_view book.listed.items) ≡ Some time) (in_time : time ≤ book.setup.limits.until)
     (events : events_in s ≡ journal_in book ++ clock_moved time ∷ []) where
   abbrev pub moved_standing : Standing
   moved_standing = record book.standing { clock = time; journal = s.journal }
@@ -55,19 +55,19 @@ module _ (book : Book) (time : ℕ) (s : Standing) (running : IsRunning book) (n
   abbrev clock_is : book.standing.clock ≡ running.at.at.state.clock
   clock_is = running.at.at.clock
 
-  enabled : Enabled (setup_in book).net (log_view book.standing.log).unclaimed running.at.at.state.clock (map entry_view book.listed.entries.items)
-  enabled = subst (λ (t : ℕ). Enabled (setup_in book).net (log_view book.standing.log).unclaimed t (map entry_view book.listed.entries.items)) clock_is running.enabled
+  enabled : Enabled (setup_in book).net (log_view book.standing.log).unclaimed running.at.at.state.clock (map enabled_view book.listed.items)
+  enabled = subst (λ (t : ℕ). Enabled (setup_in book).net (log_view book.standing.log).unclaimed t (map enabled_view book.listed.items)) clock_is running.enabled
 
-  nothing_ready : length (ready running.at.at.state.clock (map entry_view book.listed.entries.items)) ≡ 0
-  nothing_ready = subst (λ (t : ℕ). length (ready t (map entry_view book.listed.entries.items)) ≡ 0) clock_is none_ready
+  nothing_ready : length (ready running.at.at.state.clock (map enabled_view book.listed.items)) ≡ 0
+  nothing_ready = subst (λ (t : ℕ). length (ready t (map enabled_view book.listed.items)) ≡ 0) clock_is none_ready
 
   stands : StandsAt (setup_in book) (journal_in book ++ clock_moved time ∷ []) (record running.at.at.state { clock = time }) (log_view book.standing.log) book.standing.held.items
   stands =
       stands_moved (setup_in book) (journal_in book) running.at.at.state (log_view book.standing.log) book.standing.held.items (stands_at (setup_in book) book.standing running.at) free time
       (uncut_in (setup_in book) book.standing running.at.at uncut)
       (let same = counted (setup_in book) book.standing running.at.at in omega (arith, same, below))
-      (none_is_covered (setup_in book).net (log_view book.standing.log).unclaimed running.at.at.state.clock (map entry_view book.listed.entries.items) enabled nothing_ready)
-      (next_is_least (setup_in book).net (log_view book.standing.log).unclaimed running.at.at.state.clock time (map entry_view book.listed.entries.items) enabled next)
+      (none_is_covered (setup_in book).net (log_view book.standing.log).unclaimed running.at.at.state.clock (map enabled_view book.listed.items) enabled nothing_ready)
+      (next_is_least (setup_in book).net (log_view book.standing.log).unclaimed running.at.at.state.clock time (map enabled_view book.listed.items) enabled next)
       in_time
 
   moved_at : IsAt (setup_in book) moved_standing
@@ -88,14 +88,14 @@ module _ (book : Book) (time : ℕ) (s : Standing) (running : IsRunning book) (n
       }
 
   -- something is ready then
-  pub moved_ready : 0 < length (ready time (map entry_view book.listed.entries.items))
-  moved_ready = some_are_ready (setup_in book).net (log_view book.standing.log).unclaimed running.at.at.state.clock time (map entry_view book.listed.entries.items) enabled next
+  pub moved_ready : 0 < length (ready time (map enabled_view book.listed.items))
+  moved_ready = some_are_ready (setup_in book).net (log_view book.standing.log).unclaimed running.at.at.state.clock time (map enabled_view book.listed.items) enabled next
 
   -- and the run is under way
   pub moved_runs : IsRunning (record book { standing = moved_standing })
   moved_runs = record {
     at = moved_at;
-    enabled = enabled_then (setup_in book).net (log_view book.standing.log).unclaimed running.at.at.state.clock time (map entry_view book.listed.entries.items) enabled next;
+    enabled = enabled_then (setup_in book).net (log_view book.standing.log).unclaimed running.at.at.state.clock time (map enabled_view book.listed.items) enabled next;
     needs = running.needs;
     room = λ none. let some = moved_ready in let zero = ap length none in absurd (omega (arith, some, zero));
   }

@@ -4,7 +4,8 @@ use Rattle.std.specs.Prelude.{IfSome}
 use Rattle.std.specs.Option.{option_map}
 use Rattle.std.proofs.lemmas.List.{length-map}
 use Rattle.std.proofs.lemmas.Option.{same_Some, slice_get-map}
-use Rattle.cpn_core.specs.Elements.{entry_view}
+use Rattle.std.specs.List.{AllByRecursion}
+use Rattle.cpn_core.specs.Elements.{enabled_view, HasItsNeeds}
 use Rattle.cpn_core.specs.Nets.{net_view, transition_view}
 use Rattle.cpn_core.specs.declared.nets.Net.{Net}
 use Rattle.cpn_definitions.specs.Enabled.{Enabled}
@@ -16,7 +17,7 @@ use Rattle.cpn_runs.specs.FinishedViews.{outlook_view}
 use Rattle.cpn_runs.specs.Playable.{IsPlayable}
 use Rattle.cpn_runs.specs.Run.{Outlook, HasOutlook}
 use Rattle.cpn_book.specs.StandingRuns.{IsTold}
-use Rattle.cpn_search.specs.CoveredNeeds.{StandBeside}
+use Rattle.cpn_search.specs.PlannedNets.{IsPlanned}
 use Rattle.cpn_book.specs.Books.{setup_in, works_in, IsBook}
 use Rattle.cpn_book.specs.Shown.{outlook_at}
 use Rattle.cpn_book.specs.Standings.{IsAt, events_in}
@@ -41,13 +42,14 @@ pub record HasStarted (book : Book) (s : Standing) : Type 0 where
   pub playable : IsPlayable (setup_in book)
   pub starts : IsAt (setup_in book) s
   pub works : AreWorks (setup_in book).net (works_in book)
+  pub planned : IsPlanned (setup_in book).net book.plans
   pub clock : s.clock ≡ (setup_in book).clock
   pub marking : (log_view s.log).unclaimed ≡ (setup_in book).start
   pub standing : book.standing ≡ record s { journal = book.standing.journal }
   pub events : events_in book.standing ≡ events_in s
-  pub enabled : Enabled (setup_in book).net (log_view s.log).unclaimed (setup_in book).clock (map entry_view book.listed.entries.items)
-  pub needs : StandBeside (setup_in book).net book.listed.entries.items book.listed.needs.items
-  pub opening : outlook_view book.opening ≡ outlook_at (setup_in book).clock (map entry_view book.listed.entries.items)
+  pub enabled : Enabled (setup_in book).net (log_view s.log).unclaimed (setup_in book).clock (map enabled_view book.listed.items)
+  pub needs : AllByRecursion (HasItsNeeds (setup_in book).net) book.listed.items
+  pub opening : outlook_view book.opening ≡ outlook_at (setup_in book).clock (map enabled_view book.listed.items)
   pub room : vec_len book.standing.journal < vec_capacity book.standing.journal
 
 module _ (book : Book) (s : Standing) (did : HasStarted book s) where
@@ -69,22 +71,23 @@ module _ (book : Book) (s : Standing) (did : HasStarted book s) where
   starts_at : IsAt (setup_in book) book.standing
   starts_at = subst (IsAt (setup_in book)) (sym did.standing) starts_so
 
-  enabled_now : Enabled (setup_in book).net (log_view book.standing.log).unclaimed book.standing.clock (map entry_view book.listed.entries.items)
+  enabled_now : Enabled (setup_in book).net (log_view book.standing.log).unclaimed book.standing.clock (map enabled_view book.listed.items)
   enabled_now =
       let clock : (setup_in book).clock ≡ book.standing.clock = sym did.clock ∙ ap (λ (t : Standing). t.clock) (sym did.standing) in
       let log : log_view s.log ≡ log_view book.standing.log = ap (λ (t : Standing). log_view t.log) (sym did.standing) in
-      subst (λ (l : PlainLog). Enabled (setup_in book).net l.unclaimed book.standing.clock (map entry_view book.listed.entries.items)) log
-      (subst (λ (t : ℕ). Enabled (setup_in book).net (log_view s.log).unclaimed t (map entry_view book.listed.entries.items)) clock did.enabled)
+      subst (λ (l : PlainLog). Enabled (setup_in book).net l.unclaimed book.standing.clock (map enabled_view book.listed.items)) log
+      (subst (λ (t : ℕ). Enabled (setup_in book).net (log_view s.log).unclaimed t (map enabled_view book.listed.items)) clock did.enabled)
 
   pub started : IsBook book
   started = record {
     playable = did.playable;
     works = did.works;
+    planned = did.planned;
     opening =
         subst (λ (o : Outlook). HasOutlook (setup_in book) (setup_in book).start (setup_in book).clock o) (sym did.opening)
         (record {
-          entries = map entry_view book.listed.entries.items;
-          enabled = subst (λ (m : Marking). Enabled (setup_in book).net m (setup_in book).clock (map entry_view book.listed.entries.items)) did.marking did.enabled;
+          entries = map enabled_view book.listed.items;
+          enabled = subst (λ (m : Marking). Enabled (setup_in book).net m (setup_in book).clock (map enabled_view book.listed.items)) did.marking did.enabled;
           ready_count_is = refl;
           next_is = refl;
         });

@@ -1,6 +1,6 @@
 -- What the steps of a book's calls keep, and what they change. Source: own choice.
 use Rattle.std.specs.Prelude.{◌≡◌, ℕ, ◌<◌, ◌≤◌, true, List, ◌++◌, ◌∷◌, [], map, Some, None, MatchOption, slice_get}
-use Rattle.cpn_core.specs.Elements.{entry_view}
+use Rattle.cpn_core.specs.Elements.{enabled_view}
 use Rattle.cpn_definitions.specs.Enabled.{next_time}
 use Rattle.cpn_log.specs.Logs.{claims_made, standings, stands_open}
 use Rattle.cpn_log.specs.LogViews.{log_view, jobs_in}
@@ -20,6 +20,7 @@ use Rattle.cpn_book.specs.declared.answers.Completed.TheVariants as completions
 pub record Follows (old new : Book) : Type 0 where
   pub setup : new.setup ≡ old.setup
   pub works : new.works ≡ old.works
+  pub plans : new.plans ≡ old.plans
   pub opening : new.opening ≡ old.opening
   pub spent : new.spent ≡ old.spent
   pub more : List PlainEvent
@@ -42,15 +43,15 @@ pub record MayGoOn (book : Book) : Type 0 where
   pub uncut : book.standing.cut ≡ None
   pub below : claims_made (log_view book.standing.log) < book.setup.limits.steps
   pub time : ℕ
-  pub next : next_time (map entry_view book.listed.entries.items) ≡ Some time
+  pub next : next_time (map enabled_view book.listed.items) ≡ Some time
   pub in_time : time ≤ book.setup.limits.until
 
 -- the answer where nothing is ready and no claim is open
 abbrev pub Moves : Book → Book → Advanced → Type 0
 Moves old new (moves.Moved time) =
-    IsRunning new × IsMovedFrom old new × (journal_in new ≡ journal_in old ++ clock_moved time ∷ []) × (next_time (map entry_view old.listed.entries.items) ≡ Some time) × (time ≤ old.setup.limits.until)
-Moves old new (moves.Until time) = (new ≡ old) × (next_time (map entry_view old.listed.entries.items) ≡ Some time) × (old.setup.limits.until < time)
-Moves old new moves.Dead = (new ≡ old) × (next_time (map entry_view old.listed.entries.items) ≡ None)
+    IsRunning new × IsMovedFrom old new × (journal_in new ≡ journal_in old ++ clock_moved time ∷ []) × (next_time (map enabled_view old.listed.items) ≡ Some time) × (time ≤ old.setup.limits.until)
+Moves old new (moves.Until time) = (new ≡ old) × (next_time (map enabled_view old.listed.items) ≡ Some time) × (old.setup.limits.until < time)
+Moves old new moves.Dead = (new ≡ old) × (next_time (map enabled_view old.listed.items) ≡ None)
 Moves old new (moves.Open number) = ⊥
 Moves old new moves.Ready = ⊥
 Moves old new moves.StepLimit = ⊥

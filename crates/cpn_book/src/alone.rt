@@ -3,7 +3,7 @@
 ghost use Rattle.std.specs.Prelude.{◌≡◌, ◌≢◌, ℕ, ◌+◌, ◌<◌, ◌≤◌, ◌++◌, Some, None, false, List, length, map, slice_get, IfOk, OnOk, vec_len, vec_capacity};
 ghost use Rattle.std.specs.List.{count_by};
 ghost use Rattle.std.specs.Option.{is_some};
-ghost use Rattle.cpn_core.specs.Elements.{entry_view};
+ghost use Rattle.cpn_core.specs.Elements.{enabled_view};
 ghost use Rattle.cpn_definitions.specs.Enabled.{ready};
 ghost use Rattle.cpn_log.specs.Logs.{claims_made};
 ghost use Rattle.cpn_log.specs.LogViews.{log_view};
@@ -14,7 +14,6 @@ ghost use Rattle.cpn_runs.specs.FinishedViews.{setup_view, finished_view};
 ghost use Rattle.cpn_book.specs.Bounds.{EndsInBounds};
 ghost use Rattle.cpn_book.specs.Books.{setup_in, journal_in, is_spent_in, IsBook, IsRunning};
 ghost use Rattle.cpn_book.specs.Standings.{IsAt, StillCommitted, events_in};
-ghost use Rattle.cpn_search.specs.PlannedNets.{planned_net, IsPlanned};
 ghost use Rattle.cpn_book.specs.GoingAlone.{AreCompletions, AreRounds, GoesOnAlone};
 ghost use Rattle.cpn_book.specs.Steps.{Follows, IsMovedFrom, MayGoOn};
 
@@ -27,7 +26,6 @@ use crate::standings::Standing;
 use crate::tickets::Ticket;
 use cpn_core::Memory;
 use cpn_runs::{Finished, Setup};
-use cpn_search::Plans;
 use std::alloc::Global;
 
 impl Book {
@@ -54,15 +52,13 @@ impl Book {
         if self.spent {
             return Err(Memory);
         }
-        let net = self.setup.net.clone()?;
-        let plans = Plans::of(self.alloc, &net)?;
         let mut book = self;
         book.complete_open()?;
         for _number in book.standing.log.len()..book.setup.limits.steps {
             if let Some(cause) = book.take_end() {
                 return Ok(book.ended(cause));
             }
-            book.play_round(&plans)?;
+            book.play_round()?;
         }
         match book.take_end() {
             Some(cause) => Ok(book.ended(cause)),
@@ -87,10 +83,8 @@ impl Book {
     }
 
     // The next claim and its completion, of seat 0, where no claim is open and the run has no end.
-    fn play_round(&mut self, plans: &Plans) -> Result<(), Memory>
+    fn play_round(&mut self) -> Result<(), Memory>
         requires kept { IsBook self.old }
-        requires planned { IsPlanned plans.now }
-        requires net { planned_net plans.now ≡ (setup_in self.old).net }
         requires running { IsRunning self.old }
         requires none_open { count_by is_some self.old.standing.held.items ≡ 0 }
         requires goes_on { MayGoOn self.old }
@@ -112,7 +106,7 @@ impl Book {
             return Err(Memory);
         };
         play_drawn(&self.setup, &mut self.standing, done, needs)?;
-        self.search_by(plans)
+        self.search()
     }
 
     // Moves the clock to the next time, unless something is ready.
@@ -121,14 +115,14 @@ impl Book {
         requires none_open { count_by is_some self.old.standing.held.items ≡ 0 }
         requires goes_on { MayGoOn self.old }
         ensures running { IsRunning self.new }
-        ensures ready { 0 < length (ready self.new.standing.clock (map entry_view self.new.listed.entries.items)) }
+        ensures ready { 0 < length (ready self.new.standing.clock (map enabled_view self.new.listed.items)) }
         ensures events { (more : List PlainEvent) × (journal_in self.new ≡ journal_in self.old ++ more) × AreRounds more }
         ensures same { IsMovedFrom self.old self.new }
     {
         if self.ready() > 0 {
             return;
         }
-        if let Some(time) = next_time(&self.listed.entries) {
+        if let Some(time) = next_time(&self.listed) {
             self.move_to(time);
         }
     }

@@ -3,7 +3,7 @@
 ghost use Rattle.std.specs.Prelude.{◌≡◌, ◌≢◌, ◌<◌, ◌≤◌, ◌++◌, Some, None, true, false, List, [], ◌∷◌, length, map, take, slice_get, IfOk, OnOk, OnErr, vec_len, vec_capacity};
 ghost use Rattle.std.specs.List.{count_by};
 ghost use Rattle.std.specs.Option.{is_some, option_map};
-ghost use Rattle.cpn_core.specs.Elements.{entry_view};
+ghost use Rattle.cpn_core.specs.Elements.{enabled_view};
 ghost use Rattle.cpn_definitions.specs.Enabled.{next_time, ready};
 ghost use Rattle.cpn_jobs.specs.Views.{job_view};
 ghost use Rattle.cpn_log.specs.Logs.{claims_made};
@@ -19,7 +19,7 @@ ghost use Rattle.cpn_book.specs.States.{cut_events};
 ghost use Rattle.cpn_book.specs.Steps.{Follows, IsMovedFrom, IsSpentFrom, IsStranger, Moves};
 ghost use Rattle.cpn_book.specs.Tickets.{number_of, job_of, evaluated_number, evaluated_job};
 ghost use Rattle.cpn_book.specs.declared.standings.Cut.{Cut};
-ghost use Rattle.cpn_search.specs.PlannedNets.{planned_net, IsPlanned};
+ghost use Rattle.cpn_search.specs.PlannedNets.{IsPlanned};
 
 use crate::answers::{Advanced, Claimed, Completed, Finish};
 use crate::claiming::open_claim;
@@ -27,10 +27,10 @@ use crate::completing::complete_claim;
 use crate::outlooks::{next_time, outlook, ready_count};
 use crate::standings::{Standing, at_start};
 use crate::tickets::{Evaluated, Ticket};
-use cpn_core::Memory;
+use cpn_core::{EnabledElement, Memory};
 use cpn_jobs::{Work, works_of};
 use cpn_runs::{Event, Outlook, Setup};
-use cpn_search::{Listed, Plans, list_enabled};
+use cpn_search::Plans;
 use std::alloc::Global;
 use std::sync::Arc;
 
@@ -49,7 +49,8 @@ pub struct Book {
     pub(crate) works: Vec<Arc<Work>>,
     pub(crate) standing: Standing,
     pub(crate) opening: Outlook,
-    pub(crate) listed: Listed,
+    pub(crate) plans: Plans,
+    pub(crate) listed: Vec<EnabledElement>,
     pub(crate) spent: bool,
 }
 
@@ -69,14 +70,16 @@ impl Book {
         let works = works_of(alloc, &setup.net)?;
         let mut standing = at_start(alloc, &setup)?;
         standing.journal.reserve(1)?;
-        let listed = list_enabled(alloc, &setup.net, standing.log.unclaimed(), setup.clock)?;
-        let opening = outlook(&listed.entries, setup.clock);
+        let plans = Plans::of(alloc, &setup.net)?;
+        let listed = plans.enabled(alloc, &setup.net, standing.log.unclaimed(), setup.clock)?;
+        let opening = outlook(&listed, setup.clock);
         Ok(Book {
             alloc,
             setup,
             works,
             standing,
             opening,
+            plans,
             listed,
             spent: false,
         })
@@ -223,7 +226,7 @@ impl Book {
         requires uncut { self.old.standing.cut ≡ None }
         requires below { claims_made (log_view self.old.standing.log) < self.old.setup.limits.steps }
         requires free { slice_get self.old.standing.held.items seat ≡ Some None }
-        requires some { 0 < length (ready self.old.standing.clock (map entry_view self.old.listed.entries.items)) }
+        requires some { 0 < length (ready self.old.standing.clock (map enabled_view self.old.listed.items)) }
         ensures running { OnOk result (IsRunning self.new) }
         ensures events { IfOk result (λ ticket. journal_in self.new ≡ journal_in self.old ++ claim_made seat (number_of ticket) ∷ []) }
         ensures number { IfOk result (λ ticket. number_of ticket ≡ claims_made (log_view self.old.standing.log)) }
@@ -293,13 +296,13 @@ impl Book {
     // The move of the clock, where nothing is ready and no claim is open.
     fn move_clock(&mut self) -> Advanced
         requires running { IsRunning self.old }
-        requires none_ready { length (ready self.old.standing.clock (map entry_view self.old.listed.entries.items)) ≡ 0 }
+        requires none_ready { length (ready self.old.standing.clock (map enabled_view self.old.listed.items)) ≡ 0 }
         requires none_open { count_by is_some self.old.standing.held.items ≡ 0 }
         requires uncut { self.old.standing.cut ≡ None }
         requires below { claims_made (log_view self.old.standing.log) < self.old.setup.limits.steps }
         ensures moves { Moves self.old self.new result }
     {
-        let Some(time) = next_time(&self.listed.entries) else {
+        let Some(time) = next_time(&self.listed) else {
             return Advanced::Dead;
         };
         if self.setup.limits.until < time {
@@ -312,15 +315,15 @@ impl Book {
     /// Moves the clock to the next time, where nothing is ready and no claim is open.
     pub(crate) fn move_to(&mut self, time: u64)
         requires running { IsRunning self.old }
-        requires none_ready { length (ready self.old.standing.clock (map entry_view self.old.listed.entries.items)) ≡ 0 }
+        requires none_ready { length (ready self.old.standing.clock (map enabled_view self.old.listed.items)) ≡ 0 }
         requires none_open { count_by is_some self.old.standing.held.items ≡ 0 }
         requires uncut { self.old.standing.cut ≡ None }
         requires below { claims_made (log_view self.old.standing.log) < self.old.setup.limits.steps }
-        requires next { next_time (map entry_view self.old.listed.entries.items) ≡ Some time }
+        requires next { next_time (map enabled_view self.old.listed.items) ≡ Some time }
         requires in_time { time ≤ self.old.setup.limits.until }
         ensures running { IsRunning self.new }
         ensures events { journal_in self.new ≡ journal_in self.old ++ clock_moved time ∷ [] }
-        ensures ready { 0 < length (ready self.new.standing.clock (map entry_view self.new.listed.entries.items)) }
+        ensures ready { 0 < length (ready self.new.standing.clock (map enabled_view self.new.listed.items)) }
         ensures same { IsMovedFrom self.old self.new }
     {
         self.standing.journal.push_reserved(Event::Move { time });
@@ -329,34 +332,15 @@ impl Book {
 
     /// How many elements are ready.
     pub(crate) fn ready(&self) -> u64
-        ensures { result ≡ length (ready self.now.standing.clock (map entry_view self.now.listed.entries.items)) }
+        ensures { result ≡ length (ready self.now.standing.clock (map enabled_view self.now.listed.items)) }
     {
-        ready_count(&self.listed.entries, self.standing.clock)
+        ready_count(&self.listed, self.standing.clock)
     }
 
-    /// Lists anew what is enabled in the unclaimed marking.
+    /// Lists again what is enabled in the unclaimed marking, by the plans of the net.
     pub(crate) fn search(&mut self) -> Result<(), Memory>
         requires playable { IsPlayable (setup_in self.old) }
-        requires at { IsAt (setup_in self.old) self.old.standing }
-        requires room { vec_len self.old.standing.journal < vec_capacity self.old.standing.journal }
-        ensures running { OnOk result (IsRunning self.new) }
-        ensures standing { self.new.standing ≡ self.old.standing }
-        ensures same { self.new ≡ record self.old { listed = self.new.listed } }
-    {
-        self.listed = list_enabled(
-            self.alloc,
-            &self.setup.net,
-            self.standing.log.unclaimed(),
-            self.standing.clock,
-        )?;
-        Ok(())
-    }
-
-    /// The same, by the plans of the net.
-    pub(crate) fn search_by(&mut self, plans: &Plans) -> Result<(), Memory>
-        requires playable { IsPlayable (setup_in self.old) }
-        requires planned { IsPlanned plans.now }
-        requires net { planned_net plans.now ≡ (setup_in self.old).net }
+        requires planned { IsPlanned (setup_in self.old).net self.old.plans }
         requires at { IsAt (setup_in self.old) self.old.standing }
         requires room { vec_len self.old.standing.journal < vec_capacity self.old.standing.journal }
         ensures running { OnOk result (IsRunning self.new) }
@@ -364,7 +348,14 @@ impl Book {
         ensures same { self.new ≡ record self.old { listed = self.new.listed } }
     {
         let marking = self.standing.log.unclaimed();
-        plans.enabled_into(self.alloc, marking, self.standing.clock, &mut self.listed)
+        let clock = self.standing.clock;
+        self.plans.enabled_into(
+            self.alloc,
+            &self.setup.net,
+            marking,
+            clock,
+            &mut self.listed,
+        )
     }
 
     // The book is spent: its journal is the one of so many events that it was, and its list of what is enabled is dropped.
@@ -375,8 +366,7 @@ impl Book {
         ensures same { IsSpentFrom self.old self.new }
     {
         self.standing.journal.truncate(events);
-        self.listed.entries.clear();
-        self.listed.needs.clear();
+        self.listed.clear();
         self.spent = true;
     }
 }

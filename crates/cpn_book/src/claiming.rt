@@ -1,8 +1,9 @@
 //! How the next claim is drawn, and how a seat makes it.
 
 ghost use Rattle.std.specs.Prelude.{◌≡◌, ℕ, ◌+◌, ◌<◌, Some, None, List, [], ◌∷◌, ◌++◌, length, map, slice_get, slice_set, IfOk, IfSome, OnOk, vec_len, vec_capacity};
-ghost use Rattle.cpn_core.specs.declared.entries.Entry.{Entry};
-ghost use Rattle.cpn_core.specs.Elements.{element_view, entry_view};
+ghost use Rattle.std.specs.List.{AllByRecursion};
+ghost use Rattle.cpn_core.specs.declared.entries.EnabledElement.{EnabledElement};
+ghost use Rattle.cpn_core.specs.Elements.{element_view, enabled_view, HasItsNeeds};
 ghost use Rattle.cpn_definitions.specs.Enabled.{Enabled, ready};
 ghost use Rattle.cpn_jobs.specs.Views.{job_view, work_view};
 ghost use Rattle.cpn_log.specs.Logs.{claims_made};
@@ -11,7 +12,6 @@ ghost use Rattle.cpn_runs.specs.FinishedViews.{setup_view};
 ghost use Rattle.cpn_runs.specs.Playable.{IsPlayable};
 ghost use Rattle.cpn_draw.specs.Draw.{generator};
 ghost use Rattle.cpn_runs.specs.State.{PlainEvent, IsDrawn, claim_made};
-ghost use Rattle.cpn_search.specs.CoveredNeeds.{StandBeside};
 ghost use Rattle.cpn_book.specs.DrawnClaims.{IsDrawnClaim};
 ghost use Rattle.cpn_book.specs.Standings.{IsAt, StillCommitted, events_in, occurrences_in};
 ghost use Rattle.cpn_book.specs.Tickets.{number_of, job_of};
@@ -20,11 +20,10 @@ ghost use Rattle.cpn_book.specs.Works.{AreWorks};
 use crate::outlooks::ready_count;
 use crate::standings::Standing;
 use crate::tickets::Ticket;
-use cpn_core::{Binding, Element, Entry, Memory, Needs};
+use cpn_core::{Element, EnabledElement, Memory, Needs};
 use cpn_draw::Draw;
 use cpn_jobs::{Job, Work};
 use cpn_runs::{Event, Setup};
-use cpn_search::Listed;
 use std::alloc::Global;
 use std::mem;
 use std::sync::Arc;
@@ -44,7 +43,7 @@ pub(crate) fn open_claim(
     alloc: Global,
     setup: &Setup,
     works: &[Arc<Work>],
-    listed: &mut Listed,
+    listed: &mut [EnabledElement],
     standing: &mut Standing,
     seat: u32,
 ) -> Result<Ticket, Memory>
@@ -55,9 +54,9 @@ pub(crate) fn open_claim(
     requires below { claims_made (log_view standing.old.log) < setup.now.limits.steps }
     requires known { seat < setup.now.limits.seats }
     requires free { slice_get standing.old.held.items seat ≡ Some None }
-    requires enabled { Enabled (setup_view setup.now).net (log_view standing.old.log).unclaimed standing.old.clock (map entry_view listed.old.entries.items) }
-    requires needs { StandBeside (setup_view setup.now).net listed.old.entries.items listed.old.needs.items }
-    requires some { 0 < length (ready standing.old.clock (map entry_view listed.old.entries.items)) }
+    requires enabled { Enabled (setup_view setup.now).net (log_view standing.old.log).unclaimed standing.old.clock (map enabled_view listed.old) }
+    requires needs { AllByRecursion (HasItsNeeds (setup_view setup.now).net) listed.old }
+    requires some { 0 < length (ready standing.old.clock (map enabled_view listed.old)) }
     ensures at { OnOk result (IsAt (setup_view setup.now) standing.new) }
     ensures number { IfOk result (λ ticket. number_of ticket ≡ claims_made (log_view standing.old.log)) }
     ensures events { IfOk result (λ ticket. events_in standing.new ≡ events_in standing.old ++ claim_made seat (number_of ticket) ∷ []) }
@@ -74,13 +73,13 @@ pub(crate) fn open_claim(
     Ok(ticket)
 }
 
-/// Draws the next claim: the element that the next word draws from the ready ones. It takes element and needs out of the list, which
-/// has to be made anew then.
+/// Draws the next claim: the element that the next word draws from the ready ones. The job shares the element with the list; the needs are
+/// taken out of it, so it has to be made again then.
 pub(crate) fn draw_claim(
     alloc: Global,
     setup: &Setup,
     works: &[Arc<Work>],
-    listed: &mut Listed,
+    listed: &mut [EnabledElement],
     standing: &mut Standing,
 ) -> Result<DrawnClaim, Memory>
     requires playable { IsPlayable (setup_view setup.now) }
@@ -88,16 +87,16 @@ pub(crate) fn draw_claim(
     requires at { IsAt (setup_view setup.now) standing.old }
     requires uncut { standing.old.cut ≡ None }
     requires below { claims_made (log_view standing.old.log) < setup.now.limits.steps }
-    requires enabled { Enabled (setup_view setup.now).net (log_view standing.old.log).unclaimed standing.old.clock (map entry_view listed.old.entries.items) }
-    requires needs { StandBeside (setup_view setup.now).net listed.old.entries.items listed.old.needs.items }
-    requires some { 0 < length (ready standing.old.clock (map entry_view listed.old.entries.items)) }
+    requires enabled { Enabled (setup_view setup.now).net (log_view standing.old.log).unclaimed standing.old.clock (map enabled_view listed.old) }
+    requires needs { AllByRecursion (HasItsNeeds (setup_view setup.now).net) listed.old }
+    requires some { 0 < length (ready standing.old.clock (map enabled_view listed.old)) }
     ensures drawn { IfOk result (λ claim. IsDrawnClaim (setup_view setup.now) standing.new (number_of claim.ticket) (job_of claim.ticket) claim.needs) }
     ensures same { standing.new ≡ record standing.old { draw = standing.new.draw } }
 {
     let number = standing.log.len();
-    let position = draw_position(&mut standing.draw, &listed.entries, standing.clock);
-    let element = take_element(alloc, &mut listed.entries, position);
-    let needs = take_needs(alloc, &mut listed.needs, position);
+    let position = draw_position(&mut standing.draw, listed, standing.clock);
+    let element = share_element(listed, position)?;
+    let needs = take_needs(alloc, listed, position);
     let job = job_of_claim(alloc, works, element, standing.clock)?;
     let ticket = Ticket::new(alloc, number, job);
     Ok(DrawnClaim { ticket, needs })
@@ -136,51 +135,47 @@ pub(crate) fn make_claim(
     Ok(())
 }
 
-/// The position of the entry that the next word draws from the ready ones.
-fn draw_position(draw: &mut Draw, entries: &[Entry], clock: u64) -> usize
-    requires some { 0 < length (ready clock (map entry_view entries.now)) }
-    ensures within { result < length entries.now }
-    ensures drawn { (entry : Entry) → slice_get entries.now result ≡ Some entry → (seed k : ℕ) → draw.old ≡ generator seed k → IsDrawn seed k (ready clock (map entry_view entries.now)) (entry_view entry) }
+/// The position of the element that the next word draws from the ready ones.
+fn draw_position(draw: &mut Draw, elements: &[EnabledElement], clock: u64) -> usize
+    requires some { 0 < length (ready clock (map enabled_view elements.now)) }
+    ensures within { result < length elements.now }
+    ensures drawn { (element : EnabledElement) → slice_get elements.now result ≡ Some element → (seed k : ℕ) → draw.old ≡ generator seed k → IsDrawn seed k (ready clock (map enabled_view elements.now)) (enabled_view element) }
     ensures next { (seed k : ℕ) → draw.old ≡ generator seed k → draw.new ≡ generator seed (k + 1) }
 {
-    let number = draw.pick(ready_count(entries, clock));
-    ready_position(entries, clock, number)
+    let number = draw.pick(ready_count(elements, clock));
+    ready_position(elements, clock, number)
 }
 
-/// Takes the element of the entry at a position out of the list.
-fn take_element(alloc: Global, entries: &mut [Entry], position: usize) -> Element
-    requires within { position < length entries.old }
-    ensures element { (entry : Entry) → slice_get entries.old position ≡ Some entry → element_view result ≡ element_view entry.element }
+/// The element at a position, which the list shares.
+fn share_element(elements: &[EnabledElement], position: usize) -> Result<Arc<Element>, Memory>
+    requires within { position < length elements.now }
+    ensures element { IfOk result (λ shared. (x : EnabledElement) → slice_get elements.now position ≡ Some x → element_view shared.value ≡ (enabled_view x).element) }
 {
-    let element = &mut entries[position].element;
-    Element {
-        transition: element.transition,
-        binding: mem::replace(&mut element.binding, Binding::new(alloc)),
-    }
+    let shared = elements[position].entry.element.clone()?;
+    Ok(shared)
 }
 
 /// Takes the needs at a position out of the list.
-fn take_needs(alloc: Global, needs: &mut [Needs], position: usize) -> Needs
-    requires within { position < length needs.old }
-    ensures needs { slice_get needs.old position ≡ Some result }
+fn take_needs(alloc: Global, elements: &mut [EnabledElement], position: usize) -> Needs
+    requires within { position < length elements.old }
+    ensures needs { (x : EnabledElement) → slice_get elements.old position ≡ Some x → result ≡ x.needs }
 {
-    mem::replace(&mut needs[position], Needs::new(alloc))
+    mem::replace(&mut elements[position].needs, Needs::new(alloc))
 }
 
 /// The job of a claim on an element: with the work of its transition.
 fn job_of_claim(
     alloc: Global,
     works: &[Arc<Work>],
-    element: Element,
+    element: Arc<Element>,
     time: u64,
 ) -> Result<Arc<Job>, Memory>
-    requires within { element.transition < length works.now }
-    ensures element { IfOk result (λ job. element_view job.value.element.value ≡ element_view element) }
+    requires within { element.value.transition < length works.now }
+    ensures element { IfOk result (λ job. element_view job.value.element.value ≡ element_view element.value) }
     ensures time { IfOk result (λ job. job.value.time ≡ time) }
-    ensures work { IfOk result (λ job. IfSome (slice_get works.now element.transition) (λ work. work_view job.value.work.value ≡ work_view work.value)) }
+    ensures work { IfOk result (λ job. IfSome (slice_get works.now element.value.transition) (λ work. work_view job.value.work.value ≡ work_view work.value)) }
 {
     let work = works[element.transition as usize].clone()?;
-    let element = Arc::new(alloc, element)?;
     Ok(Arc::new(
         alloc,
         Job {
@@ -191,15 +186,15 @@ fn job_of_claim(
     )?)
 }
 
-/// The position of the entry of a number, from 0, among the ready ones.
-fn ready_position(entries: &[Entry], clock: u64, number: u64) -> usize
-    requires within { number < length (ready clock (map entry_view entries.now)) }
-    ensures within { result < length entries.now }
-    ensures entry { (entry : Entry) → slice_get entries.now result ≡ Some entry → slice_get (ready clock (map entry_view entries.now)) number ≡ Some (entry_view entry) }
+/// The position of the element of a number, from 0, among the ready ones.
+fn ready_position(elements: &[EnabledElement], clock: u64, number: u64) -> usize
+    requires within { number < length (ready clock (map enabled_view elements.now)) }
+    ensures within { result < length elements.now }
+    ensures element { (element : EnabledElement) → slice_get elements.now result ≡ Some element → slice_get (ready clock (map enabled_view elements.now)) number ≡ Some (enabled_view element) }
 {
     let mut ahead = number;
-    for position in 0..entries.len() {
-        if entries[position].earliest == clock {
+    for position in 0..elements.len() {
+        if elements[position].entry.earliest == clock {
             if ahead == 0 {
                 return position;
             }

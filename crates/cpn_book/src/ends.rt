@@ -45,7 +45,7 @@ impl Book {
         if self.standing.log.len() == self.setup.limits.steps {
             return Some(End::Steps);
         }
-        let Some(time) = next_time(&self.listed.entries) else {
+        let Some(time) = next_time(&self.listed) else {
             return Some(End::Dead);
         };
         if self.setup.limits.until < time {
@@ -60,7 +60,7 @@ impl Book {
         ensures shown { finished_view result ≡ shown self (end_view cause) }
         ensures setup { setup_view result.setup ≡ setup_in self }
     {
-        let closing = outlook(&self.listed.entries, self.standing.clock);
+        let closing = outlook(&self.listed, self.standing.clock);
         let Book {
             setup,
             standing,

@@ -78,7 +78,7 @@ impl Book {
         requires unspent { is_spent_in self.now ≡ false }
         ensures { InState self.now (λ state. IsNextTime (setup_in self.now) state result) }
     {
-        next_time(&self.listed.entries)
+        next_time(&self.listed)
     }
 
     /// The events so far, in the order in which they happened. It is asked of a book that is not spent.

@@ -1,24 +1,29 @@
-//! Enabled bindings and elements.
+//! Enabled elements.
 
-use crate::bindings::{Binding, Element};
+use crate::bindings::Element;
+use crate::needs::Needs;
+use std::sync::Arc;
 
-/// A binding of a transition that a search found, and the least time at which it is covered.
-#[derive(Drop)]
-pub struct FoundBinding {
-    /// The binding.
-    pub binding: Binding,
-    /// The least time from 0 at which the transition is covered with it.
-    pub earliest: u64,
-}
-
-/// The bindings that a search of a transition found, in order.
-pub type Found = Vec<FoundBinding>;
-
-/// An enabled element, and its earliest time.
+/// An element, and the earliest time at which it is enabled.
 #[derive(Drop)]
 pub struct Entry {
     /// The least time, not before the clock, at which the element is covered.
     pub earliest: u64,
-    /// The element.
-    pub element: Element,
+    /// The element, which may be shared.
+    pub element: Arc<Element>,
 }
+
+/// An enabled element: its entry, and the tokens that it needs.
+///
+/// Source: own choice. A search evaluates the needs, so what is made of the element need not evaluate them again; and a job, a
+/// log and an occurrence may share the element with the list that it stands in.
+#[derive(Drop)]
+pub struct EnabledElement {
+    /// The element, and its earliest time.
+    pub entry: Entry,
+    /// What it needs.
+    pub needs: Needs,
+}
+
+/// The elements of one transition that a search found, in order.
+pub type Found = Vec<EnabledElement>;

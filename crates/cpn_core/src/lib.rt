@@ -22,7 +22,7 @@ mod values;
 pub use bindings::{Binding, Element, Pair};
 pub use colours::{Colour, Shape};
 pub use cpn_memory::{Memory, Text};
-pub use entries::{Entry, Found, FoundBinding};
+pub use entries::{EnabledElement, Entry, Found};
 pub use faults::EvalFault;
 pub use inscriptions::{
     ArcExpr, Arm, BindingTerm, Expr, Exprs, Function, Funs, Guard, MArm, MExpr, MExprs, Op, Pat,

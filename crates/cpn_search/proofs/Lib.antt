@@ -12,4 +12,6 @@ mod TurnSteps
 mod TriedPlans
 mod PlanSteps
 mod PlannedTransitions
-mod ListedNeeds
+mod FoundElements
+mod SharedParts
+mod SolvingEquations

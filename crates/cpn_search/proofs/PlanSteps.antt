@@ -214,8 +214,8 @@ carried_are_terms [] = tt
 carried_are_terms (arc ∷ arcs) = each_appended IsTerm (carried_stages arc) (flat_map carried_stages arcs) (terms_at_place arc.place arc.terms) (carried_are_terms arcs)
 
 term_has_all : (n : PlainNet) (s : program.Stage) → IsTerm (stage_view s) → HasAllValues n s
-term_has_all n (stages.Term place pattern) is = tt
-term_has_all n (stages.Equation variable inscription) is = tt
+term_has_all n (stages.Term place term) is = tt
+term_has_all n (stages.Equation variable equation) is = tt
 term_has_all n (stages.Small variable values) is = absurd is
 
 terms_have_all : (n : PlainNet) (ss : List program.Stage) → AllByRecursion IsTerm (stages_view ss) → AllByRecursion (HasAllValues n) ss

@@ -1,8 +1,12 @@
 -- Plans of transitions: one more, and the one of a number.
-use Rattle.std.proofs.Common.{◌≡◌, ℕ, zero, suc, ◌+◌, ◌<◌, List, [], ◌∷◌, ◌++◌, length, get_or, sym, subst, arith}
+use Rattle.std.proofs.Common.{◌≡◌, ℕ, zero, suc, ◌+◌, ◌<◌, List, [], ◌∷◌, ◌++◌, length, get_or, sym, ◌∙◌, subst, arith}
+use Rattle.std.proofs.lemmas.List.{length-map}
 use Rattle.cpn_definitions.specs.Net.{PlainNet}
-use Rattle.cpn_search.specs.PlannedNets.{IsPlan, ArePlansFrom}
+use Rattle.cpn_core.specs.Nets.{transition_view, net_view}
+use Rattle.cpn_core.specs.declared.nets.Net.{Net}
+use Rattle.cpn_search.specs.PlannedNets.{IsPlan, ArePlansFrom, IsPlanned}
 use Rattle.cpn_search.specs.declared.plan.Plan.{Plan}
+use Rattle.cpn_search.specs.declared.plans.Plans.{Plans}
 
 -- the plan of the next transition behind those before
 plans_more : (n : PlainNet) (k : ℕ) (plans : List Plan) (plan : Plan) → ArePlansFrom n k plans → IsPlan n (k + length plans) plan → ArePlansFrom n k (plans ++ plan ∷ [])
@@ -20,3 +24,7 @@ plan_from n k (p ∷ plans) (suc t) plan lt is are = subst (λ (i : ℕ). IsPlan
 -- the plan of a transition
 pub plan_at : (n : PlainNet) (plans : List Plan) (t : ℕ) (plan : Plan) → t < length plans → plan ≡ get_or plans t plan → ArePlansFrom n 0 plans → IsPlan n t plan
 plan_at n plans t plan lt is are = subst (λ (i : ℕ). IsPlan n i plan) (omega arith) (plan_from n 0 plans t plan lt is are)
+
+-- there are as many plans as transitions
+pub planned_number : (n : Net) (plans : Plans) → IsPlanned (net_view n) plans → length plans.plans.items ≡ length n.transitions.items
+planned_number n plans planned = planned.each ∙ length-map n.transitions.items transition_view

@@ -11,7 +11,7 @@ use Rattle.cpn_definitions.specs.Sound.{IsSoundInput, IsSoundTransition, IsMarki
 use Rattle.cpn_stages.specs.Stages.{Stage, by_term, by_equation, by_size, terms_at, term_stages, those_without, Further, none_left, next_equation, next_small, AreStages}
 use Rattle.cpn_stages.specs.Trials.{Trial, IsTrialOf, AreTrialsOf}
 use Rattle.cpn_core.specs.Views.{value_view}
-use Rattle.cpn_core.specs.Inscriptions.{pattern_view, expr_view}
+use Rattle.cpn_search.specs.SharedViews.{term_pattern, equation_inscription}
 use Rattle.cpn_search.specs.declared.plan.Stage as program
 use Rattle.cpn_search.specs.declared.plan.Stage.TheVariants as stages
 use Rattle.cpn_search.specs.declared.trials.Trial as trial
@@ -45,8 +45,8 @@ rest_placed k ss i placed = rw add-one (left_placed k ss i placed)
 -- ---- as the trials of the stages
 
 tried_is_of : (n : PlainNet) (m : Marking) (s : program.Stage) (t : Trial) → ((p : ℕ) → AreSorted (tokens_at m p)) → HasAllValues n s → IsTriedAs m s t → IsTrialOf n m (stage_view s) t
-tried_is_of n m (stages.Term place pattern) t sorted full is = subst (IsTrialOf n m (by_term place (pattern_view pattern.now))) (sym is) (refl, values_just m place (sorted place))
-tried_is_of n m (stages.Equation variable inscription) t sorted full is = subst (IsTrialOf n m (by_equation variable (expr_view inscription.now))) (sym is) (refl, refl)
+tried_is_of n m (stages.Term place term) t sorted full is = subst (IsTrialOf n m (by_term place (term_pattern term))) (sym is) (refl, values_just m place (sorted place))
+tried_is_of n m (stages.Equation variable equation) t sorted full is = subst (IsTrialOf n m (by_equation variable (equation_inscription equation))) (sym is) (refl, refl)
 tried_is_of n m (stages.Small variable values) t sorted full is =
     subst (IsTrialOf n m (by_size variable)) (sym is) (refl, record { differ = rising_differ (map value_view values.items) full.in_order; all = full.all })
 

@@ -9,7 +9,7 @@ use Rattle.cpn_definitions.specs.Net.{PlainTransition, PlainNet, transition_at}
 use Rattle.cpn_definitions.specs.Enabled.{PlainFound}
 use Rattle.cpn_definitions.specs.Sound.{IsSound, IsSolvable}
 use Rattle.cpn_definitions.proofs.SoundElements.{sound_transition}
-use Rattle.cpn_search.specs.declared.covered.Covered.{Covered}
+use Rattle.cpn_core.specs.declared.entries.EnabledElement.{EnabledElement}
 use Rattle.cpn_core.specs.declared.nets.Transition.{Transition}
 use Rattle.cpn_core.specs.declared.nets.Net.{Net}
 use Rattle.cpn_core.specs.Nets.{net_view}
@@ -73,11 +73,11 @@ none_taken (o ∷ before) is = absurd (omega arith)
 -- ---- the beginning
 
 pub begun
-    : (n : Net) (m : Marking) (t : ℕ) (trials : List Trial) (tr : Transition) (vars : List ℕ) (b : PlainPartial) (ahead : List UnderWay) (found : List Covered)
+    : (n : Net) (m : Marking) (t : ℕ) (trials : List Trial) (tr : Transition) (vars : List ℕ) (b : PlainPartial) (ahead : List UnderWay) (found : List EnabledElement)
     → AreTrials (net_view n) m t trials → t < length n.transitions.items → tr ≡ get_or n.transitions.items t tr → vars ≡ tr.vars.items → b ≡ unbound vars → ahead ≡ record { partial = b; tried = 0 } ∷ [] → found ≡ []
     → SearchState (net_view n) m t trials (all_under_way ahead) (map found_view found)
 begun n m t trials tr vars b ahead found are lt is of_it nothing first none_found =
     let start : b ≡ unbound (transition_at (net_view n) t).vars = nothing ∙ ap unbound (of_it ∙ sym (ap (λ (k : PlainTransition). k.vars) (transition_is n t tr lt is))) in
     let begin : (unbound (transition_at (net_view n) t).vars, 0) ∷ [] ≡ all_under_way ahead = ap (λ (c : PlainPartial). (c, 0) ∷ []) (sym start) ∙ sym (ap all_under_way first) in
-    subst (λ (fs : List Covered). SearchState (net_view n) m t trials (all_under_way ahead) (map found_view fs)) (sym none_found)
+    subst (λ (fs : List EnabledElement). SearchState (net_view n) m t trials (all_under_way ahead) (map found_view fs)) (sym none_found)
     (subst (λ (os : List PlainUnderWay). SearchState (net_view n) m t trials os []) begin (state_begins (net_view n) m t trials are))

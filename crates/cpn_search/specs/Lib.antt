@@ -1,6 +1,6 @@
 pub mod Found
 pub mod FoundViews
-pub mod CoveredNeeds
+pub mod SharedViews
 pub mod StageViews
 pub mod Plans
 pub mod PlannedNets

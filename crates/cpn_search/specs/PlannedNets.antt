@@ -2,7 +2,6 @@
 use Rattle.std.specs.Prelude.{◌≡◌, ℕ, ◌+◌, List, [], ◌∷◌, length}
 use Rattle.std.specs.List.{AllByRecursion}
 use Rattle.cpn_definitions.specs.Net.{PlainNet, transition_at}
-use Rattle.cpn_core.specs.Nets.{net_view}
 use Rattle.cpn_stages.specs.Stages.{AreStages}
 use Rattle.cpn_search.specs.StageViews.{stages_view, HasAllValues}
 use Rattle.cpn_search.specs.declared.plan.Plan.{Plan}
@@ -18,11 +17,7 @@ abbrev pub ArePlansFrom : PlainNet → ℕ → List Plan → Type 0
 ArePlansFrom n t [] = Unit {0}
 ArePlansFrom n t (plan ∷ plans) = IsPlan n t plan × ArePlansFrom n (t + 1) plans
 
--- the net of the plans
-abbrev pub planned_net : Plans → PlainNet
-planned_net plans = net_view plans.net.now
-
 -- Planned: there is a plan for each transition of the net.
-pub record IsPlanned (plans : Plans) : Type 0 where
-  pub each : length plans.plans.items ≡ length plans.net.now.transitions.items
-  pub are : ArePlansFrom (planned_net plans) 0 plans.plans.items
+pub record IsPlanned (n : PlainNet) (plans : Plans) : Type 0 where
+  pub each : length plans.plans.items ≡ length n.transitions
+  pub are : ArePlansFrom n 0 plans.plans.items

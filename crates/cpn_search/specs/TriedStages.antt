@@ -3,9 +3,9 @@ use Rattle.std.specs.Prelude.{◌≡◌, ℕ, ◌<◌, List, [], ◌∷◌, map}
 use Rattle.cpn_definitions.specs.Marking.{Marking, tokens_at}
 use Rattle.cpn_definitions.specs.Inscription.{variable_pattern}
 use Rattle.cpn_core.specs.Views.{value_view}
-use Rattle.cpn_core.specs.Inscriptions.{pattern_view, expr_view}
 use Rattle.cpn_stages.specs.Stages.{Stage, by_term, by_equation, by_size}
 use Rattle.cpn_stages.specs.Trials.{Trial, matching, solving}
+use Rattle.cpn_search.specs.SharedViews.{term_pattern, equation_inscription}
 use Rattle.cpn_search.specs.declared.plan.Stage as program
 use Rattle.cpn_search.specs.declared.plan.Stage.TheVariants as stages
 use Rattle.cpn_tmset.specs.Listed.{values_of}
@@ -18,8 +18,8 @@ IsPlaced k (by_size x) = Unit {0}
 
 -- the pattern against the different values on its place; the variable against the inscription; the variable against the values
 abbrev pub IsTriedAs : Marking → program.Stage → Trial → Type 0
-IsTriedAs m (stages.Term place pattern) trial = trial ≡ matching (pattern_view pattern.now) (values_of (tokens_at m place))
-IsTriedAs m (stages.Equation variable inscription) trial = trial ≡ solving variable (expr_view inscription.now)
+IsTriedAs m (stages.Term place term) trial = trial ≡ matching (term_pattern term) (values_of (tokens_at m place))
+IsTriedAs m (stages.Equation variable equation) trial = trial ≡ solving variable (equation_inscription equation)
 IsTriedAs m (stages.Small variable values) trial = trial ≡ matching (variable_pattern variable) (map value_view values.items)
 
 abbrev pub AreTriedAs : Marking → List program.Stage → List Trial → Type 0

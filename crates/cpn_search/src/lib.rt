@@ -6,18 +6,18 @@
 //! elements. It changes no marking. Between two searches only the plans, and the memory of a list, may be kept.
 #![tactic(auto)]
 
-mod covered;
 mod earliest;
 mod extending;
 mod plan;
 mod plans;
 mod searching;
+mod shared;
 mod sorting;
 mod trials;
 mod turns;
 
-pub use covered::Covered;
 pub use plan::{Plan, Stage};
-pub use plans::{Listed, Plans};
-pub use searching::{enabled, enabled_of, list_enabled, search};
+pub use plans::Plans;
+pub use searching::{enabled, enabled_of, search};
+pub use shared::{SharedEquation, SharedTerm};
 pub use turns::Searched;

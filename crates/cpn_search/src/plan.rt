@@ -1,5 +1,5 @@
 //! The plan of a search: the stages in which the values of a transition's variables are found.
-ghost use Rattle.std.specs.Prelude.{◌≡◌, ◌++◌, ◌<◌, ◌&&◌, not, length, map, IfOk, IfSome, IfNone, MatchOption};
+ghost use Rattle.std.specs.Prelude.{◌≡◌, ◌++◌, ◌<◌, ◌&&◌, not, length, map, IfOk, IfSome, IfNone, MatchOption, slice_get};
 ghost use Rattle.std.specs.List.{flat_map, list_all, AllByRecursion};
 ghost use Rattle.cpn_definitions.specs.Net.{variable_at, transition_at};
 ghost use Rattle.cpn_definitions.specs.Bindable.{AreAll, IsSmall};
@@ -12,26 +12,27 @@ ghost use Rattle.cpn_stages.specs.Stages.{is_among, those_without, equations_in,
 ghost use Rattle.cpn_search.specs.StageViews.{carried_stages, stage_view, stages_view, HasAllValues};
 ghost use Rattle.cpn_search.specs.Plans.{AreLeft, HaveColours, IsFirstWithValues, IsNext, AreFurther};
 
+use crate::shared::{SharedEquation, SharedTerm};
 use cpn_bindable::{Equation, equations_of, push_carried};
-use cpn_core::{Expr, Memory, Net, Pat, PlaceArc, Transition, Values};
+use cpn_core::{Memory, Net, PlaceArc, Transition, Values};
 use std::alloc::Global;
 
 /// A stage of a search: what gives some of a transition's variables their values.
 #[derive(Drop)]
-pub enum Stage<'n> {
+pub enum Stage {
     /// A binding term of an input arc: the values on the arc's place that the pattern fits.
     Term {
         /// The number of the place.
         place: u32,
-        /// The pattern of the term.
-        pattern: &'n Pat,
+        /// The term.
+        term: SharedTerm,
     },
     /// An equation of the guard: the value of the inscription, which has no variable but those of the stages before.
     Equation {
         /// The number of the variable.
         variable: u32,
-        /// What the guard makes it equal to.
-        inscription: &'n Expr,
+        /// The equation, which has what the guard makes it equal to.
+        equation: SharedEquation,
     },
     /// A variable of a small colour set: each value of the colour set.
     Small {
@@ -47,28 +48,31 @@ pub enum Stage<'n> {
 /// First come the binding terms, in the order of the input arcs and their texts. As long as a variable has no value, the next
 /// stage is the first equation of the guard with such a variable alone on one side, and on the other side only variables that
 /// have one; or, where there is none, the first such variable, in declaration order, whose colour set has at most 256 values.
+/// A plan shares the inscriptions of its net, so it may be kept beside it.
 /// Source: own choice.
 #[derive(Drop)]
-pub struct Plan<'n> {
+pub struct Plan {
     /// The stages, in their order.
-    pub stages: Vec<Stage<'n>>,
+    pub stages: Vec<Stage>,
 }
 
 /// Adds the binding terms of an arc.
-fn push_terms<'n>(arc: &'n PlaceArc, stages: &mut Vec<Stage<'n>>) -> Result<(), Memory>
+#[tactic(auto, using(crate::proofs::SharedParts::term_pushed, crate::proofs::SharedParts::taken_whole))]
+fn push_terms(arc: &PlaceArc, stages: &mut Vec<Stage>) -> Result<(), Memory>
     ensures added { IfOk result (λ _. stages_view stages.new.items ≡ stages_view stages.old.items ++ carried_stages (arc_view arc.now)) }
 {
-    for term in &arc.inscription.terms {
+    for number in 0..arc.inscription.terms.len() {
+        let term = SharedTerm::of(&arc.inscription, number)?;
         stages.push(Stage::Term {
             place: arc.place,
-            pattern: &term.pattern,
+            term,
         })?;
     }
     Ok(())
 }
 
 /// The binding terms of the input arcs, in their order.
-fn term_stages<'n>(alloc: Global, inputs: &'n [PlaceArc]) -> Result<Vec<Stage<'n>>, Memory>
+fn term_stages(alloc: Global, inputs: &[PlaceArc]) -> Result<Vec<Stage>, Memory>
     ensures terms { IfOk result (λ stages. stages_view stages.items ≡ flat_map carried_stages (arcs_view inputs.now)) }
 {
     let mut stages = Vec::new(alloc);
@@ -87,9 +91,9 @@ struct Small {
 
 /// A variable, and the stage that gives it a value.
 #[derive(Drop)]
-struct Next<'n> {
+struct Next {
     variable: u32,
-    stage: Stage<'n>,
+    stage: Stage,
 }
 
 /// Whether the number is one of them.
@@ -149,18 +153,16 @@ fn solves(transition: &Transition, left: &[u32], equation: &Equation) -> bool
     is_among(left, equation.variable) && have_values(transition, left, &equation.sources)
 }
 
-/// The first of the equations that does.
-fn first_solving<'e, 'n>(
-    transition: &Transition,
-    left: &[u32],
-    equations: &'e [Equation<'n>],
-) -> Option<&'e Equation<'n>>
+/// The number of the first of the equations that does.
+#[tactic(auto, using(crate::proofs::SolvingEquations::solving_at, crate::proofs::SolvingEquations::passed_over, crate::proofs::SolvingEquations::none_solving, crate::proofs::SolvingEquations::sources_at))]
+fn first_solving(transition: &Transition, left: &[u32], equations: &[Equation]) -> Option<usize>
     requires sources { AllByRecursion HasItsSources equations.now }
-    ensures first { MatchOption result (first_solving (transition_view transition.now) left.now (map equation_pair equations.now) ≡ None) (λ equation. first_solving (transition_view transition.now) left.now (map equation_pair equations.now) ≡ Some (equation_pair equation.now)) }
+    ensures within { IfSome result (λ number. number < length equations.now) }
+    ensures first { MatchOption result (first_solving (transition_view transition.now) left.now (map equation_pair equations.now) ≡ None) (λ number. first_solving (transition_view transition.now) left.now (map equation_pair equations.now) ≡ slice_get (map equation_pair equations.now) number) }
 {
-    for equation in equations {
-        if solves(transition, left, equation) {
-            return Some(equation);
+    for number in 0..equations.len() {
+        if solves(transition, left, &equations[number]) {
+            return Some(number);
         }
     }
     None
@@ -194,12 +196,12 @@ fn first_small(alloc: Global, net: &Net, left: &[u32]) -> Result<Option<Small>, 
 }
 
 /// The stage of the first variable of a small colour set, where no equation gives one of those that are left a value.
-fn small_stage<'n>(
+fn small_stage(
     alloc: Global,
-    net: &'n Net,
+    net: &Net,
     transition: &Transition,
     left: &[u32],
-) -> Result<Next<'n>, Memory>
+) -> Result<Next, Memory>
     requires sound { IsSoundTransition (net_view net.now) (transition_view transition.now) }
     requires left { AreLeft (transition_view transition.now) left.now }
     requires some { 0 < length left.now }
@@ -218,13 +220,13 @@ fn small_stage<'n>(
 
 /// The next stage: the first equation that gives one of the variables that are left a value; or, where there is none, the first
 /// of them whose colour set is small, which there is as the transition is sound.
-fn next_stage<'n>(
+fn next_stage(
     alloc: Global,
-    net: &'n Net,
+    net: &Net,
     transition: &Transition,
-    equations: &[Equation<'n>],
+    equations: &[Equation],
     left: &[u32],
-) -> Result<Next<'n>, Memory>
+) -> Result<Next, Memory>
     requires sound { IsSoundTransition (net_view net.now) (transition_view transition.now) }
     requires equations { map equation_pair equations.now ≡ equations_in (transition_view transition.now) }
     requires sources { AllByRecursion HasItsSources equations.now }
@@ -234,25 +236,26 @@ fn next_stage<'n>(
     ensures values { IfOk result (λ next. HasAllValues (net_view net.now) next.stage) }
 {
     match first_solving(transition, left, equations) {
-        Some(equation) => Ok(Next {
-            variable: equation.variable,
-            stage: Stage::Equation {
-                variable: equation.variable,
-                inscription: equation.inscription,
-            },
-        }),
+        Some(number) => {
+            let variable = equations[number].variable;
+            let equation = SharedEquation::of(&transition.guard, number)?;
+            Ok(Next {
+                variable,
+                stage: Stage::Equation { variable, equation },
+            })
+        }
         None => small_stage(alloc, net, transition, left),
     }
 }
 
 /// Adds the further stages for the variables that are left, until none is.
-fn push_further<'n>(
+fn push_further(
     alloc: Global,
-    net: &'n Net,
+    net: &Net,
     transition: &Transition,
-    equations: &[Equation<'n>],
+    equations: &[Equation],
     mut left: Vec<u32>,
-    stages: &mut Vec<Stage<'n>>,
+    stages: &mut Vec<Stage>,
 ) -> Result<(), Memory>
     requires sound { IsSoundTransition (net_view net.now) (transition_view transition.now) }
     requires equations { map equation_pair equations.now ≡ equations_in (transition_view transition.now) }
@@ -269,14 +272,14 @@ fn push_further<'n>(
     Ok(())
 }
 
-impl<'n> Plan<'n> {
+impl Plan {
     /// The plan of the transition of a number, in a sound net: the stages that the definition gives
     /// it, where those of small colour sets hold all values.
     ///
     /// # Errors
     ///
     /// [`Memory`]: memory ran out.
-    pub fn of(alloc: Global, net: &'n Net, t: u32) -> Result<Plan<'n>, Memory>
+    pub fn of(alloc: Global, net: &Net, t: u32) -> Result<Plan, Memory>
         requires sound { IsSound (net_view net.now) }
         requires in_range { t < length net.now.transitions.items }
         ensures stages { IfOk result (λ plan. AreStages (net_view net.now) (transition_at (net_view net.now) t) (stages_view plan.stages.items)) }

@@ -1,73 +1,63 @@
 //! The plans of the searches of a net, which are made once and serve for each marking.
 ghost use Rattle.std.specs.Prelude.{◌≡◌, map, length, IfOk, OnOk};
+ghost use Rattle.std.specs.List.{AllByRecursion};
 ghost use Rattle.cpn_definitions.specs.Enabled.{Enabled};
 ghost use Rattle.cpn_definitions.specs.Sound.{IsSound, IsMarking};
-ghost use Rattle.cpn_core.specs.Elements.{entry_view};
+ghost use Rattle.cpn_core.specs.Elements.{enabled_view, HasItsNeeds};
 ghost use Rattle.cpn_core.specs.Nets.{net_view};
-ghost use Rattle.cpn_search.specs.CoveredNeeds.{StandBeside};
-ghost use Rattle.cpn_search.specs.PlannedNets.{planned_net, ArePlansFrom, IsPlanned};
+ghost use Rattle.cpn_search.specs.PlannedNets.{ArePlansFrom, IsPlanned};
 
 use crate::plan::Plan;
-use crate::searching::{push_entries, search_by};
-use cpn_core::{Entry, Memory, Needs, Net};
+use crate::searching::{push_elements, search_by};
+use cpn_core::{EnabledElement, Memory, Net};
 use cpn_tmset::Marking;
 use std::alloc::Global;
 
-/// A net with the plan of each of its transitions.
+/// The plan of each transition of a net, by its number.
 ///
-/// Source: own choice. The plans hold for every marking, so a run makes them once.
+/// Source: own choice. The plans hold for every marking, and share the net's inscriptions, so they are made once and kept beside the net.
 #[derive(Drop)]
-pub struct Plans<'n> {
-    net: &'n Net,
-    plans: Vec<Plan<'n>>,
+pub struct Plans {
+    plans: Vec<Plan>,
 }
 
-/// The enabled elements of a net, and beside each what it needs.
-///
-/// Source: own choice. A search evaluates the needs, so a claim need not evaluate them again.
-#[derive(Drop)]
-pub struct Listed {
-    /// The elements, in their order.
-    pub entries: Vec<Entry>,
-    /// What each of them needs.
-    pub needs: Vec<Needs>,
-}
-
-impl<'n> Plans<'n> {
+impl Plans {
     /// The plans of a sound net.
     ///
     /// # Errors
     ///
     /// `Memory` where memory is wanted.
-    pub fn of(alloc: Global, net: &'n Net) -> Result<Plans<'n>, Memory>
+    pub fn of(alloc: Global, net: &Net) -> Result<Plans, Memory>
         requires sound { IsSound (net_view net.now) }
-        ensures net { IfOk result (λ plans. planned_net plans ≡ net_view net.now) }
-        ensures planned { IfOk result (λ plans. IsPlanned plans) }
+        ensures planned { IfOk result (λ plans. IsPlanned (net_view net.now) plans) }
     {
         let plans = plans_of(alloc, net)?;
-        Ok(Plans { net, plans })
+        Ok(Plans { plans })
     }
 
-    /// The enabled elements of the net, as `enabled` of the net lists them: each binding element that is covered at some time not
-    /// before the clock, once, by transition and then by binding, with the least such time; and what each needs.
+    /// The enabled elements of their net, as `enabled` of the net lists them: each binding element that is covered at some time not
+    /// before the clock, once, by transition and then by binding, with the least such time and with what it needs.
     ///
     /// # Errors
     ///
     /// `Memory` where memory is wanted; it leaves nothing behind.
     ///
     /// Source: Jensen and Kristensen, chapter 11; the order is our own choice.
-    pub fn enabled(&self, alloc: Global, marking: &Marking, clock: u64) -> Result<Listed, Memory>
-        requires planned { IsPlanned self.now }
-        requires sound { IsSound (planned_net self.now) }
-        requires marking { IsMarking (planned_net self.now).places marking.now }
-        ensures enabled { IfOk result (λ listed. Enabled (planned_net self.now) marking.now clock (map entry_view listed.entries.items)) }
-        ensures needs { IfOk result (λ listed. StandBeside (planned_net self.now) listed.entries.items listed.needs.items) }
+    pub fn enabled(
+        &self,
+        alloc: Global,
+        net: &Net,
+        marking: &Marking,
+        clock: u64,
+    ) -> Result<Vec<EnabledElement>, Memory>
+        requires planned { IsPlanned (net_view net.now) self.now }
+        requires sound { IsSound (net_view net.now) }
+        requires marking { IsMarking (net_view net.now).places marking.now }
+        ensures enabled { IfOk result (λ listed. Enabled (net_view net.now) marking.now clock (map enabled_view listed.items)) }
+        ensures needs { IfOk result (λ listed. AllByRecursion (HasItsNeeds (net_view net.now)) listed.items) }
     {
-        let mut listed = Listed {
-            entries: Vec::new(alloc),
-            needs: Vec::new(alloc),
-        };
-        self.enabled_into(alloc, marking, clock, &mut listed)?;
+        let mut listed = Vec::new(alloc);
+        self.enabled_into(alloc, net, marking, clock, &mut listed)?;
         Ok(listed)
     }
 
@@ -80,28 +70,28 @@ impl<'n> Plans<'n> {
     pub fn enabled_into(
         &self,
         alloc: Global,
+        net: &Net,
         marking: &Marking,
         clock: u64,
-        listed: &mut Listed,
+        listed: &mut Vec<EnabledElement>,
     ) -> Result<(), Memory>
-        requires planned { IsPlanned self.now }
-        requires sound { IsSound (planned_net self.now) }
-        requires marking { IsMarking (planned_net self.now).places marking.now }
-        ensures enabled { OnOk result (Enabled (planned_net self.now) marking.now clock (map entry_view listed.new.entries.items)) }
-        ensures needs { OnOk result (StandBeside (planned_net self.now) listed.new.entries.items listed.new.needs.items) }
+        requires planned { IsPlanned (net_view net.now) self.now }
+        requires sound { IsSound (net_view net.now) }
+        requires marking { IsMarking (net_view net.now).places marking.now }
+        ensures enabled { OnOk result (Enabled (net_view net.now) marking.now clock (map enabled_view listed.new.items)) }
+        ensures needs { OnOk result (AllByRecursion (HasItsNeeds (net_view net.now)) listed.new.items) }
     {
-        listed.entries.clear();
-        listed.needs.clear();
+        listed.clear();
         for t in 0..self.plans.len() {
-            let found = search_by(alloc, self.net, marking, t as u32, &self.plans[t])?.found;
-            push_entries(listed, found, t as u32, clock)?;
+            let found = search_by(alloc, net, marking, t as u32, &self.plans[t])?.found;
+            push_elements(listed, found, clock)?;
         }
         Ok(())
     }
 }
 
 /// The plan of each transition, by its number.
-fn plans_of<'n>(alloc: Global, net: &'n Net) -> Result<Vec<Plan<'n>>, Memory>
+fn plans_of(alloc: Global, net: &Net) -> Result<Vec<Plan>, Memory>
     requires sound { IsSound (net_view net.now) }
     ensures plans { IfOk result (λ plans. ArePlansFrom (net_view net.now) 0 plans.items) }
     ensures each { IfOk result (λ plans. length plans.items ≡ length net.now.transitions.items) }

@@ -2,9 +2,9 @@
 ghost use Rattle.std.specs.Prelude.{◌≡◌, IsPermutation, IsSortedBy, IfOk};
 ghost use Rattle.std.specs.Ordering.{is_lt};
 ghost use Rattle.cpn_definitions.specs.Enabled.{binding_cmp};
+ghost use Rattle.cpn_search.specs.FoundViews.{found_view};
 
-use crate::covered::Covered;
-use cpn_core::{Binding, Memory};
+use cpn_core::{Binding, Found, Memory};
 use std::cmp::Ordering;
 
 /// How two bindings of the same variables compare: by the values of the variables, in declaration order.
@@ -24,10 +24,13 @@ fn compare(binding: &Binding, other: &Binding) -> Ordering
 }
 
 /// What was found, in the order of the bindings.
-pub fn in_order(mut found: Vec<Covered>) -> Result<Vec<Covered>, Memory>
+pub fn in_order(mut found: Found) -> Result<Found, Memory>
     ensures same { IfOk result (λ sorted. IsPermutation found.items sorted.items) }
-    ensures rises { IfOk result (λ sorted. IsSortedBy (λ f g. is_lt (binding_cmp f.binding g.binding)) sorted.items) }
+    ensures rises { IfOk result (λ sorted. IsSortedBy (λ x y. is_lt (binding_cmp (found_view x).binding (found_view y).binding)) sorted.items) }
 {
-    found.sort_by(|one, another| compare(&one.binding, &another.binding))?;
+    found.sort_by(|one, another| compare(
+        &one.entry.element.binding,
+        &another.entry.element.binding,
+    ))?;
     Ok(found)
 }

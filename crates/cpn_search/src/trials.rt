@@ -12,11 +12,11 @@ use std::alloc::Global;
 
 /// What is tried at a stage of a search.
 #[derive(Drop)]
-pub enum Trial<'n, 'm, 'p> {
+pub enum Trial<'m, 'p> {
     /// A pattern against values, one after another.
     Matching {
         /// The pattern of a binding term.
-        pattern: &'n Pat,
+        pattern: &'p Pat,
         /// The different values on the place of its arc.
         values: Vec<&'m Value>,
     },
@@ -25,7 +25,7 @@ pub enum Trial<'n, 'm, 'p> {
         /// The number of the variable.
         variable: u32,
         /// What the guard makes it equal to.
-        inscription: &'n Expr,
+        inscription: &'p Expr,
     },
     /// A variable against values, one after another.
     Choosing {
@@ -36,7 +36,7 @@ pub enum Trial<'n, 'm, 'p> {
     },
 }
 
-impl Trial<'_, '_, '_> {
+impl Trial<'_, '_> {
     /// How many tries it makes of a partial binding: the values that are tried, or one.
     pub fn tries(&self) -> usize {
         match self {
@@ -48,25 +48,23 @@ impl Trial<'_, '_, '_> {
 }
 
 /// What is tried at a stage on the tokens of a marking.
-fn trial_of<'n, 'm, 'p>(
+fn trial_of<'m, 'p>(
     alloc: Global,
-    stage: &'p Stage<'n>,
+    stage: &'p Stage,
     marking: &'m Marking,
-) -> Result<Trial<'n, 'm, 'p>, Memory>
+) -> Result<Trial<'m, 'p>, Memory>
     requires placed { IsPlaced (length marking.now) (stage_view stage.now) }
     ensures tried { IfOk result (λ trial. IsTriedAs marking.now stage.now (trial_view trial)) }
 {
     match stage {
-        Stage::Term { place, pattern } => {
+        Stage::Term { place, term } => {
             let values = marking.place(*place).values(alloc)?;
+            let pattern = term.pattern();
             Ok(Trial::Matching { pattern, values })
         }
-        Stage::Equation {
-            variable,
-            inscription,
-        } => Ok(Trial::Solving {
+        Stage::Equation { variable, equation } => Ok(Trial::Solving {
             variable: *variable,
-            inscription,
+            inscription: equation.inscription(),
         }),
         Stage::Small { variable, values } => Ok(Trial::Choosing {
             variable: *variable,
@@ -76,11 +74,11 @@ fn trial_of<'n, 'm, 'p>(
 }
 
 /// What is tried at each stage of a plan, on the tokens of a marking.
-pub fn trials_of<'n, 'm, 'p>(
+pub fn trials_of<'m, 'p>(
     alloc: Global,
-    plan: &'p Plan<'n>,
+    plan: &'p Plan,
     marking: &'m Marking,
-) -> Result<Vec<Trial<'n, 'm, 'p>>, Memory>
+) -> Result<Vec<Trial<'m, 'p>>, Memory>
     requires placed { AllByRecursion (IsPlaced (length marking.now)) (stages_view plan.now.stages.items) }
     ensures tried { IfOk result (λ trials. AreTriedAs marking.now plan.now.stages.items (trials_view trials.items)) }
 {

@@ -32,8 +32,8 @@ pub fn searched_text(
         }
     }
     out.push_str("from then")?;
-    for entry in &enabled(alloc, net, marking, time)? {
-        let earliest = entry.earliest;
+    for element in &enabled(alloc, net, marking, time)? {
+        let earliest = element.entry.earliest;
         write!(out, " @{earliest}")?;
     }
     Ok(out)
@@ -54,8 +54,8 @@ fn push_search(
     let tries = search(alloc, net, marking, t)?.tries;
     write!(out, "{tries} tries")?;
     for one in &enabled_of(alloc, net, marking, t)? {
-        push_binding(out, alloc, net, &one.binding)?;
-        let earliest = one.earliest;
+        push_binding(out, alloc, net, &one.entry.element.binding)?;
+        let earliest = one.entry.earliest;
         write!(out, "@{earliest}")?;
     }
     out.push_str("; ")?;

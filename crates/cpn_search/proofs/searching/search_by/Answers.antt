@@ -10,7 +10,7 @@ use Rattle.cpn_search.specs.TrialViews.{trials_view}
 use Rattle.cpn_search.proofs.KnownTransitions.{in_range}
 use Rattle.cpn_search.proofs.TriedPlans.{tried_are_of, stages_placed}
 use Rattle.cpn_search.proofs.BindingOrder.{sorted_is_enabled}
-use Rattle.cpn_search.proofs.ListedNeeds.{needs_permuted}
+use Rattle.cpn_search.proofs.FoundElements.{elements_permuted}
 use Rattle.cpn_search.proofs.searching.search_by.Goals as goal
 
 pub trials_of-requires : goal.trials_of-requires
@@ -30,5 +30,5 @@ all_found-requires-clause-trials c = record {
 pub returns-clause-enabled : goal.returns-clause-enabled
 returns-clause-enabled c = sorted_is_enabled (net_view c.args.net.now) c.args.marking.now c.args.t c.in_ok-searched.searched.found.items c.in_ok-found.found.items c.in_ok-searched.ensures.found c.in_ok-found.ensures.same c.in_ok-found.ensures.rises
 
-pub returns-clause-needs : goal.returns-clause-needs
-returns-clause-needs c = needs_permuted (net_view c.args.net.now) c.args.t c.in_ok-searched.searched.found.items c.in_ok-found.found.items c.in_ok-found.ensures.same c.in_ok-searched.ensures.needs
+pub returns-clause-elements : goal.returns-clause-elements
+returns-clause-elements c = elements_permuted (net_view c.args.net.now) c.args.t c.in_ok-searched.searched.found.items c.in_ok-found.found.items c.in_ok-found.ensures.same c.in_ok-searched.ensures.elements

@@ -1,8 +1,7 @@
 -- The state begins, each turn keeps it, and at its end all is found.
 use Rattle.std.proofs.Common.{◌<◌, arith, map, drop, sym, subst, refl}
 use Rattle.cpn_core.specs.Nets.{net_view}
-use Rattle.cpn_search.specs.CoveredNeeds.{HaveNeeds}
-use Rattle.cpn_search.specs.FoundViews.{found_view}
+use Rattle.cpn_search.specs.FoundViews.{found_view, AreOf}
 use Rattle.cpn_search.specs.TrialViews.{trials_view, under_way_view, all_under_way}
 use Rattle.cpn_search.specs.Searches.{SearchState, still_made}
 use Rattle.cpn_search.proofs.TurnSteps.{vars_listed, last_taken, none_taken, begun}
@@ -11,7 +10,7 @@ use Rattle.cpn_search.proofs.turns.all_found.Goals as goal
 
 pub loop-next-init : goal.loop-next-init
 loop-next-init c =
-    (begun c.args.net.now c.args.marking.now c.args.t (trials_view c.args.trials.now) c.index-transition.result.now c.deref.result.now c.in_ok-partial.partial c.in_ok-ahead.ahead.items c.new-found.result.items c.requires.trials c.requires.in_range c.index-transition.ensures c.deref.ensures.value c.in_ok-partial.ensures.unbound c.in_ok-ahead.ensures.items c.new-found.ensures.items, subst (HaveNeeds (net_view c.args.net.now) c.args.t) (sym c.new-found.ensures.items) tt)
+    (begun c.args.net.now c.args.marking.now c.args.t (trials_view c.args.trials.now) c.index-transition.result.now c.deref.result.now c.in_ok-partial.partial c.in_ok-ahead.ahead.items c.new-found.result.items c.requires.trials c.requires.in_range c.index-transition.ensures c.deref.ensures.value c.in_ok-partial.ensures.unbound c.in_ok-ahead.ensures.items c.new-found.ensures.items, subst (AreOf (net_view c.args.net.now) c.args.t) (sym c.new-found.ensures.items) tt)
 
 pub turn-requires-clause-state : goal.turn-requires-clause-state
 turn-requires-clause-state c =
@@ -24,7 +23,7 @@ loop-next-preserved c = (
       (subst (λ xs. SearchState (net_view c.args.net.now) c.args.marking.now c.args.t (trials_view c.args.trials.now) xs (map found_view c.loop-next.found.items))
       (last_taken c.loop-next.ahead.items c.pop.new.self.items c.in-Some.next c.pop.result c.pop.ensures.items c.in-Some.is) c.loop-next.invariant.0)
       (vars_listed c.args.net.now c.args.t c.requires.sound c.requires.in_range) (drop c.in-Some.next.tried (trials_view c.args.trials.now)) refl (all_under_way c.turn.new.ahead.items) (map found_view c.turn.new.found.items) c.in_ok-turn.ensures.turned,
-  c.in_ok-turn.ensures.needs c.loop-next.invariant.1,
+  c.in_ok-turn.ensures.elements c.loop-next.invariant.1,
 )
 
 pub loop-next-smaller : goal.loop-next-smaller

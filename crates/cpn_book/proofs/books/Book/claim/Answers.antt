@@ -1,6 +1,6 @@
 -- What the seat gets is what the book's state has for it.
 use Rattle.std.proofs.Common.{◌<◌, length, map, sym, ◌∙◌, arith}
-use Rattle.cpn_core.specs.Elements.{entry_view}
+use Rattle.cpn_core.specs.Elements.{enabled_view}
 use Rattle.cpn_definitions.specs.Enabled.{ready}
 use Rattle.cpn_log.specs.Logs.{claims_made}
 use Rattle.cpn_log.specs.LogViews.{log_view}
@@ -41,7 +41,7 @@ returns-in-Err-clause-due c = λ unspent.
     let book = c.args.self.now in
     let running = c.requires.kept.running c.if-self.false in
     let below : claims_made (log_view c.args.self.now.standing.log) < (setup_in c.args.self.now).limits.steps = claims_below (setup_in book) book.standing running.at c.requires.kept.playable (λ all. c.if-len-self.false (c.len.ensures ∙ all)) in
-    let some : 0 < length (ready c.args.self.now.standing.clock (map entry_view c.args.self.now.listed.entries.items)) = omega (arith, c.ready.ensures, c.if-ready-eq0.false) in
+    let some : 0 < length (ready c.args.self.now.standing.clock (map enabled_view c.args.self.now.listed.items)) = omega (arith, c.ready.ensures, c.if-ready-eq0.false) in
     due book running (sym c.is_some.ensures ∙ c.if-is_some.false) (λ all. c.if-len-self.false (c.len.ensures ∙ all)) c.args.seat c.requires.known
     (holds_none book running c.args.seat c.requires.known c.in_default.ensures.held) below some
 

@@ -1,6 +1,6 @@
 -- The next time is that of the book's list, which is the state's index.
 use Rattle.std.proofs.Common.{ap, ◌∙◌, map}
-use Rattle.cpn_core.specs.Elements.{entry_view}
+use Rattle.cpn_core.specs.Elements.{enabled_view}
 use Rattle.cpn_definitions.specs.Enabled.{next_time}
 use Rattle.cpn_book.specs.Books.{setup_in}
 use Rattle.cpn_book.specs.States.{IsNextTime}
@@ -12,4 +12,4 @@ returns c =
     let book = c.args.self.now in
     let running = c.requires.kept.running c.requires.unspent in
     in_state book running (λ state. IsNextTime (setup_in book) state c.next_time.result)
-    (map entry_view book.listed.entries.items, index book running, c.next_time.ensures ∙ ap (λ es. next_time (map entry_view es)) c.deref.ensures.value)
+    (map enabled_view book.listed.items, index book running, c.next_time.ensures ∙ ap (λ es. next_time (map enabled_view es)) c.deref.ensures.value)

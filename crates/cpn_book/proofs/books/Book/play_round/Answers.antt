@@ -10,9 +10,9 @@ pub returns-clause-rounds : goal.returns-clause-rounds
 returns-clause-rounds c =
     let moves = c.reach_next_time.ensures.events in
     let round = c.in_ok-play_drawn.ensures.rounds in
-    in_any_case c.search_by.result _ (
+    in_any_case c.search.result _ (
       moves.0 ++ round.0,
-      ap events_in c.search_by.ensures.standing ∙ round.1
+      ap events_in c.search.ensures.standing ∙ round.1
           ∙ ap (λ es. es ++ round.0) (ap events_in c.draw_claim.ensures.same ∙ moves.1)
           ∙ append_assoc (journal_in c.args.self.now) moves.0 round.0,
       rounds_joined moves.0 round.0 moves.2 round.2,
