@@ -1,7 +1,11 @@
 //! Nets: places, transitions and arcs.
 
+ghost use Rattle.std.specs.Prelude.{◌≡◌, string_bytes, IfOk};
+ghost use Rattle.cpn_core.specs.Nets.{arc_view, arcs_view, delay_view, transition_view, place_view};
+
 use crate::colours::Colour;
 use crate::inscriptions::{ArcExpr, Expr, Funs, Guard};
+use cpn_memory::Memory;
 use std::sync::Arc;
 
 /// An arc between its transition and a place.
@@ -11,6 +15,16 @@ pub struct PlaceArc {
     pub place: u32,
     /// The arc's inscription, which may be shared.
     pub inscription: Arc<ArcExpr>,
+}
+
+impl PlaceArc {
+    /// The same arc at the place of another number. It shares the inscription.
+    pub fn at_place(&self, place: u32) -> Result<PlaceArc, Memory>
+        ensures made { IfOk result (λ arc. arc_view arc ≡ record (arc_view self.now) { place = place }) }
+    {
+        let inscription = self.inscription.clone()?;
+        Ok(PlaceArc { place, inscription })
+    }
 }
 
 /// A transition.
@@ -30,6 +44,37 @@ pub struct Transition {
     pub vars: Vec<u32>,
 }
 
+impl Transition {
+    /// The delay, where one is written. It is shared.
+    pub fn shared_delay(&self) -> Result<Option<Arc<Expr>>, Memory>
+        ensures same { IfOk result (λ delay. delay_view delay ≡ delay_view self.now.delay) }
+    {
+        match &self.delay {
+            Some(delay) => Ok(Some(delay.clone()?)),
+            None => Ok(None),
+        }
+    }
+
+    /// The same transition with another name and other arcs. It shares the guard and the delay.
+    pub fn with_arcs(
+        &self,
+        name: String,
+        inputs: Vec<PlaceArc>,
+        outputs: Vec<PlaceArc>,
+    ) -> Result<Transition, Memory>
+        ensures made { IfOk result (λ made. transition_view made ≡ record (transition_view self.now) { name = string_bytes name; inputs = arcs_view inputs.items; outputs = arcs_view outputs.items }) }
+    {
+        Ok(Transition {
+            name,
+            guard: self.guard.clone()?,
+            delay: self.shared_delay()?,
+            inputs,
+            outputs,
+            vars: self.vars.clone()?,
+        })
+    }
+}
+
 /// A place.
 #[derive(Drop)]
 pub struct Place {
@@ -37,6 +82,16 @@ pub struct Place {
     pub name: String,
     /// The colour set of its tokens.
     pub colour: Colour,
+}
+
+impl Place {
+    /// The same place with another name.
+    pub fn with_name(&self, name: String) -> Result<Place, Memory>
+        ensures made { IfOk result (λ place. place_view place ≡ record (place_view self.now) { name = string_bytes name }) }
+    {
+        let colour = self.colour.copy()?;
+        Ok(Place { name, colour })
+    }
 }
 
 /// A variable that the net declares.

@@ -1,13 +1,13 @@
 //! The work of the transitions of a net.
 
 ghost use Rattle.std.specs.Prelude.{◌≡◌, ℕ, length, map, slice_get, IfOk, IfSome};
-ghost use Rattle.cpn_core.specs.Nets.{arc_view, delay_view, net_view, transition_view};
+ghost use Rattle.cpn_core.specs.Nets.{arc_view, net_view, transition_view};
 ghost use Rattle.cpn_definitions.specs.Net.{is_timed};
 ghost use Rattle.cpn_jobs.specs.Views.{work_arc_view, work_view};
 ghost use Rattle.cpn_jobs.specs.Work.{work_arc, work_by, work_of};
 
 use crate::work::{Work, WorkArc};
-use cpn_core::{Expr, Memory, Net, PlaceArc, Transition};
+use cpn_core::{Memory, Net, PlaceArc, Transition};
 use std::alloc::Global;
 use std::sync::Arc;
 
@@ -32,7 +32,7 @@ pub fn works_of(alloc: Global, net: &Net) -> Result<Vec<Arc<Work>>, Memory>
 fn work_of(alloc: Global, net: &Net, transition: &Transition) -> Result<Arc<Work>, Memory>
     ensures work { IfOk result (λ work. work_view work.value ≡ work_by (net_view net.now) (transition_view transition.now)) }
 {
-    let delay = shared_delay(&transition.delay)?;
+    let delay = transition.shared_delay()?;
     let outputs = work_arcs(alloc, net, &transition.outputs)?;
     let funs = net.funs.clone()?;
     let work = Work {
@@ -41,15 +41,6 @@ fn work_of(alloc: Global, net: &Net, transition: &Transition) -> Result<Arc<Work
         outputs,
     };
     Ok(Arc::new(alloc, work)?)
-}
-
-fn shared_delay(delay: &Option<Arc<Expr>>) -> Result<Option<Arc<Expr>>, Memory>
-    ensures same { IfOk result (λ shared. delay_view shared ≡ delay_view delay.now) }
-{
-    match delay {
-        None => Ok(None),
-        Some(expr) => Ok(Some(expr.clone()?)),
-    }
 }
 
 fn work_arcs(alloc: Global, net: &Net, arcs: &[PlaceArc]) -> Result<Vec<WorkArc>, Memory>
