@@ -1,6 +1,8 @@
 -- What the calls of flattening ask for, of what is accepted and its hierarchy unfolded.
 use Rattle.std.proofs.Common.{◌≡◌, ℕ, ◌<◌, ◌≤◌, ◌^◌, List, [], length, map, refl, sym, ap, ◌∙◌, subst, arith}
+use Rattle.std.specs.List.{AllByRecursion}
 use Rattle.std.proofs.lemmas.List.{length-map}
+use Rattle.std.proofs.lemmas.List.Elements.{recursion_from_All}
 use Rattle.cpn_classes.specs.Numbering.{Numbering}
 use Rattle.cpn_core.specs.Nets.{place_view, net_view}
 use Rattle.cpn_core.specs.declared.nets.Net.{Net}
@@ -10,7 +12,8 @@ use Rattle.cpn_document.specs.Document.{RawDocument}
 use Rattle.cpn_fuse.specs.Compound.{AreCompound}
 use Rattle.cpn_fuse.specs.Instances.{PlainInstance, AreInstances}
 use Rattle.cpn_fuse.specs.PlaceInstances.{place_count}
-use Rattle.cpn_fuse.specs.Unfolded.{UnfoldingRefusal, IsUnfolded, IsRefusedFor}
+use Rattle.cpn_fuse.specs.Unfolded.{UnfoldingRefusal, IsUnfolded, IsRefusedFor, AreInModules}
+use Rattle.cpn_module.specs.Named.{hierarchy_in}
 use Rattle.cpn_module_nets.specs.Nets.{PlainAccepted, IsWellAccepted, net_from}
 use Rattle.cpn_readings.specs.Relations.{HasOne}
 use Rattle.cpn_flat.specs.Flat.{all_written, flat_in}
@@ -18,11 +21,13 @@ use Rattle.cpn_flat.specs.FlatNet.{all_places, flat_net}
 use Rattle.cpn_flat.specs.InitialMarking.{all_initials, started}
 use Rattle.cpn_flat.specs.Items.{HaveItems}
 use Rattle.cpn_flat.specs.Parts.{AreItsParts}
-use Rattle.cpn_flat.specs.Placed.{StandBehind}
+use Rattle.cpn_flat.specs.Names.{IsNamedIn}
+use Rattle.cpn_flat.specs.Placed.{StandBehind, AreOfModules, ArePlaced}
 use Rattle.cpn_flat.specs.Refusals.{read}
 use Rattle.cpn_flat.specs.Values.{AreAllMeant, AreOfColour, HaveColours}
 use Rattle.cpn_flat.specs.WellLoaded.{IsWellLoaded}
 use Rattle.cpn_flat.proofs.FlatMeanings.{all_meant, length-written, written_here}
+use Rattle.cpn_flat.proofs.InstanceNames.{instances_named}
 use Rattle.cpn_flat.proofs.ItemsThere.{items_there, written_meant, written_coloured}
 use Rattle.cpn_flat.proofs.NamedFlatNets.{flat_named}
 use Rattle.cpn_flat.proofs.OneFlatNet.{unfolded_one, flat_one}
@@ -40,6 +45,15 @@ module _ (a : PlainAccepted) (well : IsWellAccepted a) where
   module _ (is : List PlainInstance) (u : IsUnfolded a.hierarchy is) where
     pub behind : StandBehind is
     behind = placed_behind a.hierarchy is (placed a.hierarchy is well.numbers u.instances).0
+
+    -- each instance is of a module that is there
+    pub of_modules : AreOfModules (length a.modules) is
+    of_modules = recursion_from_All (λ x. x.of_module < length a.modules) is
+        (λ k e lt. (let within = (placed a.hierarchy is well.numbers u.instances).1 k e lt in let each = well.each in omega (arith, within, each)))
+
+    -- what each instance is called by is there
+    pub named_in : (d : RawDocument) → a.hierarchy ≡ hierarchy_in d → AllByRecursion (IsNamedIn d is) is
+    named_in d same = instances_named d is (subst (λ h. ArePlaced h is × AreInModules h is) same (placed a.hierarchy is well.numbers u.instances))
 
     module _ (classes : Numbering) (compound : AreCompound a.hierarchy is classes) where
       pub items : HaveItems a.hierarchy a.modules is (length classes.numbers)

@@ -56,15 +56,15 @@ module _ {A : Type 0} (has : ℕ → PlainInstance → List A) where
   at_number count i (x ∷ xs) zero p d each lt in_x =
       let many : length (has i x) ≡ count x = each.0 i in
       let front : p < length (has i x) = omega arith in
-      let place : 0 + p ≡ p = omega arith in
+      let index : 0 + p ≡ p = omega arith in
       let number : i ≡ i + 0 = omega arith in
-      ap (λ k. get_or (has i x ++ each_instance has (suc i) xs) k d) place ∙ get_or_append_left (has i x) (each_instance has (suc i) xs) d p front ∙ ap (λ k. get_or (has k x) p d) number
+      ap (λ k. get_or (has i x ++ each_instance has (suc i) xs) k d) index ∙ get_or_append_left (has i x) (each_instance has (suc i) xs) d p front ∙ ap (λ k. get_or (has k x) p d) number
   at_number count i (x ∷ xs) (suc j) p d each lt in_x =
       let many : length (has i x) ≡ count x = each.0 i in
       let behind = sum-cons (count x) (take j (map count xs)) in
-      let place : sum (count x ∷ take j (map count xs)) + p ≡ length (has i x) + (sum (take j (map count xs)) + p) = omega (arith, many, behind) in
+      let index : sum (count x ∷ take j (map count xs)) + p ≡ length (has i x) + (sum (take j (map count xs)) + p) = omega (arith, many, behind) in
       let number : suc i + j ≡ i + suc j = omega arith in
-      ap (λ k. get_or (has i x ++ each_instance has (suc i) xs) k d) place ∙ get_or-append-add (has i x) (each_instance has (suc i) xs) (sum (take j (map count xs)) + p) d
+      ap (λ k. get_or (has i x ++ each_instance has (suc i) xs) k d) index ∙ get_or-append-add (has i x) (each_instance has (suc i) xs) (sum (take j (map count xs)) + p) d
       ∙ at_number count (suc i) xs j p d each.1 (let e : j < length xs = omega (arith, lt) in e) in_x ∙ ap (λ k. get_or (has k (instance_at xs j)) p d) number
 
   -- what holds of each

@@ -14,6 +14,7 @@ use Rattle.cpn_fuse.specs.Compound.{AreCompound, joined_pairs}
 use Rattle.cpn_fuse.specs.Instances.{PlainPart, PlainInstance, instance_at, parts_from, ComeFirst, none_yet, one_first, top_of, AreInstances}
 use Rattle.cpn_fuse.specs.PlaceInstances.{place_count}
 use Rattle.cpn_fuse.specs.Unfolded.{UnfoldingRefusal, IsUnfolded, IsRefusedFor}
+use Rattle.cpn_fuse.proofs.InstanceTrees.{instances_come}
 use Rattle.cpn_module.specs.Hierarchy.{PlainSubstitution, PlainHierarchy, structure_at}
 use Rattle.cpn_module_nets.specs.Nets.{Initial, PlainAccepted}
 use Rattle.cpn_readings.specs.Reading as readings
@@ -54,7 +55,7 @@ come_behind h n (x ∷ waiting) (x' ∷ is) later (one_first n' x'' waiting' is'
 
 -- each instance stands behind the one that it stands in
 stand_behind : (h : PlainHierarchy) (is : List PlainInstance) → AreInstances h is → StandBehind is
-stand_behind h is are k lt = subst (λ m. IsBehind m (instance_at is k).part_of) (let e : 0 + k ≡ k = omega arith in e) (come_behind h 0 (top_of h ∷ []) is [] are (tt, tt) k lt)
+stand_behind h is are k lt = subst (λ m. IsBehind m (instance_at is k).part_of) (let e : 0 + k ≡ k = omega arith in e) (come_behind h 0 (top_of h ∷ []) is [] (instances_come h is are) (tt, tt) k lt)
 
 -- ---- names
 

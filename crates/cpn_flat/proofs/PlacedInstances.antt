@@ -11,6 +11,7 @@ use Rattle.cpn_module.specs.Hierarchy.{PlainSubstitution, PlainHierarchy, no_str
 use Rattle.cpn_module.specs.Ranges.{IsSubstitution, IsStructure, HasItsNumbers}
 use Rattle.cpn_fuse.specs.Instances.{PlainPart, PlainInstance, no_instance, instance_at, parts_from, parts_of, ComeFirst, none_yet, one_first, top_of, AreInstances}
 use Rattle.cpn_fuse.specs.Unfolded.{AreInModules}
+use Rattle.cpn_fuse.proofs.InstanceTrees.{instances_come}
 use Rattle.cpn_flat.specs.Placed.{IsBehind, StandBehind, IsPlaced, ArePlaced}
 
 -- instances so far
@@ -117,7 +118,7 @@ placed h is numbers are = (all.are, all.in_modules)
     none = record { in_modules = λ k d lt. absurd (omega (arith, lt)); are = record { placed = λ i lt. absurd (omega (arith, lt)) } }
 
     all : AreSoFar h is
-    all = come_placed h numbers 0 (top_of h ∷ []) is [] are [] refl none (record { in_modules = numbers.top; is_placed = tt }, tt)
+    all = come_placed h numbers 0 (top_of h ∷ []) is [] (instances_come h is are) [] refl none (record { in_modules = numbers.top; is_placed = tt }, tt)
 
 -- Placed instances stand behind those that they stand in.
 pub placed_behind : (h : PlainHierarchy) (is : List PlainInstance) → ArePlaced h is → StandBehind is

@@ -23,7 +23,7 @@ module_net_among modules m = slice_index_or modules m no_module_net
 
 -- a place of an instance of a name
 abbrev pub joined_place : List ℕ → Coloured → Coloured
-joined_place whole p = record { name = joined_name whole p.name; colour = p.colour }
+joined_place whole p = record p { name = joined_name whole p.name }
 
 -- the places of the instance of number i
 abbrev pub places_at : List PlainModuleNet → List (List ℕ) → ℕ → PlainInstance → List Coloured
@@ -45,18 +45,11 @@ compound_places modules is names classes = compound_among (all_places modules is
 
 -- an arc of an instance, whose places are numbered from `first` on, at the compound place of its place
 abbrev pub flat_arc : Numbering → ℕ → PlainArc → PlainArc
-flat_arc classes first arc = record { place = number_of classes (first + arc.place); colour = arc.colour; expr = arc.expr; terms = arc.terms }
+flat_arc classes first arc = record arc { place = number_of classes (first + arc.place) }
 
 -- a transition of an instance of a name, whose places are numbered from `first` on
 abbrev pub flat_transition : Numbering → List ℕ → ℕ → PlainTransition → PlainTransition
-flat_transition classes whole first t = record {
-  name = joined_name whole t.name;
-  guard = t.guard;
-  delay = t.delay;
-  inputs = map (flat_arc classes first) t.inputs;
-  outputs = map (flat_arc classes first) t.outputs;
-  vars = t.vars;
-}
+flat_transition classes whole first t = record t { name = joined_name whole t.name; inputs = map (flat_arc classes first) t.inputs; outputs = map (flat_arc classes first) t.outputs }
 
 -- the transitions of the instance of number i
 abbrev pub transitions_at : PlainHierarchy → List PlainModuleNet → List PlainInstance → List (List ℕ) → Numbering → ℕ → PlainInstance → List PlainTransition

@@ -31,6 +31,20 @@ name_where d is names x = of x.part_of
     of None = (raw_module_at d x.of_module).name
     of (Some part) = joined_name (name_at names part.instance) (sub_name_at d (instance_at is part.instance).of_module part.substitution)
 
+-- a document has the substitution transition of a number, in the module of a number
+pub record HasSub (d : RawDocument) (m i : ℕ) : Type 0 where
+  pub of_module : m < length d.modules
+  pub sub : i < length (raw_module_at d m).subs
+
+-- What an instance is called by is there: the module that it is of, where it stands nowhere; otherwise the substitution transition
+-- that it stands for, in the module of the instance that it stands in.
+abbrev pub HasItsName : RawDocument → List PlainInstance → ℕ → Option PlainPart → Type 0
+HasItsName d is m None = m < length d.modules
+HasItsName d is m (Some part) = HasSub d (instance_at is part.instance).of_module part.substitution
+
+abbrev pub IsNamedIn : RawDocument → List PlainInstance → PlainInstance → Type 0
+IsNamedIn d is x = HasItsName d is x.of_module x.part_of
+
 -- The names of instances.
 pub record AreNames (d : RawDocument) (is : List PlainInstance) (names : List (List ℕ)) : Type 0 where
   pub each : length names ≡ length is

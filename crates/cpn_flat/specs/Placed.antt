@@ -1,5 +1,6 @@
 -- Instances that stand in instances before them.
 use Rattle.std.specs.Prelude.{◌≡◌, ℕ, ◌<◌, List, length, Option, Some, None}
+use Rattle.std.specs.List.{AllByRecursion}
 use Rattle.cpn_module.specs.Hierarchy.{PlainHierarchy, structure_at, substitution_at}
 use Rattle.cpn_fuse.specs.Instances.{PlainPart, PlainInstance, instance_at}
 
@@ -21,6 +22,10 @@ pub record StandsFor (h : PlainHierarchy) (is : List PlainInstance) (i m : ℕ) 
 abbrev pub IsPlaced : PlainHierarchy → List PlainInstance → ℕ → ℕ → Option PlainPart → Type 0
 IsPlaced h is i m None = Unit {0}
 IsPlaced h is i m (Some part) = StandsFor h is i m part
+
+-- instances of modules, of which there are so many
+abbrev pub AreOfModules : ℕ → List PlainInstance → Type 0
+AreOfModules count is = AllByRecursion (λ x. x.of_module < count) is
 
 -- Each instance that stands in another stands there as an instance of the submodule of one of its substitution transitions.
 pub record ArePlaced (h : PlainHierarchy) (is : List PlainInstance) : Type 0 where

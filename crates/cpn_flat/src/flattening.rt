@@ -1,12 +1,14 @@
 //! The flat net of what is accepted of a document, with its initial marking.
 
 ghost use Rattle.std.specs.Prelude.{◌≡◌, ℕ, ◌<◌, ◌^◌, List, map, length, IfOk};
+ghost use Rattle.std.specs.List.{AllByRecursion};
 ghost use Rattle.cpn_core.specs.Nets.{place_view, transition_view, net_view};
 ghost use Rattle.cpn_declared.specs.DeclsViews.{decls_view};
 ghost use Rattle.cpn_document.specs.Document.{RawDocument};
 ghost use Rattle.cpn_document.specs.Views.{document_view};
 ghost use Rattle.cpn_fuse.specs.Answers.{AreUnfolded};
 ghost use Rattle.cpn_fuse.specs.Views.{instances_view};
+ghost use Rattle.cpn_module.specs.Named.{hierarchy_in};
 ghost use Rattle.cpn_module.specs.Views.{hierarchy_view};
 ghost use Rattle.cpn_module_nets.specs.Nets.{PlainAccepted, net_from, IsWellAccepted};
 ghost use Rattle.cpn_module_nets.specs.Views.{module_net_view, accepted_view};
@@ -15,8 +17,9 @@ ghost use Rattle.cpn_flat.specs.Flat.{flat_in, all_written};
 ghost use Rattle.cpn_flat.specs.FlatNet.{all_places as place_instances};
 ghost use Rattle.cpn_flat.specs.InitialMarking.{all_initials as initials_in, started};
 ghost use Rattle.cpn_flat.specs.Items.{HaveItems};
+ghost use Rattle.cpn_flat.specs.Names.{IsNamedIn};
 ghost use Rattle.cpn_flat.specs.Parts.{AreItsParts};
-ghost use Rattle.cpn_flat.specs.Placed.{StandBehind};
+ghost use Rattle.cpn_flat.specs.Placed.{StandBehind, AreOfModules};
 ghost use Rattle.cpn_flat.specs.Values.{AreAllMeant};
 ghost use Rattle.cpn_flat.specs.Views.{loaded_view};
 ghost use Rattle.cpn_flat.specs.WellLoaded.{IsWellLoaded};
@@ -68,6 +71,8 @@ fn parts_of(
 ) -> Result<Parts, Memory>
     requires unfolded { AreUnfolded (hierarchy_view hierarchy.now) unfolded.now }
     requires behind { StandBehind (instances_view unfolded.now.instances.items) }
+    requires in_modules { AreOfModules (length modules.now) (instances_view unfolded.now.instances.items) }
+    requires there { AllByRecursion (IsNamedIn (document_view document.now) (instances_view unfolded.now.instances.items)) (instances_view unfolded.now.instances.items) }
     requires items { HaveItems (hierarchy_view hierarchy.now) (map module_net_view modules.now) (instances_view unfolded.now.instances.items) (length classes.now.numbers) }
     requires as_many { (names : List (List ℕ)) → length classes.now.numbers ≡ length (place_instances (map module_net_view modules.now) (instances_view unfolded.now.instances.items) names) }
     requires small { length classes.now.numbers < 2 ^ 32 }
@@ -120,6 +125,7 @@ fn initial_of(
     instances: &[Instance],
     classes: &Classes,
 ) -> Result<Marking, FlatError>
+    requires in_modules { AreOfModules (length modules.now) (instances_view instances.now) }
     requires as_many { length classes.now.numbers ≡ length (initials_in (map module_net_view modules.now) (instances_view instances.now)) }
     requires small { length classes.now.numbers < 2 ^ 32 }
     requires each { length net.now.places.items ≡ length classes.now.firsts }
@@ -143,6 +149,7 @@ fn initial_of(
 pub fn flatten(alloc: Global, document: &Document, accepted: Accepted) -> Result<Loaded, FlatError>
     requires well { IsWellAccepted (accepted_view accepted) }
     requires few_variables { length (decls_view accepted.decls).variables < 2 ^ 32 }
+    requires hierarchy { hierarchy_view accepted.hierarchy ≡ hierarchy_in (document_view document.now) }
     // What is answered is what is meant: the flat net and its initial marking, or the first refusal.
     ensures reads { GivesBy loaded_view result (flat_in (document_view document.now) (accepted_view accepted)) }
     // At most one thing is meant.

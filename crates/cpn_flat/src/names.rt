@@ -1,11 +1,12 @@
 //! The names of instances.
 
-ghost use Rattle.std.specs.Prelude.{◌≡◌, ℕ, ◌<◌, map, length, string_bytes, IfOk};
+ghost use Rattle.std.specs.Prelude.{◌≡◌, ℕ, ◌<◌, ◌≤◌, map, length, string_bytes, IfOk};
+ghost use Rattle.std.specs.List.{AllByRecursion};
 ghost use Rattle.cpn_document.specs.Views.{document_view};
 ghost use Rattle.cpn_fuse.specs.Instances.{instance_at};
 ghost use Rattle.cpn_fuse.specs.Views.{instance_view, instances_view};
-ghost use Rattle.cpn_flat.specs.Names.{joined_name, raw_module_at, sub_name_at, name_at, name_where, AreNames};
-ghost use Rattle.cpn_flat.specs.Placed.{StandBehind};
+ghost use Rattle.cpn_flat.specs.Names.{joined_name, raw_module_at, sub_name_at, name_at, name_where, AreNames, IsNamedIn};
+ghost use Rattle.cpn_flat.specs.Placed.{IsBehind, StandBehind};
 
 use cpn_document::Document;
 use cpn_fuse::Instance;
@@ -24,45 +25,35 @@ pub(crate) fn joined(alloc: Global, whole: &str, name: &str) -> Result<String, A
 
 /// The name of the module of a number.
 fn module_name(document: &Document, number: usize) -> &str
+    requires in_range { number < length (document_view document.now).modules }
     ensures exact { result.now ≡ (raw_module_at (document_view document.now) number).name }
 {
-    match document.modules.get(number) {
-        Some(module) => module.name.as_str(),
-        None => "",
-    }
+    document.modules[number].name.as_str()
 }
 
 /// The name of a substitution transition of a module, by their numbers.
 fn sub_name(document: &Document, of_module: usize, number: usize) -> &str
+    requires in_range { of_module < length (document_view document.now).modules }
+    requires sub { number < length (raw_module_at (document_view document.now) of_module).subs }
     ensures exact { result.now ≡ sub_name_at (document_view document.now) of_module number }
 {
-    match document.modules.get(of_module) {
-        Some(module) => match module.subs.get(number) {
-            Some(sub) => sub.name.as_str(),
-            None => "",
-        },
-        None => "",
-    }
+    document.modules[of_module].subs[number].name.as_str()
 }
 
 /// The name of the instance of a number.
 pub(crate) fn name_of(names: &[String], number: usize) -> &str
+    requires named { number < length names.now }
     ensures exact { result.now ≡ name_at (map string_bytes names.now) number }
 {
-    match names.get(number) {
-        Some(name) => name.as_str(),
-        None => "",
-    }
+    names[number].as_str()
 }
 
 /// The number of the module of the instance of a number.
 fn module_of(instances: &[Instance], number: usize) -> usize
+    requires there { number < length instances.now }
     ensures exact { result ≡ (instance_at (instances_view instances.now) number).of_module }
 {
-    match instances.get(number) {
-        Some(instance) => instance.of_module,
-        None => 0,
-    }
+    instances[number].of_module
 }
 
 /// The name of an instance, given those of the instances before it.
@@ -73,6 +64,9 @@ fn instance_name(
     names: &[String],
     instance: &Instance,
 ) -> Result<String, AllocError>
+    requires behind { IsBehind (length names.now) (instance_view instance.now).part_of }
+    requires so_far { length names.now ≤ length instances.now }
+    requires there { IsNamedIn (document_view document.now) (instances_view instances.now) (instance_view instance.now) }
     ensures named { IfOk result (λ name. string_bytes name ≡ name_where (document_view document.now) (instances_view instances.now) (map string_bytes names.now) (instance_view instance.now)) }
 {
     match instance.part_of {
@@ -96,6 +90,7 @@ pub(crate) fn instance_names(
     instances: &[Instance],
 ) -> Result<Vec<String>, Memory>
     requires behind { StandBehind (instances_view instances.now) }
+    requires there { AllByRecursion (IsNamedIn (document_view document.now) (instances_view instances.now)) (instances_view instances.now) }
     ensures names { IfOk result (λ names. AreNames (document_view document.now) (instances_view instances.now) (map string_bytes names.items)) }
 {
     let mut names = Vec::with_capacity(alloc, instances.len())?;

@@ -1,11 +1,12 @@
 //! The places of the flat net.
 
-ghost use Rattle.std.specs.Prelude.{◌≡◌, ◌++◌, map, length, string_bytes, IfOk};
+ghost use Rattle.std.specs.Prelude.{◌≡◌, ◌<◌, ◌++◌, map, length, string_bytes, IfOk};
 ghost use Rattle.cpn_core.specs.Nets.{place_view};
 ghost use Rattle.cpn_classes.specs.Numbering.{Numbering};
 ghost use Rattle.cpn_fuse.specs.Views.{instances_view};
 ghost use Rattle.cpn_module_nets.specs.Views.{module_net_view};
 ghost use Rattle.cpn_flat.specs.Names.{name_at};
+ghost use Rattle.cpn_flat.specs.Placed.{AreOfModules};
 ghost use Rattle.cpn_flat.specs.FlatNet.{module_net_among, joined_place, all_places as place_instances, compound_among};
 
 use crate::names::{joined, name_of};
@@ -20,8 +21,7 @@ fn place_in(alloc: Global, whole: &str, place: &Place) -> Result<Place, Memory>
     ensures made { IfOk result (λ made. place_view made ≡ joined_place whole.now (place_view place.now)) }
 {
     let name = joined(alloc, whole, place.name.as_str())?;
-    let colour = place.colour.copy()?;
-    Ok(Place { name, colour })
+    place.with_name(name)
 }
 
 /// Adds the places of a module, as those of an instance of the name.
@@ -48,12 +48,11 @@ fn push_instance(
     number: usize,
     of_module: usize,
 ) -> Result<(), Memory>
+    requires named { number < length names.now }
+    requires in_range { of_module < length modules.now }
     ensures pushed { IfOk result (λ _. map place_view places.new.items ≡ map place_view places.old.items ++ map (joined_place (name_at (map string_bytes names.now) number)) (module_net_among (map module_net_view modules.now) of_module).places) }
 {
-    match modules.get(of_module) {
-        Some(module) => push_places(alloc, places, name_of(names, number), module),
-        None => Ok(()),
-    }
+    push_places(alloc, places, name_of(names, number), &modules[of_module])
 }
 
 /// The places of all instances, in order.
@@ -64,6 +63,8 @@ pub(crate) fn all_places(
     instances: &[Instance],
     names: &[String],
 ) -> Result<Vec<Place>, Memory>
+    requires named { length names.now ≡ length instances.now }
+    requires in_modules { AreOfModules (length modules.now) (instances_view instances.now) }
     ensures places { IfOk result (λ places. map place_view places.items ≡ place_instances (map module_net_view modules.now) (instances_view instances.now) (map string_bytes names.now)) }
 {
     let mut places = Vec::new(alloc);
@@ -85,8 +86,7 @@ fn copied(alloc: Global, place: &Place) -> Result<Place, Memory>
     ensures same { IfOk result (λ copy. place_view copy ≡ place_view place.now) }
 {
     let name = String::from_str(alloc, place.name.as_str())?;
-    let colour = place.colour.copy()?;
-    Ok(Place { name, colour })
+    place.with_name(name)
 }
 
 /// The compound places: the first members of the classes among all places.

@@ -2,7 +2,7 @@
 
 ghost use Rattle.std.specs.Prelude.{◌≡◌, ◌+◌, ◌++◌, ◌<◌, ◌^◌, map, length, string_bytes, slice_index, IfOk};
 ghost use Rattle.std.specs.List.{AllByRecursion};
-ghost use Rattle.cpn_core.specs.Nets.{arc_view, arcs_view, delay_view, transition_view};
+ghost use Rattle.cpn_core.specs.Nets.{arc_view, arcs_view, transition_view};
 ghost use Rattle.cpn_fuse.specs.Answers.{AreFirstPlaces};
 ghost use Rattle.cpn_fuse.specs.Views.{instances_view};
 ghost use Rattle.cpn_module.specs.Views.{hierarchy_view};
@@ -10,15 +10,15 @@ ghost use Rattle.cpn_module_nets.specs.Views.{module_net_view};
 ghost use Rattle.cpn_flat.specs.Names.{name_at};
 ghost use Rattle.cpn_flat.specs.FlatNet.{module_net_among, flat_arc as arc_in, flat_transition as transition_in, all_transitions as transition_instances};
 ghost use Rattle.cpn_flat.specs.Items.{AreAtItems, HasItems, HaveItems};
+ghost use Rattle.cpn_flat.specs.Placed.{AreOfModules};
 
 use crate::names::{joined, name_of};
 use cpn_classes::Classes;
-use cpn_core::{Expr, Memory, PlaceArc, Transition};
+use cpn_core::{Memory, PlaceArc, Transition};
 use cpn_fuse::Instance;
 use cpn_module::Hierarchy;
 use cpn_module_nets::ModuleNet;
 use std::alloc::Global;
-use std::sync::Arc;
 
 /// An arc of an instance, at the compound place of its place. It shares the inscription of the module's arc.
 fn flat_arc(classes: &Classes, first: u32, arc: &PlaceArc) -> Result<PlaceArc, Memory>
@@ -26,9 +26,7 @@ fn flat_arc(classes: &Classes, first: u32, arc: &PlaceArc) -> Result<PlaceArc, M
     requires small { length classes.now.numbers < 2 ^ 32 }
     ensures made { IfOk result (λ made. arc_view made ≡ arc_in classes.now first (arc_view arc.now)) }
 {
-    let place = classes.number(first + arc.place);
-    let inscription = arc.inscription.clone()?;
-    Ok(PlaceArc { place, inscription })
+    arc.at_place(classes.number(first + arc.place))
 }
 
 /// The arcs of an instance, each at the compound place of its place.
@@ -49,16 +47,6 @@ fn flat_arcs(
     Ok(made)
 }
 
-/// A delay that is shared, where there is one.
-fn shared_delay(delay: &Option<Arc<Expr>>) -> Result<Option<Arc<Expr>>, Memory>
-    ensures same { IfOk result (λ shared. delay_view shared ≡ delay_view delay.now) }
-{
-    match delay {
-        Some(delay) => Ok(Some(delay.clone()?)),
-        None => Ok(None),
-    }
-}
-
 /// A transition of an instance of the name. It shares the inscriptions of the module's transition.
 fn flat_transition(
     alloc: Global,
@@ -72,19 +60,9 @@ fn flat_transition(
     ensures made { IfOk result (λ made. transition_view made ≡ transition_in classes.now whole.now first (transition_view transition.now)) }
 {
     let name = joined(alloc, whole, transition.name.as_str())?;
-    let guard = transition.guard.clone()?;
-    let delay = shared_delay(&transition.delay)?;
     let inputs = flat_arcs(alloc, classes, first, transition.inputs.as_slice())?;
     let outputs = flat_arcs(alloc, classes, first, transition.outputs.as_slice())?;
-    let vars = transition.vars.clone()?;
-    Ok(Transition {
-        name,
-        guard,
-        delay,
-        inputs,
-        outputs,
-        vars,
-    })
+    transition.with_arcs(name, inputs, outputs)
 }
 
 /// Adds the transitions of a module, as those of an instance of the name.
@@ -116,14 +94,13 @@ fn push_instance(
     first: u32,
     of_module: usize,
 ) -> Result<(), Memory>
+    requires in_range { of_module < length modules.now }
     requires items { AllByRecursion (HasItems (length classes.now.numbers) first) (module_net_among (map module_net_view modules.now) of_module).transitions }
     requires small { length classes.now.numbers < 2 ^ 32 }
     ensures pushed { IfOk result (λ _. map transition_view transitions.new.items ≡ map transition_view transitions.old.items ++ map (transition_in classes.now whole.now first) (module_net_among (map module_net_view modules.now) of_module).transitions) }
 {
-    match modules.get(of_module) {
-        Some(module) => push_transitions(alloc, classes, transitions, whole, first, module),
-        None => Ok(()),
-    }
+    let module = &modules[of_module];
+    push_transitions(alloc, classes, transitions, whole, first, module)
 }
 
 /// The transitions of all instances, in order. The first place of each instance is given by its number.
@@ -138,6 +115,8 @@ pub(crate) fn all_transitions(
     classes: &Classes,
 ) -> Result<Vec<Transition>, Memory>
     requires items { HaveItems (hierarchy_view hierarchy.now) (map module_net_view modules.now) (instances_view instances.now) (length classes.now.numbers) }
+    requires named { length names.now ≡ length instances.now }
+    requires in_modules { AreOfModules (length modules.now) (instances_view instances.now) }
     requires firsts { AreFirstPlaces (hierarchy_view hierarchy.now) (instances_view instances.now) firsts.now }
     requires small { length classes.now.numbers < 2 ^ 32 }
     ensures transitions { IfOk result (λ made. map transition_view made.items ≡ transition_instances (hierarchy_view hierarchy.now) (map module_net_view modules.now) (instances_view instances.now) (map string_bytes names.now) classes.now) }

@@ -5,6 +5,7 @@ ghost use Rattle.cpn_classes.specs.Numbering.{number_of};
 ghost use Rattle.cpn_fuse.specs.Views.{instances_view};
 ghost use Rattle.cpn_module_nets.specs.Views.{module_net_view};
 ghost use Rattle.cpn_flat.specs.FlatNet.{module_net_among};
+ghost use Rattle.cpn_flat.specs.Placed.{AreOfModules};
 ghost use Rattle.cpn_flat.specs.InitialMarking.{all_initials as initials_in, added, written_in};
 ghost use Rattle.cpn_flat.specs.WrittenViews.{referred_view, optional_view, lists_view};
 
@@ -33,12 +34,10 @@ fn push_instance<'a>(
     modules: &'a [ModuleNet],
     of_module: usize,
 ) -> Result<(), Memory>
+    requires in_range { of_module < length modules.now }
     ensures pushed { IfOk result (λ _. optional_view initials.new.items ≡ optional_view initials.old.items ++ (module_net_among (map module_net_view modules.now) of_module).initials) }
 {
-    match modules.get(of_module) {
-        Some(module) => push_initials(initials, module),
-        None => Ok(()),
-    }
+    push_initials(initials, &modules[of_module])
 }
 
 /// The initial markings of all place instances, in order, where they are written.
@@ -48,6 +47,7 @@ pub(crate) fn all_initials<'a>(
     modules: &'a [ModuleNet],
     instances: &[Instance],
 ) -> Result<Vec<Option<&'a ArcExpr>>, Memory>
+    requires in_modules { AreOfModules (length modules.now) (instances_view instances.now) }
     ensures initials { IfOk result (λ initials. optional_view initials.items ≡ initials_in (map module_net_view modules.now) (instances_view instances.now)) }
 {
     let mut initials = Vec::new(alloc);

@@ -4,6 +4,7 @@ use Rattle.cpn_module.specs.Hierarchy.{PlainHierarchy}
 use Rattle.cpn_fuse.specs.Instances.{PlainInstance, parts_of, ComeFirst, none_yet, one_first, top_of, AreInstances, AreMoreThan}
 use Rattle.cpn_fuse.specs.PlaceInstances.{place_count, transition_count}
 use Rattle.cpn_fuse.specs.Unfolded.{UnfoldingRefusal, IsRefusedFor, many_instances, many_places, many_transitions, IsUnfolded}
+use Rattle.cpn_fuse.proofs.InstanceTrees.{instances_come}
 
 module _ (h : PlainHierarchy) where
   -- one instance more comes, and its parts wait before what waits
@@ -31,11 +32,11 @@ module _ (h : PlainHierarchy) where
 
   -- a hierarchy has one list of instances
   pub one_unfolding : (is is' : List PlainInstance) → AreInstances h is → AreInstances h is' → is ≡ is'
-  one_unfolding is is' come come' = comes_once 0 (top_of h ∷ []) is is' [] [] come come' refl refl
+  one_unfolding is is' come come' = comes_once 0 (top_of h ∷ []) is is' [] [] (instances_come h is come) (instances_come h is' come') refl refl
 
   -- where there are more instances than so many, the list has more
   pub more_than : (is : List PlainInstance) (count : ℕ) → AreInstances h is → AreMoreThan h count → count < length is
-  more_than is count come more = omega (arith, more.many, comes_first 0 (top_of h ∷ []) more.first is more.later [] more.come come refl)
+  more_than is count come more = omega (arith, more.many, comes_first 0 (top_of h ∷ []) more.first is more.later [] more.come (instances_come h is come) refl)
 
   -- none that is unfolded is refused
   pub not_both : (is : List PlainInstance) (refusal : UnfoldingRefusal) → IsUnfolded h is → IsRefusedFor h refusal → ⊥

@@ -8,6 +8,7 @@ use Rattle.cpn_module.specs.Hierarchy.{PlainSubstitution, PlainHierarchy, struct
 use Rattle.cpn_module.specs.Ranges.{IsSubstitution, IsStructure, HasItsNumbers}
 use Rattle.cpn_fuse.specs.Instances.{PlainPart, PlainInstance, instance_at, no_instance, parts_from, parts_of, ComeFirst, none_yet, one_first, top_of, AreInstances}
 use Rattle.cpn_fuse.specs.Unfolded.{AreInModules}
+use Rattle.cpn_fuse.proofs.InstanceTrees.{instances_come}
 
 -- a part of an instance before the one of number i, for a substitution transition that stands for the module m
 pub record IsPart (h : PlainHierarchy) (is : List PlainInstance) (i : ℕ) (m : ℕ) (part : PlainPart) : Type 0 where
@@ -98,7 +99,7 @@ module _ (h : PlainHierarchy) (numbers : HasItsNumbers h) where
   instance_placed is come i lt =
       let top = All-cons (IsPlaced h [] 0) (top_of h) [] (record { of_module = numbers.top; part = tt }) (All-nil (IsPlaced h [] 0)) in
       let zero_i : 0 + i ≡ i = omega arith in
-      rw zero_i at (placed_from 0 (top_of h ∷ []) is [] come [] refl top i lt)
+      rw zero_i at (placed_from 0 (top_of h ∷ []) is [] (instances_come h is come) [] refl top i lt)
 
   pub in_modules : (is : List PlainInstance) → AreInstances h is → AreInModules h is
   in_modules is come = All-from_get_or (λ (x : PlainInstance). x.of_module < length h.modules) is no_instance (λ i lt. (instance_placed is come i lt).of_module)

@@ -1,3 +1,4 @@
+pub mod InstanceTrees
 mod ComingFirst
 mod InstanceLaws
 mod SeenHierarchies

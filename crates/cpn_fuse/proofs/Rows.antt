@@ -1,5 +1,5 @@
 -- Rows that exhibit the definitions: a top module with two substitution transitions of one module, which has a port and a place
--- that is in a fusion set; and modules three deep.
+-- that is in a fusion set; modules three deep; and ports of parts of parts.
 use Rattle.std.proofs.Common.{◌≡◌, ℕ, zero, suc, ◌<◌, ◌≤◌, List, [], ◌∷◌, get_or, Some, None, refl, subst, arith}
 use Rattle.std.specs.Prelude.{All}
 use Rattle.std.proofs.lemmas.List.Elements.{All-nil, All-cons}
@@ -10,7 +10,7 @@ use Rattle.cpn_classes.specs.JoinedPairs.{alike}
 use Rattle.cpn_document.specs.declared.document.PortType.TheVariants.{In}
 use Rattle.cpn_module.specs.Hierarchy.{PlainSubstitution, PlainStructure, PlainHierarchy}
 use Rattle.cpn_module.specs.Ranges.{AreEnds, IsAssignment, IsSubstitution, IsStructure, IsMember, HasItsNumbers}
-use Rattle.cpn_fuse.specs.Instances.{PlainInstance, none_yet, one_first, AreInstances, AreMoreThan}
+use Rattle.cpn_fuse.specs.Instances.{PlainInstance, with_parts, none_left, one_more, none_yet, one_first, AreInstances, AreMoreThan}
 use Rattle.cpn_fuse.specs.PlaceInstances.{place_count, transition_count, place_number}
 use Rattle.cpn_fuse.specs.Compound.{port_pairs, fusion_pairs, joined_pairs, AreCompound}
 use Rattle.cpn_fuse.specs.Unfolded.{IsUnfolded}
@@ -61,10 +61,10 @@ two_of_one_is = record {
 }
 
 are_three : AreInstances two_of_one three_instances
-are_three = one_first 0 _ _ _ _ (one_first 1 _ _ _ _ (one_first 2 _ _ _ _ (none_yet 3 [])))
+are_three = with_parts 0 _ _ (one_more 1 _ _ _ _ (with_parts 1 _ _ (none_left 2)) (one_more 2 _ _ _ _ (with_parts 2 _ _ (none_left 3)) (none_left 3)))
 
 more_than_two : AreMoreThan two_of_one 2
-more_than_two = record { first = three_instances; later = []; come = are_three; many = omega arith }
+more_than_two = record { first = three_instances; later = []; come = one_first 0 _ _ _ _ (one_first 1 _ _ _ _ (one_first 2 _ _ _ _ (none_yet 3 []))); many = omega arith }
 
 unfolds_to_three : IsUnfolded two_of_one three_instances
 unfolds_to_three = record { instances = are_three; few_instances = omega arith; few_places = omega arith; few_transitions = omega arith }
@@ -163,4 +163,30 @@ three_deep = record {
 }
 
 in_preorder : AreInstances three_deep (top_instance ∷ instance_for 1 0 0 ∷ instance_for 2 1 0 ∷ instance_for 2 0 1 ∷ [])
-in_preorder = one_first 0 _ _ _ _ (one_first 1 _ _ _ _ (one_first 2 _ _ _ _ (one_first 3 _ _ _ _ (none_yet 4 []))))
+in_preorder =
+    with_parts 0 _ _ (one_more 1 _ _ _ _ (with_parts 1 _ _ (one_more 2 _ _ _ _ (with_parts 2 _ _ (none_left 3)) (none_left 3))) (one_more 3 _ _ _ _ (with_parts 3 _ _ (none_left 4)) (none_left 4)))
+
+-- ---- ports of parts of parts: each of two instances of the module 1 has a part of the module 2, whose port has the place 1 of that
+-- instance as its socket
+
+abbrev ports_below : PlainHierarchy
+ports_below = record {
+  top = 0;
+  modules = record { ports = None ∷ None ∷ []; transitions = 0; arcs = []; substitutions = transition_to 0 ∷ transition_to 1 ∷ [] }
+      ∷ record { ports = Some In ∷ None ∷ []; transitions = 0; arcs = []; substitutions = record { submodule = 2; assignments = record { port = 0; socket = 1 } ∷ [] } ∷ [] }
+      ∷ record { ports = Some In ∷ []; transitions = 1; arcs = []; substitutions = [] }
+      ∷ [];
+  fusions = [];
+}
+
+abbrev five_instances : List PlainInstance
+five_instances = top_instance ∷ instance_for 1 0 0 ∷ instance_for 2 1 0 ∷ instance_for 1 0 1 ∷ instance_for 2 3 0 ∷ []
+
+are_five : AreInstances ports_below five_instances
+are_five =
+    with_parts 0 _ _ (one_more 1 _ _ _ _ (with_parts 1 _ _ (one_more 2 _ _ _ _ (with_parts 2 _ _ (none_left 3)) (none_left 3)))
+    (one_more 3 _ _ _ _ (with_parts 3 _ _ (one_more 4 _ _ _ _ (with_parts 4 _ _ (none_left 5)) (none_left 5))) (none_left 5)))
+
+-- the places of the five instances begin at 0, 2, 4, 5 and 7
+four_port_pairs : port_pairs ports_below five_instances ≡ (0, 2) ∷ (3, 4) ∷ (1, 5) ∷ (6, 7) ∷ []
+four_port_pairs = refl

@@ -15,7 +15,7 @@ use Rattle.cpn_module.specs.declared.hierarchy.Hierarchy.{Hierarchy}
 use Rattle.cpn_fuse.specs.Instances.{PlainInstance, instance_at, no_instance}
 use Rattle.cpn_fuse.specs.PlaceInstances.{place_count, first_place}
 use Rattle.cpn_fuse.specs.Compound.{port_pairs_where}
-use Rattle.cpn_fuse.specs.Views.{part_view, place_of_part, instance_view, instances_view}
+use Rattle.cpn_fuse.specs.Views.{part_view, part_of_view, instance_view, instances_view}
 use Rattle.cpn_fuse.specs.Answers.{AreUnfolded}
 use Rattle.cpn_fuse.specs.declared.instances.PartOf.{PartOf}
 use Rattle.cpn_fuse.specs.declared.instances.Instance.{Instance}
@@ -68,7 +68,7 @@ module _ (hierarchy : Hierarchy) (u : Unfolded) (are : AreUnfolded (hierarchy_vi
 
     -- where an instance stands
     pub part_read : (i : ℕ) (x : Instance) (part : PartOf) → i < length is → x ≡ slice_index_or u.instances.items i x → x.part_of ≡ Some part → (instance_at is i).part_of ≡ Some (part_view part)
-    part_read i x part lt e is_part = ap (λ (y : PlainInstance). y.part_of) (instance_read i x lt e) ∙ ap place_of_part is_part
+    part_read i x part lt e is_part = ap (λ (y : PlainInstance). y.part_of) (instance_read i x lt e) ∙ ap part_of_view is_part
 
     pub its_part : (i : ℕ) (x : Instance) (part : PartOf) → i < length is → x ≡ slice_index_or u.instances.items i x → x.part_of ≡ Some part → IsPart h is i (instance_at is i).of_module (part_view part)
     its_part i x part lt e is_part = subst (λ o. IfSome o (IsPart h is i (instance_at is i).of_module)) (part_read i x part lt e is_part) (instance_placed h numbers is are.unfolded.instances i lt).part

@@ -7,12 +7,12 @@ use Rattle.cpn_fuse.specs.declared.instances.Instance.{Instance}
 abbrev pub part_view : PartOf → PlainPart
 part_view part = record { instance = part.instance; substitution = part.substitution }
 
-abbrev pub place_of_part : Option PartOf → Option PlainPart
-place_of_part None = None
-place_of_part (Some part) = Some (part_view part)
+abbrev pub part_of_view : Option PartOf → Option PlainPart
+part_of_view None = None
+part_of_view (Some part) = Some (part_view part)
 
 abbrev pub instance_view : Instance → PlainInstance
-instance_view x = record { of_module = x.of_module; part_of = place_of_part x.part_of }
+instance_view x = record { of_module = x.of_module; part_of = part_of_view x.part_of }
 
 abbrev pub instances_view : List Instance → List PlainInstance
 instances_view is = map instance_view is

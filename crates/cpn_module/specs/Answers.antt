@@ -9,15 +9,15 @@ use Rattle.cpn_module.specs.declared.refusals.ModuleError.TheVariants as errors
 -- the refusal that an error is; want of memory is none
 abbrev pub refusal_of : ModuleError → Option ModuleRefusal
 refusal_of errors.Memory = None
-refusal_of (errors.UnknownModule place) = Some (unknown_module place)
-refusal_of (errors.UnknownPlace place) = Some (unknown_place place)
-refusal_of (errors.UnknownTransition place) = Some (unknown_transition place)
-refusal_of (errors.Cycle place) = Some (cycle place)
-refusal_of (errors.SocketType place) = Some (socket_type place)
-refusal_of (errors.ColourDiffers place) = Some (colour_differs place)
-refusal_of (errors.PortTwice place) = Some (port_twice place)
-refusal_of (errors.PortInFusion place) = Some (port_in_fusion place)
-refusal_of (errors.TwoFusions place) = Some (two_fusions place)
+refusal_of (errors.UnknownModule at) = Some (unknown_module at)
+refusal_of (errors.UnknownPlace at) = Some (unknown_place at)
+refusal_of (errors.UnknownTransition at) = Some (unknown_transition at)
+refusal_of (errors.Cycle at) = Some (cycle at)
+refusal_of (errors.SocketType at) = Some (socket_type at)
+refusal_of (errors.ColourDiffers at) = Some (colour_differs at)
+refusal_of (errors.PortTwice at) = Some (port_twice at)
+refusal_of (errors.PortInFusion at) = Some (port_in_fusion at)
+refusal_of (errors.TwoFusions at) = Some (two_fusions at)
 
 -- An answer comes where the rules are all kept; else the refusal of the first that is broken.
 abbrev pub Checks : {X : Type 0} → Result X ModuleError → List Rule → Type 0

@@ -16,7 +16,7 @@ use Rattle.cpn_module_trees.specs.Parsing.{Parsing}
 use Rattle.cpn_readings.proofs.Readings.{same_read, steps}
 use Rattle.cpn_module_nets.specs.Reading.{read}
 use Rattle.cpn_module_nets.specs.Nets.{colour_at}
-use Rattle.cpn_module_nets.specs.Accepted.{tree_at, accepted_at, Sides, with_first, input_at, output_at, sides_of, is_transition, inscribed, arc_with, is_at, inputs_of, outputs_of}
+use Rattle.cpn_module_nets.specs.Accepted.{tree_at, accepted_at, Sides, with_first, arc_at, sides_of, is_transition, inscribed, arc_with, is_at, inputs_of, outputs_of}
 use Rattle.cpn_module_nets.proofs.AcceptedTexts.{accepted_is}
 
 -- ---- what an arc of the document stands for
@@ -52,8 +52,8 @@ pub record AreGoodSides (ds : Declared) (places : List Coloured) (sides : Sides)
   pub out : IfThere (IsGoodArc ds places output) sides.output
 
 module _ (ds : Declared) (places : List Coloured) (p : ℕ) (known : p < length places) (pointer : Pointer) (tree : PlainAst) where
-  input_good : (arc : PlainArc) → input_at ds (colour_at places p) pointer p tree ≡ read arc → IsGoodInput ds places arc
-  unfolding input_at
+  input_good : (arc : PlainArc) → arc_at input ds (colour_at places p) pointer p tree ≡ read arc → IsGoodInput ds places arc
+  unfolding arc_at
   input_good arc h =
       let m = steps _ (accepted_at pointer (checked_arc ds input (colour_at places p) tree)) arc h in
       subst (IsGoodInput ds places) (same_read _ arc m.2) (record {
@@ -61,8 +61,8 @@ module _ (ds : Declared) (places : List Coloured) (p : ℕ) (known : p < length 
         terms = refl;
       })
 
-  output_good : (arc : PlainArc) → output_at ds (colour_at places p) pointer p tree ≡ read arc → IsGoodArc ds places output arc
-  unfolding output_at
+  output_good : (arc : PlainArc) → arc_at output ds (colour_at places p) pointer p tree ≡ read arc → IsGoodArc ds places output arc
+  unfolding arc_at
   output_good arc h =
       let m = steps _ (accepted_at pointer (checked_arc ds output (colour_at places p) tree)) arc h in
       subst (IsGoodArc ds places output) (same_read _ arc m.2)
@@ -71,14 +71,14 @@ module _ (ds : Declared) (places : List Coloured) (p : ℕ) (known : p < length 
 sides_good : (way : Way) (ds : Declared) (places : List Coloured) (pointer : Pointer) (ends : PlainEnds) (tree : PlainAst) (sides : Sides) → ends.place < length places → sides_of way ds (colour_at places ends.place) pointer ends tree ≡ read sides → AreGoodSides ds places sides
 unfolding sides_of
 sides_good ToTransition ds places pointer ends tree sides known h =
-    let into = steps _ (input_at ds (colour_at places ends.place) pointer ends.place tree) sides h in
+    let into = steps _ (arc_at input ds (colour_at places ends.place) pointer ends.place tree) sides h in
     subst (AreGoodSides ds places) (same_read _ sides into.2) (record { into = input_good ds places ends.place known pointer tree into.0 into.1; out = tt })
 sides_good ToPlace ds places pointer ends tree sides known h =
-    let out = steps _ (output_at ds (colour_at places ends.place) pointer ends.place tree) sides h in
+    let out = steps _ (arc_at output ds (colour_at places ends.place) pointer ends.place tree) sides h in
     subst (AreGoodSides ds places) (same_read _ sides out.2) (record { into = tt; out = output_good ds places ends.place known pointer tree out.0 out.1 })
 sides_good Both ds places pointer ends tree sides known h =
-    let into = steps _ (input_at ds (colour_at places ends.place) pointer ends.place tree) sides h in
-    let out = steps _ (output_at ds (colour_at places ends.place) pointer ends.place tree) sides into.2 in
+    let into = steps _ (arc_at input ds (colour_at places ends.place) pointer ends.place tree) sides h in
+    let out = steps _ (arc_at output ds (colour_at places ends.place) pointer ends.place tree) sides into.2 in
     subst (AreGoodSides ds places) (same_read _ sides out.2) (record { into = input_good ds places ends.place known pointer tree into.0 into.1; out = output_good ds places ends.place known pointer tree out.0 out.1 })
 
 inscribed_good : (ds : Declared) (places : List Coloured) (pointer : Pointer) (ends : PlainEnds) (text : Parsing PlainAst) (sides : Sides) → ends.place < length places → inscribed ds places pointer ends text ≡ read sides → AreGoodSides ds places sides

@@ -62,9 +62,9 @@ each_from_at f i (x ∷ xs) ys (suc k) d e h lt =
 
 -- ---- checks
 
-pub accepted_is : {A : Type 0} (place : Pointer) (c : Checked A) (x : A) → accepted_at place c ≡ read x → c ≡ ok x
-accepted_is place (ok y) x h = ap ok (same_read y x h)
-accepted_is place (checks.refused r) x h = cc
+pub accepted_is : {A : Type 0} (at : Pointer) (c : Checked A) (x : A) → accepted_at at c ≡ read x → c ≡ ok x
+accepted_is at (ok y) x h = ap ok (same_read y x h)
+accepted_is at (checks.refused r) x h = cc
 
 -- ---- declarations
 

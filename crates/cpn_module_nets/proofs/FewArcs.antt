@@ -11,6 +11,7 @@ use Rattle.cpn_definitions.specs.Colour.{PlainColour}
 use Rattle.cpn_definitions.specs.Net.{PlainArc, PlainTransition, Coloured}
 use Rattle.cpn_trees.specs.Trees.{PlainAst}
 use Rattle.cpn_typing.specs.Names.{Declared}
+use Rattle.cpn_typing.specs.Multisets.{input, output}
 use Rattle.cpn_document.specs.Document.{RawTransition, RawArc, RawModule, arcs_on, arcs_at, most_arcs}
 use Rattle.cpn_document.specs.FewArcs as documents
 use Rattle.cpn_document.specs.Parts.{is_one_of}
@@ -27,7 +28,7 @@ use Rattle.cpn_module_trees.specs.Trees.{TransitionTrees}
 use Rattle.cpn_module_nets.specs.Reading.{read, each_from}
 use Rattle.cpn_module_nets.specs.Pointers.{expr_pointer, guard_pointer, delay_pointer}
 use Rattle.cpn_module_nets.specs.Nets.{colour_at}
-use Rattle.cpn_module_nets.specs.Accepted.{tree_at, guard_at, delay_at, bare_transition, Sides, with_first, input_at, output_at, sides_of, inscribed, arc_with, no_ends, ends_at, arc_of, is_at, inputs_of, outputs_of, joined_from}
+use Rattle.cpn_module_nets.specs.Accepted.{tree_at, guard_at, delay_at, bare_transition, Sides, with_first, arc_at, sides_of, inscribed, arc_with, no_ends, ends_at, arc_of, is_at, inputs_of, outputs_of, joined_from}
 use Rattle.cpn_module_nets.specs.Transitions.{IsCompleted}
 use Rattle.cpn_module_nets.proofs.AcceptedArcs.{arc_case}
 use Rattle.cpn_module_nets.proofs.AcceptedTexts.{each_from_all}
@@ -51,14 +52,14 @@ module _ (ds : Declared) (colour : PlainColour) (pointer : Pointer) (ends : Plai
   sides_counted : (way : Way) (sides : Sides) → sides_of way ds colour pointer ends tree ≡ read sides → AreOn way sides
   unfolding sides_of
   sides_counted ToTransition sides h =
-      let into = steps _ (input_at ds colour pointer ends.place tree) sides h in
+      let into = steps _ (arc_at input ds colour pointer ends.place tree) sides h in
       subst (AreOn ToTransition) (same_read _ sides into.2) (refl, omega arith)
   sides_counted ToPlace sides h =
-      let out = steps _ (output_at ds colour pointer ends.place tree) sides h in
+      let out = steps _ (arc_at output ds colour pointer ends.place tree) sides h in
       subst (AreOn ToPlace) (same_read _ sides out.2) (refl, omega arith)
   sides_counted Both sides h =
-      let into = steps _ (input_at ds colour pointer ends.place tree) sides h in
-      let out = steps _ (output_at ds colour pointer ends.place tree) sides into.2 in
+      let into = steps _ (arc_at input ds colour pointer ends.place tree) sides h in
+      let out = steps _ (arc_at output ds colour pointer ends.place tree) sides into.2 in
       subst (AreOn Both) (same_read _ sides out.2) (refl, omega arith)
 
 inscribed_counted : (ds : Declared) (places : List Coloured) (pointer : Pointer) (ends : PlainEnds) (text : Parsing PlainAst) (sides : Sides) → inscribed ds places pointer ends text ≡ read sides → AreCounted ends sides

@@ -3,7 +3,6 @@
 use Rattle.std.specs.Prelude.{ℕ, suc, ◌==◌, Bool, true, false, if◌then◌else◌, List, [], ◌∷◌, ◌++◌, slice_index_or, Option, Some, None}
 use Rattle.cpn_definitions.specs.Colour.{PlainColour}
 use Rattle.cpn_definitions.specs.Inscription.{PlainExpr}
-use Rattle.cpn_definitions.specs.Bindable.{binding_terms}
 use Rattle.cpn_definitions.specs.Net.{PlainArc, PlainTransition, Coloured}
 use Rattle.cpn_trees.specs.Trees.{PlainAst, PlainAsts}
 use Rattle.cpn_trees.specs.DeclTrees.{PlainDecl}
@@ -26,15 +25,15 @@ use Rattle.cpn_module_nets.specs.Reading.{no_tree, typing, inscription, Reading,
 use Rattle.cpn_module_nets.specs.Nets.{Initial, colour_at}
 use Rattle.cpn_module_nets.specs.Pointers.{expr_pointer, colour_pointer, initial_pointer, delay_pointer, guard_pointer}
 
--- the tree of a text at a place, or the refusal of the text
+-- the tree of a text at a pointer, or the refusal of the text
 abbrev pub tree_at : {A : Type 0} → Pointer → Parsing A → Reading A
-tree_at place (parsed tree) = read tree
-tree_at place (unparsed r) = refused (inscription place (no_tree r))
+tree_at at (parsed tree) = read tree
+tree_at at (unparsed r) = refused (inscription at (no_tree r))
 
--- what is accepted at a place, or the refusal by a rule of typing
+-- what is accepted at a pointer, or the refusal by a rule of typing
 abbrev pub accepted_at : {A : Type 0} → Pointer → Checked A → Reading A
-accepted_at place (ok x) = read x
-accepted_at place (checks.refused r) = refused (inscription place (typing r))
+accepted_at at (ok x) = read x
+accepted_at at (checks.refused r) = refused (inscription at (typing r))
 
 -- ---- declarations
 
@@ -63,12 +62,12 @@ net_place ds m i place = do
 unfoldable pub places_of : Declared → ℕ → ModuleTrees → Reading (List Coloured)
 places_of ds m of_module = each_from (net_place ds m) 0 of_module.places
 
--- an initial marking at a place of the document, where one is written
+-- an initial marking at a pointer, where one is written
 unfoldable pub initial_at : Declared → PlainColour → Pointer → Option (Parsing PlainAst) → Reading (Option Initial)
-initial_at ds colour place None = read None
-initial_at ds colour place (Some text) = do
-  tree ← tree_at place text
-  expr ← accepted_at place (checked_init ds colour tree)
+initial_at ds colour at None = read None
+initial_at ds colour at (Some text) = do
+  tree ← tree_at at text
+  expr ← accepted_at at (checked_init ds colour tree)
   read (Some (record { colour = colour; expr = expr }))
 
 abbrev pub initial_of : Declared → List Coloured → ℕ → ℕ → PlaceTrees → Reading (Option Initial)
@@ -76,19 +75,19 @@ initial_of ds places m i place = initial_at ds (colour_at places i) (initial_poi
 
 -- ---- transitions
 
--- the conjuncts of a guard at a place of the document; none where none is written
+-- the conjuncts of a guard at a pointer; none where none is written
 unfoldable pub guard_at : Declared → Pointer → Option (Parsing PlainAsts) → Reading (List PlainExpr)
-guard_at ds place None = read []
-guard_at ds place (Some text) = do
-  tree ← tree_at place text
-  accepted_at place (checked_guard ds tree)
+guard_at ds at None = read []
+guard_at ds at (Some text) = do
+  tree ← tree_at at text
+  accepted_at at (checked_guard ds tree)
 
--- a delay at a place of the document, where one is written
+-- a delay at a pointer, where one is written
 unfoldable pub delay_at : Declared → Pointer → Option (Parsing PlainAst) → Reading (Option PlainExpr)
-delay_at ds place None = read None
-delay_at ds place (Some text) = do
-  tree ← tree_at place text
-  delay ← accepted_at place (checked_delay ds tree)
+delay_at ds at None = read None
+delay_at ds at (Some text) = do
+  tree ← tree_at at text
+  delay ← accepted_at at (checked_delay ds tree)
   read (Some delay)
 
 -- A transition before its arcs are joined to it and its variables are listed: its name, its guard and its delay.
@@ -106,35 +105,24 @@ pub record Sides : Type 0 where
   pub input : Option PlainArc
   pub output : Option PlainArc
 
--- an input arc at the place of a number and a colour set, with its binding terms, and an output arc, which has none; its
--- inscription stands at a place of the document
-unfoldable pub input_at : Declared → PlainColour → Pointer → ℕ → PlainAst → Reading PlainArc
-input_at ds colour place p tree = do
-  expr ← accepted_at place (checked_arc ds input colour tree)
-  read (record { place = p; colour = colour; expr = expr; terms = binding_terms expr })
-
-unfoldable pub output_at : Declared → PlainColour → Pointer → ℕ → PlainAst → Reading PlainArc
-output_at ds colour place p tree = do
-  expr ← accepted_at place (checked_arc ds output colour tree)
-  read (record { place = p; colour = colour; expr = expr; terms = [] })
-
--- an arc on a side of its transition, with the binding terms that it has there
+-- an arc on a side of its transition, at the place of a number and a colour set, with the binding terms that it has there: an
+-- output arc has none
 unfoldable pub arc_at : Side → Declared → PlainColour → Pointer → ℕ → PlainAst → Reading PlainArc
-arc_at side ds colour place p tree = do
-  expr ← accepted_at place (checked_arc ds side colour tree)
+arc_at side ds colour at p tree = do
+  expr ← accepted_at at (checked_arc ds side colour tree)
   read (record { place = p; colour = colour; expr = expr; terms = terms_on side expr })
 
 -- An arc that leads both ways is checked as an input arc, then as an output arc.
 unfoldable pub sides_of : Way → Declared → PlainColour → Pointer → PlainEnds → PlainAst → Reading Sides
-sides_of ToTransition ds colour place ends tree = do
-  into ← input_at ds colour place ends.place tree
+sides_of ToTransition ds colour at ends tree = do
+  into ← arc_at input ds colour at ends.place tree
   read (record { node = ends.node; input = Some into; output = None })
-sides_of ToPlace ds colour place ends tree = do
-  out ← output_at ds colour place ends.place tree
+sides_of ToPlace ds colour at ends tree = do
+  out ← arc_at output ds colour at ends.place tree
   read (record { node = ends.node; input = None; output = Some out })
-sides_of Both ds colour place ends tree = do
-  into ← input_at ds colour place ends.place tree
-  out ← output_at ds colour place ends.place tree
+sides_of Both ds colour at ends tree = do
+  into ← arc_at input ds colour at ends.place tree
+  out ← arc_at output ds colour at ends.place tree
   read (record { node = ends.node; input = Some into; output = Some out })
 
 -- whether a node is a transition
@@ -144,14 +132,14 @@ is_transition (nodes.Substitution i) = false
 
 -- what an arc of these ends stands for, with the tree of its inscription
 unfoldable pub inscribed : Declared → List Coloured → Pointer → PlainEnds → Parsing PlainAst → Reading Sides
-inscribed ds places place ends text = do
-  tree ← tree_at place text
-  sides_of ends.way ds (colour_at places ends.place) place ends tree
+inscribed ds places at ends text = do
+  tree ← tree_at at text
+  sides_of ends.way ds (colour_at places ends.place) at ends tree
 
 -- At a substitution transition the inscription of an arc is not looked at: it stands for no arc of the net.
 unfoldable pub arc_with : Declared → List Coloured → Pointer → PlainEnds → Parsing PlainAst → Reading Sides
-arc_with ds places place ends text =
-    if is_transition ends.node then inscribed ds places place ends text else read (record { node = ends.node; input = None; output = None })
+arc_with ds places at ends text =
+    if is_transition ends.node then inscribed ds places at ends text else read (record { node = ends.node; input = None; output = None })
 
 -- the ends of an arc, by its number
 abbrev pub no_ends : PlainEnds
@@ -188,4 +176,4 @@ outputs_of t (arc ∷ arcs) = if is_at t arc.node then with_first arc.output (ou
 abbrev pub joined_from : ℕ → List PlainTransition → List Sides → List PlainTransition
 joined_from t [] arcs = []
 joined_from t (x ∷ xs) arcs =
-    record { name = x.name; guard = x.guard; delay = x.delay; inputs = x.inputs ++ inputs_of t arcs; outputs = x.outputs ++ outputs_of t arcs; vars = x.vars } ∷ joined_from (suc t) xs arcs
+    record x { inputs = x.inputs ++ inputs_of t arcs; outputs = x.outputs ++ outputs_of t arcs } ∷ joined_from (suc t) xs arcs

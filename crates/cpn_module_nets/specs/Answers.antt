@@ -24,7 +24,7 @@ text_refusal_of (texts.Typing e) = option_map typing (type_refusal_of e)
 abbrev pub net_refusal_of : NetError → Option NetRefusal
 net_refusal_of nets.Memory = None
 net_refusal_of (nets.Modules e) = option_map of_modules (module_refusal_of e)
-net_refusal_of (nets.Inscription place e) = option_map (inscription place) (text_refusal_of e)
+net_refusal_of (nets.Inscription at e) = option_map (inscription at) (text_refusal_of e)
 
 -- an answer gives the value that was to be read, as it is seen, or its refusal
 abbrev pub Loads : {X Y : Type 0} → (X → Y) → Result X NetError → Reading Y → Type 0

@@ -5,4 +5,4 @@ use Rattle.cpn_module_nets.specs.Accepted.{Sides, with_first}
 
 abbrev pub joined_with : PlainTransition → Sides → PlainTransition
 joined_with t arc =
-    record { name = t.name; guard = t.guard; delay = t.delay; inputs = t.inputs ++ with_first arc.input []; outputs = t.outputs ++ with_first arc.output []; vars = t.vars }
+    record t { inputs = t.inputs ++ with_first arc.input []; outputs = t.outputs ++ with_first arc.output [] }

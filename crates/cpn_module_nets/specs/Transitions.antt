@@ -12,7 +12,7 @@ use Rattle.cpn_module_nets.specs.Pointers.{transition_pointer}
 
 -- a transition with these variables
 abbrev pub with_variables : PlainTransition → List ℕ → PlainTransition
-with_variables t xs = record { name = t.name; guard = t.guard; delay = t.delay; inputs = t.inputs; outputs = t.outputs; vars = xs }
+with_variables t xs = record t { vars = xs }
 
 -- The transition with its variables listed.
 pub record IsCompleted (bare t : PlainTransition) : Type 0 where

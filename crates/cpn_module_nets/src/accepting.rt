@@ -1,9 +1,10 @@
 //! From a document to the nets of its modules.
 
-ghost use Rattle.std.specs.Prelude.{IfOk};
+ghost use Rattle.std.specs.Prelude.{◌≡◌, IfOk};
 ghost use Rattle.cpn_document.specs.Document.{RawDocument};
 ghost use Rattle.cpn_document.specs.FewArcs.{HaveFewArcs};
 ghost use Rattle.cpn_document.specs.Views.{document_view};
+ghost use Rattle.cpn_module.specs.Named.{hierarchy_in};
 ghost use Rattle.cpn_module.specs.Ranges.{HasItsNumbers};
 ghost use Rattle.cpn_module.specs.Views.{hierarchy_view};
 ghost use Rattle.cpn_readings.specs.Relations.{HasOne};
@@ -25,6 +26,7 @@ use std::alloc::Global;
 fn accepted_of(alloc: Global, document: &Document) -> Result<Accepted, NetError>
     ensures reads { LoadsBy accepted_view result (accepted_in (document_view document.now)) }
     ensures numbers { IfOk result (λ accepted. HasItsNumbers (hierarchy_view accepted.hierarchy)) }
+    ensures hierarchy { IfOk result (λ accepted. hierarchy_view accepted.hierarchy ≡ hierarchy_in (document_view document.now)) }
 {
     let trees = document_trees(alloc, document)?;
     let decls = declared(alloc, trees.declarations.as_slice())?;
@@ -58,6 +60,8 @@ pub fn accept(alloc: Global, document: &Document) -> Result<Accepted, NetError>
     ensures one { HasOne (accepted_in (document_view document.now)) }
     // The net of each module is sound, and the nets go together.
     ensures well { IfOk result (λ accepted. IsWellAccepted (accepted_view accepted)) }
+    // The modules are put together as the document says.
+    ensures hierarchy { IfOk result (λ accepted. hierarchy_view accepted.hierarchy ≡ hierarchy_in (document_view document.now)) }
 {
     accepted_of(alloc, document)
 }

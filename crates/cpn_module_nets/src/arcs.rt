@@ -43,37 +43,37 @@ fn side_of(
     decls: &Decls,
     colour: &Colour,
     side: Side,
-    place: Pointer,
+    at: Pointer,
     number: usize,
     tree: &Inscription,
 ) -> Result<PlaceArc, NetError>
     requires few { number < 2 ^ 32 }
-    ensures reads { Loads arc_view result (arc_at (side_view side) (decls_view decls.now) (colour_view colour.now) place number (inscription_view tree.now)) }
+    ensures reads { Loads arc_view result (arc_at (side_view side) (decls_view decls.now) (colour_view colour.now) at number (inscription_view tree.now)) }
 {
     match check_arc(alloc, decls, colour, side, tree) {
         Ok(inscription) => Ok(PlaceArc {
             place: number as u32,
             inscription: Arc::new(alloc, inscription)?,
         }),
-        Err(error) => Err(not_accepted(place, error)),
+        Err(error) => Err(not_accepted(at, error)),
     }
 }
 
 /// The two arcs of the net that an arc both ways with this tree stands for.
-#[tactic(auto, unfolding(crate::specs::Accepted::sides_of, crate::specs::Accepted::input_at, crate::specs::Accepted::output_at, crate::specs::Accepted::arc_at))]
+#[tactic(auto, unfolding(crate::specs::Accepted::sides_of))]
 fn both_sides(
     alloc: Global,
     decls: &Decls,
     colour: &Colour,
-    place: Pointer,
+    at: Pointer,
     ends: &Ends,
     tree: &Inscription,
 ) -> Result<Sides, NetError>
     requires few { ends.now.place < 2 ^ 32 }
-    ensures reads { Loads sides_view result (sides_in Both (decls_view decls.now) (colour_view colour.now) place (ends_view ends.now) (inscription_view tree.now)) }
+    ensures reads { Loads sides_view result (sides_in Both (decls_view decls.now) (colour_view colour.now) at (ends_view ends.now) (inscription_view tree.now)) }
 {
-    let input = side_of(alloc, decls, colour, Side::Input, place, ends.place, tree)?;
-    match side_of(alloc, decls, colour, Side::Output, place, ends.place, tree) {
+    let input = side_of(alloc, decls, colour, Side::Input, at, ends.place, tree)?;
+    match side_of(alloc, decls, colour, Side::Output, at, ends.place, tree) {
         Ok(output) => Ok(Sides {
             node: ends.node,
             input: Some(input),
@@ -87,21 +87,21 @@ fn both_sides(
 }
 
 /// The arcs of the net that an arc of these ends, with this tree, stands for.
-#[tactic(auto, unfolding(crate::specs::Accepted::sides_of, crate::specs::Accepted::input_at, crate::specs::Accepted::output_at, crate::specs::Accepted::arc_at))]
+#[tactic(auto, unfolding(crate::specs::Accepted::sides_of))]
 fn sides_of(
     alloc: Global,
     decls: &Decls,
     colour: &Colour,
-    place: Pointer,
+    at: Pointer,
     ends: &Ends,
     tree: &Inscription,
 ) -> Result<Sides, NetError>
     requires few { ends.now.place < 2 ^ 32 }
-    ensures reads { Loads sides_view result (sides_in ends.now.way (decls_view decls.now) (colour_view colour.now) place (ends_view ends.now) (inscription_view tree.now)) }
+    ensures reads { Loads sides_view result (sides_in ends.now.way (decls_view decls.now) (colour_view colour.now) at (ends_view ends.now) (inscription_view tree.now)) }
 {
     match ends.way {
         Way::ToTransition => {
-            let input = side_of(alloc, decls, colour, Side::Input, place, ends.place, tree)?;
+            let input = side_of(alloc, decls, colour, Side::Input, at, ends.place, tree)?;
             Ok(Sides {
                 node: ends.node,
                 input: Some(input),
@@ -109,14 +109,14 @@ fn sides_of(
             })
         }
         Way::ToPlace => {
-            let output = side_of(alloc, decls, colour, Side::Output, place, ends.place, tree)?;
+            let output = side_of(alloc, decls, colour, Side::Output, at, ends.place, tree)?;
             Ok(Sides {
                 node: ends.node,
                 input: None,
                 output: Some(output),
             })
         }
-        Way::Both => both_sides(alloc, decls, colour, place, ends, tree),
+        Way::Both => both_sides(alloc, decls, colour, at, ends, tree),
     }
 }
 
@@ -126,18 +126,18 @@ fn inscribed(
     alloc: Global,
     decls: &Decls,
     places: &[Place],
-    place: Pointer,
+    at: Pointer,
     ends: &Ends,
     text: &Parsing<Inscription>,
 ) -> Result<Sides, NetError>
     requires few { length places.now < 2 ^ 32 }
     requires at_place { ends.now.place < length places.now }
-    ensures reads { Loads sides_view result (inscribed_in (decls_view decls.now) (map net_place_view places.now) place (ends_view ends.now) (tree_view text.now)) }
+    ensures reads { Loads sides_view result (inscribed_in (decls_view decls.now) (map net_place_view places.now) at (ends_view ends.now) (tree_view text.now)) }
 {
     let colour = &places[ends.place].colour;
     match text {
-        Ok(tree) => sides_of(alloc, decls, colour, place, ends, tree),
-        Err(error) => Err(not_parsed(place, *error)),
+        Ok(tree) => sides_of(alloc, decls, colour, at, ends, tree),
+        Err(error) => Err(not_parsed(at, *error)),
     }
 }
 
@@ -147,16 +147,16 @@ fn arc_of(
     alloc: Global,
     decls: &Decls,
     places: &[Place],
-    place: Pointer,
+    at: Pointer,
     ends: &Ends,
     text: &Parsing<Inscription>,
 ) -> Result<Sides, NetError>
     requires few { length places.now < 2 ^ 32 }
     requires at_place { ends.now.place < length places.now }
-    ensures reads { Loads sides_view result (arc_in (decls_view decls.now) (map net_place_view places.now) place (ends_view ends.now) (tree_view text.now)) }
+    ensures reads { Loads sides_view result (arc_in (decls_view decls.now) (map net_place_view places.now) at (ends_view ends.now) (tree_view text.now)) }
 {
     match ends.node {
-        Node::Transition(_) => inscribed(alloc, decls, places, place, ends, text),
+        Node::Transition(_) => inscribed(alloc, decls, places, at, ends, text),
         Node::Substitution(_) => Ok(Sides {
             node: ends.node,
             input: None,

@@ -78,7 +78,7 @@ pub(crate) fn join_arcs(
 }
 
 /// The transition with its variables listed.
-fn completed(alloc: Global, mut transition: Transition) -> Result<Transition, Memory>
+fn completed(alloc: Global, transition: Transition) -> Result<Transition, Memory>
     ensures completed { IfOk result (λ t. IsCompleted (transition_view transition) (transition_view t)) }
 {
     let vars = variables_of(
@@ -88,8 +88,7 @@ fn completed(alloc: Global, mut transition: Transition) -> Result<Transition, Me
         transition.inputs.as_slice(),
         transition.outputs.as_slice(),
     )?;
-    transition.vars = vars;
-    Ok(transition)
+    Ok(Transition { vars, ..transition })
 }
 
 /// The transitions, each with its variables listed.

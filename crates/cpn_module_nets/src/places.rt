@@ -103,17 +103,17 @@ fn written_initial(
     alloc: Global,
     decls: &Decls,
     colour: &Colour,
-    place: Pointer,
+    at: Pointer,
     text: &Parsing<Inscription>,
 ) -> Result<ArcExpr, NetError>
-    ensures reads { Loads (λ initial. Some (initial_view initial)) result (initial_at (decls_view decls.now) (colour_view colour.now) place (Some (tree_view text.now))) }
+    ensures reads { Loads (λ initial. Some (initial_view initial)) result (initial_at (decls_view decls.now) (colour_view colour.now) at (Some (tree_view text.now))) }
 {
     match text {
         Ok(tree) => match check_init(alloc, decls, colour, tree) {
             Ok(initial) => Ok(initial),
-            Err(error) => Err(not_accepted(place, error)),
+            Err(error) => Err(not_accepted(at, error)),
         },
-        Err(error) => Err(not_parsed(place, *error)),
+        Err(error) => Err(not_parsed(at, *error)),
     }
 }
 
@@ -123,14 +123,14 @@ fn initial_of(
     alloc: Global,
     decls: &Decls,
     colour: &Colour,
-    place: Pointer,
+    at: Pointer,
     text: &Option<Parsing<Inscription>>,
 ) -> Result<Option<ArcExpr>, NetError>
-    ensures reads { Loads (λ initial. option_map initial_view initial) result (initial_at (decls_view decls.now) (colour_view colour.now) place (option_map tree_view text.now)) }
+    ensures reads { Loads (λ initial. option_map initial_view initial) result (initial_at (decls_view decls.now) (colour_view colour.now) at (option_map tree_view text.now)) }
 {
     match text {
         Some(text) => {
-            let initial = written_initial(alloc, decls, colour, place, text)?;
+            let initial = written_initial(alloc, decls, colour, at, text)?;
             Ok(Some(initial))
         }
         None => Ok(None),

@@ -31,22 +31,22 @@ pub enum NetError {
 }
 
 /// The refusal of the text at a place that has no tree.
-pub(crate) fn not_parsed(place: Pointer, error: Unparsed) -> NetError
-    ensures refused { net_refusal_of result ≡ Some (inscription place (no_tree (unparsed_view error))) }
+pub(crate) fn not_parsed(at: Pointer, error: Unparsed) -> NetError
+    ensures refused { net_refusal_of result ≡ Some (inscription at (no_tree (unparsed_view error))) }
 {
     match error {
-        Unparsed::Lex(error) => NetError::Inscription(place, InscriptionError::Lex(error)),
-        Unparsed::Syntax(error) => NetError::Inscription(place, InscriptionError::Syntax(error)),
+        Unparsed::Lex(error) => NetError::Inscription(at, InscriptionError::Lex(error)),
+        Unparsed::Syntax(error) => NetError::Inscription(at, InscriptionError::Syntax(error)),
     }
 }
 
 /// The refusal of what stands at a place by a rule of typing.
-pub(crate) fn not_accepted(place: Pointer, error: TypeError) -> NetError
-    ensures refused { net_refusal_of result ≡ option_map (λ r. inscription place (typing r)) (type_refusal_of error) }
+pub(crate) fn not_accepted(at: Pointer, error: TypeError) -> NetError
+    ensures refused { net_refusal_of result ≡ option_map (λ r. inscription at (typing r)) (type_refusal_of error) }
 {
     match error {
         TypeError::Memory => NetError::Memory,
-        error => NetError::Inscription(place, InscriptionError::Typing(error)),
+        error => NetError::Inscription(at, InscriptionError::Typing(error)),
     }
 }
 

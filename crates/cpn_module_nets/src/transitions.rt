@@ -23,17 +23,17 @@ use std::sync::Arc;
 fn written_guard(
     alloc: Global,
     decls: &Decls,
-    place: Pointer,
+    at: Pointer,
     text: &Parsing<cpn_syntax::Guard>,
 ) -> Result<Guard, NetError>
-    ensures reads { Loads (λ guard. map expr_view guard.conjuncts.items) result (guard_at (decls_view decls.now) place (Some (conjuncts_view text.now))) }
+    ensures reads { Loads (λ guard. map expr_view guard.conjuncts.items) result (guard_at (decls_view decls.now) at (Some (conjuncts_view text.now))) }
 {
     match text {
         Ok(tree) => match check_guard(alloc, decls, tree) {
             Ok(guard) => Ok(guard),
-            Err(error) => Err(not_accepted(place, error)),
+            Err(error) => Err(not_accepted(at, error)),
         },
-        Err(error) => Err(not_parsed(place, *error)),
+        Err(error) => Err(not_parsed(at, *error)),
     }
 }
 
@@ -42,13 +42,13 @@ fn written_guard(
 fn guard_of(
     alloc: Global,
     decls: &Decls,
-    place: Pointer,
+    at: Pointer,
     text: &Option<Parsing<cpn_syntax::Guard>>,
 ) -> Result<Guard, NetError>
-    ensures reads { Loads (λ guard. map expr_view guard.conjuncts.items) result (guard_at (decls_view decls.now) place (option_map conjuncts_view text.now)) }
+    ensures reads { Loads (λ guard. map expr_view guard.conjuncts.items) result (guard_at (decls_view decls.now) at (option_map conjuncts_view text.now)) }
 {
     match text {
-        Some(text) => written_guard(alloc, decls, place, text),
+        Some(text) => written_guard(alloc, decls, at, text),
         None => Ok(Guard {
             conjuncts: Vec::new(alloc),
         }),
@@ -60,17 +60,17 @@ fn guard_of(
 fn written_delay(
     alloc: Global,
     decls: &Decls,
-    place: Pointer,
+    at: Pointer,
     text: &Parsing<Inscription>,
 ) -> Result<Expr, NetError>
-    ensures reads { Loads (λ delay. Some (expr_view delay)) result (delay_at (decls_view decls.now) place (Some (tree_view text.now))) }
+    ensures reads { Loads (λ delay. Some (expr_view delay)) result (delay_at (decls_view decls.now) at (Some (tree_view text.now))) }
 {
     match text {
         Ok(tree) => match check_delay(alloc, decls, tree) {
             Ok(delay) => Ok(delay),
-            Err(error) => Err(not_accepted(place, error)),
+            Err(error) => Err(not_accepted(at, error)),
         },
-        Err(error) => Err(not_parsed(place, *error)),
+        Err(error) => Err(not_parsed(at, *error)),
     }
 }
 
@@ -79,14 +79,14 @@ fn written_delay(
 fn delay_of(
     alloc: Global,
     decls: &Decls,
-    place: Pointer,
+    at: Pointer,
     text: &Option<Parsing<Inscription>>,
 ) -> Result<Option<Arc<Expr>>, NetError>
-    ensures reads { Loads delay_view result (delay_at (decls_view decls.now) place (option_map tree_view text.now)) }
+    ensures reads { Loads delay_view result (delay_at (decls_view decls.now) at (option_map tree_view text.now)) }
 {
     match text {
         Some(text) => {
-            let delay = written_delay(alloc, decls, place, text)?;
+            let delay = written_delay(alloc, decls, at, text)?;
             Ok(Some(Arc::new(alloc, delay)?))
         }
         None => Ok(None),

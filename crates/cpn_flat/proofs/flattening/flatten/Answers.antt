@@ -1,5 +1,6 @@
 -- The flat net and its initial marking, or the first refusal.
-use Rattle.std.proofs.Common.{◌≡◌, ◌∙◌, map, length, ap, ap₂, subst, sym}
+use Rattle.std.proofs.Common.{◌≡◌, ◌∙◌, List, map, length, ap, ap₂, subst, sym}
+use Rattle.std.proofs.lemmas.List.{length-map}
 use Rattle.std.proofs.lemmas.Result.{err_from_is_err_and}
 use Rattle.cpn_core.specs.Nets.{place_view, transition_view, net_view}
 use Rattle.cpn_document.specs.Views.{document_view}
@@ -7,6 +8,8 @@ use Rattle.cpn_fuse.specs.Answers.{refusal_of}
 use Rattle.cpn_fuse.specs.Views.{instances_view}
 use Rattle.cpn_module.specs.Views.{hierarchy_view}
 use Rattle.cpn_module_nets.specs.Views.{module_net_view, accepted_view}
+use Rattle.cpn_module_nets.specs.declared.nets.ModuleNet.{ModuleNet}
+use Rattle.cpn_fuse.specs.Instances.{PlainInstance}
 use Rattle.cpn_readings.specs.Relations.{RefusesBy}
 use Rattle.cpn_flat.specs.Answers.{refusal_of as flat_refusal_of, GivesBy}
 use Rattle.cpn_flat.specs.Flat.{all_written, flat_in}
@@ -14,10 +17,11 @@ use Rattle.cpn_flat.specs.FlatNet.{all_places}
 use Rattle.cpn_flat.specs.InitialMarking.{all_initials, started}
 use Rattle.cpn_flat.specs.Items.{HaveItems}
 use Rattle.cpn_flat.specs.Parts.{AreItsParts}
+use Rattle.cpn_flat.specs.Placed.{AreOfModules}
 use Rattle.cpn_flat.specs.Refusals.{read}
 use Rattle.cpn_flat.specs.Values.{AreAllMeant}
 use Rattle.cpn_flat.specs.WellLoaded.{IsWellLoaded}
-use Rattle.cpn_flat.proofs.FlatConditions.{one_meaning, behind, items, small, places_many, initials_many, places_each, places_few, net_meant, flat_well}
+use Rattle.cpn_flat.proofs.FlatConditions.{one_meaning, behind, of_modules, named_in, items, small, places_many, initials_many, places_each, places_few, net_meant, flat_well}
 use Rattle.cpn_flat.proofs.FlatMeanings.{net_is, not_flat, not_started, is_flat}
 use Rattle.cpn_flat.proofs.flattening.flatten.Goals as goal
 
@@ -39,6 +43,18 @@ returns-in_err-classes-clause-one c = one_meaning (accepted_view c.args.accepted
 pub parts_of-requires-clause-behind : goal.parts_of-requires-clause-behind
 parts_of-requires-clause-behind c = behind (accepted_view c.args.accepted) c.requires.well (instances_view c.in_ok-unfolded.unfolded.instances.items) c.in_ok-unfolded.ensures.unfolded.unfolded
 
+-- so many modules as the call has
+modules_many : (many : List ModuleNet) (now : List ModuleNet) (is : List PlainInstance) → now ≡ many → AreOfModules (length (map module_net_view many)) is → AreOfModules (length now) is
+modules_many many now is same = subst (λ k. AreOfModules k is) (length-map many module_net_view ∙ ap length (sym same))
+
+pub parts_of-requires-clause-in_modules : goal.parts_of-requires-clause-in_modules
+parts_of-requires-clause-in_modules c =
+    modules_many c.args.accepted.modules.items c.as_slice.result.now (instances_view c.in_ok-unfolded.unfolded.instances.items) c.as_slice.ensures.value
+    (of_modules (accepted_view c.args.accepted) c.requires.well (instances_view c.in_ok-unfolded.unfolded.instances.items) c.in_ok-unfolded.ensures.unfolded.unfolded)
+
+pub parts_of-requires-clause-there : goal.parts_of-requires-clause-there
+parts_of-requires-clause-there c = named_in (accepted_view c.args.accepted) c.requires.well (instances_view c.in_ok-unfolded.unfolded.instances.items) c.in_ok-unfolded.ensures.unfolded.unfolded (document_view c.args.document.now) c.requires.hierarchy
+
 pub parts_of-requires-clause-items : goal.parts_of-requires-clause-items
 parts_of-requires-clause-items c =
     subst (λ ms. HaveItems (hierarchy_view c.args.accepted.hierarchy) (map module_net_view ms) (instances_view c.in_ok-unfolded.unfolded.instances.items) (length c.in_ok-classes.classes.numbers)) (sym c.as_slice.ensures.value)
@@ -54,6 +70,12 @@ returns-in_err-parts-clause-one c = one_meaning (accepted_view c.args.accepted) 
 
 pub returns-in_err-net-clause-one : goal.returns-in_err-net-clause-one
 returns-in_err-net-clause-one c = one_meaning (accepted_view c.args.accepted) c.requires.well (document_view c.args.document.now) c.in_ok-unfolded.ensures.one c.in_ok-unfolded.ensures.one_refusal c.in_ok-unfolded.ensures.not_both
+
+pub initial_of-requires-clause-in_modules : goal.initial_of-requires-clause-in_modules
+initial_of-requires-clause-in_modules c =
+    subst (λ is. AreOfModules (length c.as_slice-2.result.now) (instances_view is)) (sym c.as_slice-instances.ensures.value)
+    (modules_many c.args.accepted.modules.items c.as_slice-2.result.now (instances_view c.in_ok-unfolded.unfolded.instances.items) c.as_slice-2.ensures.value
+    (of_modules (accepted_view c.args.accepted) c.requires.well (instances_view c.in_ok-unfolded.unfolded.instances.items) c.in_ok-unfolded.ensures.unfolded.unfolded))
 
 pub initial_of-requires-clause-as_many : goal.initial_of-requires-clause-as_many
 initial_of-requires-clause-as_many c =

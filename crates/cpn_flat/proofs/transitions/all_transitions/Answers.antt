@@ -1,12 +1,16 @@
 -- The transitions of an instance more.
-use Rattle.std.proofs.Common.{map, length, string_bytes}
+use Rattle.std.proofs.Common.{◌<◌, map, length, string_bytes}
 use Rattle.cpn_fuse.specs.Views.{instance_view, instances_view}
 use Rattle.cpn_module.specs.Views.{hierarchy_view}
 use Rattle.cpn_module_nets.specs.Views.{module_net_view}
 use Rattle.cpn_flat.specs.FlatNet.{transitions_at}
+use Rattle.cpn_flat.proofs.AllItems.{all_at}
 use Rattle.cpn_flat.proofs.InstanceLists.{instance_more}
 use Rattle.cpn_flat.proofs.InstanceItems.{items_at, transitions_of}
 use Rattle.cpn_flat.proofs.transitions.all_transitions.Goals as goal
+
+pub push_instance-requires-clause-in_range : goal.push_instance-requires-clause-in_range
+push_instance-requires-clause-in_range c = all_at (λ x. x.of_module < length c.args.modules.now) instance_view c.args.instances.now c.loop-number.number _ c.loop-number-test.true c.requires.in_modules
 
 pub push_instance-requires-clause-items : goal.push_instance-requires-clause-items
 push_instance-requires-clause-items c = items_at instance_view c.args.instances.now c.loop-number.number _ c.loop-number-test.true (hierarchy_view c.args.hierarchy.now) (map module_net_view c.args.modules.now) c.args.firsts.now c.requires.firsts (length c.args.classes.now.numbers) c.requires.items

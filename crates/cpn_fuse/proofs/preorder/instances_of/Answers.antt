@@ -9,6 +9,7 @@ use Rattle.cpn_fuse.specs.Unfolded.{instances, IsRefusedFor, many_instances}
 use Rattle.cpn_fuse.specs.Views.{instance_view, instances_view}
 use Rattle.cpn_fuse.specs.Waiting.{waiting_instances, HaveCome}
 use Rattle.cpn_fuse.specs.declared.instances.Instance.{Instance}
+use Rattle.cpn_fuse.proofs.InstanceTrees.{come_instances}
 use Rattle.cpn_fuse.proofs.ComingFirst.{come_more}
 use Rattle.cpn_fuse.proofs.preorder.instances_of.Goals as goal
 
@@ -76,7 +77,7 @@ pub returns-clause-instances : goal.returns-clause-instances
 returns-clause-instances c =
     let h = hierarchy_view c.args.hierarchy.now in
     let nothing = none_left _ _ c.in_ok-instance.field-0 c.in_ok-instance.ensures.first c.in_default.not-Some in
-    subst (λ (later : List PlainInstance). HaveCome h (instances_view c.loop-waiting.instances.items) later) nothing c.loop-waiting.invariant.come
+    come_instances h (instances_view c.loop-waiting.instances.items) (subst (λ (later : List PlainInstance). HaveCome h (instances_view c.loop-waiting.instances.items) later) nothing c.loop-waiting.invariant.come)
 
 pub returns-clause-few : goal.returns-clause-few
 returns-clause-few c = c.loop-waiting.invariant.few

@@ -99,3 +99,7 @@ returns-clause-reads c =
     let nets = map module_net_view c.in_ok-modules.modules.items in
     all_read d trees c.in_ok-trees.ensures.parsed ds ds_is places places_are h c.in_ok-hierarchy.ensures.checked nets
     (subst (λ ms. nets_so ds places h (map module_trees_view ms) (read nets)) c.as_slice-3.ensures.value c.in_ok-modules.ensures.reads)
+
+pub returns-clause-hierarchy : goal.returns-clause-hierarchy
+returns-clause-hierarchy c =
+    (kept (decls_view c.in_ok-decls.decls) (document_view c.args.document.now) (hierarchy_view c.in_ok-hierarchy.hierarchy) c.in_ok-hierarchy.ensures.checked).is

@@ -12,4 +12,4 @@ use Rattle.cpn_module_nets.proofs.arcs.side_of.Goals as goal
 
 pub returns-in-Err : goal.returns-in-Err
 unfolding arc_at
-returns-in-Err c = record { reads = refused_then c.args.place (checked_arc (decls_view c.args.decls.now) (side_view c.args.side) (colour_view c.args.colour.now) (inscription_view c.args.tree.now)) _ (refusal_of c.in-Err.error) (net_refusal_of c.not_accepted.result) c.not_accepted.ensures.refused c.in-Err.ensures.exact }
+returns-in-Err c = record { reads = refused_then c.args.at (checked_arc (decls_view c.args.decls.now) (side_view c.args.side) (colour_view c.args.colour.now) (inscription_view c.args.tree.now)) _ (refusal_of c.in-Err.error) (net_refusal_of c.not_accepted.result) c.not_accepted.ensures.refused c.in-Err.ensures.exact }

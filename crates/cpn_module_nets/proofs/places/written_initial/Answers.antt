@@ -11,4 +11,4 @@ use Rattle.cpn_module_nets.proofs.places.written_initial.Goals as goal
 
 pub returns-in-Err-check_init : goal.returns-in-Err-check_init
 unfolding initial_at
-returns-in-Err-check_init c = record { reads = rw c.in-Ok.is (refused_then c.args.place (checked_init (decls_view c.args.decls.now) (colour_view c.args.colour.now) (inscription_view c.in-Ok.tree)) _ (refusal_of c.in-Err-check_init.error) (net_refusal_of c.not_accepted.result) c.not_accepted.ensures.refused c.in-Err-check_init.ensures.exact) }
+returns-in-Err-check_init c = record { reads = rw c.in-Ok.is (refused_then c.args.at (checked_init (decls_view c.args.decls.now) (colour_view c.args.colour.now) (inscription_view c.in-Ok.tree)) _ (refusal_of c.in-Err-check_init.error) (net_refusal_of c.not_accepted.result) c.not_accepted.ensures.refused c.in-Err-check_init.ensures.exact) }

@@ -10,4 +10,4 @@ use Rattle.cpn_module_nets.proofs.transitions.written_delay.Goals as goal
 
 pub returns-in-Err-check_delay : goal.returns-in-Err-check_delay
 unfolding delay_at
-returns-in-Err-check_delay c = record { reads = rw c.in-Ok.is (refused_then c.args.place (checked_delay (decls_view c.args.decls.now) (inscription_view c.in-Ok.tree)) _ (refusal_of c.in-Err-check_delay.error) (net_refusal_of c.not_accepted.result) c.not_accepted.ensures.refused c.in-Err-check_delay.ensures.exact) }
+returns-in-Err-check_delay c = record { reads = rw c.in-Ok.is (refused_then c.args.at (checked_delay (decls_view c.args.decls.now) (inscription_view c.in-Ok.tree)) _ (refusal_of c.in-Err-check_delay.error) (net_refusal_of c.not_accepted.result) c.not_accepted.ensures.refused c.in-Err-check_delay.ensures.exact) }

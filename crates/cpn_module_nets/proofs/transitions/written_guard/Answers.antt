@@ -10,4 +10,4 @@ use Rattle.cpn_module_nets.proofs.transitions.written_guard.Goals as goal
 
 pub returns-in-Err-check_guard : goal.returns-in-Err-check_guard
 unfolding guard_at
-returns-in-Err-check_guard c = record { reads = rw c.in-Ok.is (refused_there c.args.place (checked_guard (decls_view c.args.decls.now) (guard_view c.in-Ok.tree)) (refusal_of c.in-Err-check_guard.error) (net_refusal_of c.not_accepted.result) c.not_accepted.ensures.refused c.in-Err-check_guard.ensures.exact) }
+returns-in-Err-check_guard c = record { reads = rw c.in-Ok.is (refused_there c.args.at (checked_guard (decls_view c.args.decls.now) (guard_view c.in-Ok.tree)) (refusal_of c.in-Err-check_guard.error) (net_refusal_of c.not_accepted.result) c.not_accepted.ensures.refused c.in-Err-check_guard.ensures.exact) }
