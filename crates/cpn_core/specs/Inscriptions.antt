@@ -95,7 +95,7 @@ abbrev pub exprs_view : List Expr → PlainExprs
 exprs_view es = exprs_from (map expr_view es)
 
 abbrev pub function_view : Function → PlainFunction
-function_view f = record { parameters = f.parameters; body = expr_view f.body }
+function_view f = record { parameters = f.parameters; body = expr_view f.body.value }
 
 abbrev pub funs_view : Funs → Functions
 funs_view funs = map function_view funs.functions.items

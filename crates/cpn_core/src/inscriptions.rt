@@ -3,8 +3,14 @@
 //! Locals are numbered from 0, from the outermost binder inwards, those of one binder from left to right; the
 //! parameters of a function come first. Source: our own profile of CPN ML.
 
+ghost use Rattle.std.specs.Prelude.{◌≡◌, IfOk};
+ghost use Rattle.cpn_core.specs.Inscriptions.{function_view, funs_view};
+
 use crate::colours::Colour;
 use crate::values::Value;
+use cpn_memory::Memory;
+use std::alloc::Global;
+use std::sync::Arc;
 
 /// What is done with the values of operands.
 #[derive(Clone, Copy, Debug, PartialEq, Eq)]
@@ -168,8 +174,25 @@ pub struct Arm {
 pub struct Function {
     /// How many parameters it has.
     pub parameters: u32,
-    /// Its body, in which it may call the functions before it.
-    pub body: Expr,
+    /// Its body, in which it may call the functions before it. It may be shared.
+    pub body: Arc<Expr>,
+}
+
+impl Function {
+    /// The same function, which shares the body.
+    ///
+    /// # Errors
+    ///
+    /// Memory is wanted.
+    pub fn share(&self) -> Result<Function, Memory>
+        ensures same { IfOk result (λ shared. function_view shared ≡ function_view self.now) }
+    {
+        let body = self.body.clone()?;
+        Ok(Function {
+            parameters: self.parameters,
+            body,
+        })
+    }
 }
 
 /// The functions of a net; a function's number is its position.
@@ -177,6 +200,23 @@ pub struct Function {
 pub struct Funs {
     /// The functions, in the order of their declarations.
     pub functions: Vec<Function>,
+}
+
+impl Funs {
+    /// The same functions, which share their bodies.
+    ///
+    /// # Errors
+    ///
+    /// Memory is wanted.
+    pub fn share(&self, alloc: Global) -> Result<Funs, Memory>
+        ensures same { IfOk result (λ shared. funs_view shared ≡ funs_view self.now) }
+    {
+        let mut functions = Vec::with_capacity(alloc, self.functions.len())?;
+        for function in &self.functions {
+            functions.push(function.share()?)?;
+        }
+        Ok(Funs { functions })
+    }
 }
 
 /// The guard of a transition: each conjunct means true. A missing guard has no conjunct.

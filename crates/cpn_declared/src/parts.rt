@@ -23,25 +23,63 @@ pub struct DeclaredParts {
 }
 
 impl Decls {
-    /// What a net takes of what has been declared.
+    /// What a net takes of what has been declared. Names and colour sets are copied, and the bodies of functions are shared.
     ///
     /// # Errors
     ///
     /// Memory is wanted.
-    pub fn into_parts(self, alloc: Global) -> Result<DeclaredParts, Memory>
-        ensures variables { IfOk result (λ parts. map variable_view parts.variables.items ≡ (decls_view self).variables) }
-        ensures constants { IfOk result (λ parts. names_view parts.constants.items ≡ (decls_view self).enumerations) }
-        ensures constructors { IfOk result (λ parts. names_view parts.constructors.items ≡ map constructor_names (decls_view self).unions) }
-        ensures functions { IfOk result (λ parts. funs_view parts.funs ≡ (decls_view self).functions) }
+    pub fn parts(&self, alloc: Global) -> Result<DeclaredParts, Memory>
+        ensures variables { IfOk result (λ parts. map variable_view parts.variables.items ≡ (decls_view self.now).variables) }
+        ensures constants { IfOk result (λ parts. names_view parts.constants.items ≡ (decls_view self.now).enumerations) }
+        ensures constructors { IfOk result (λ parts. names_view parts.constructors.items ≡ map constructor_names (decls_view self.now).unions) }
+        ensures functions { IfOk result (λ parts. funs_view parts.funs ≡ (decls_view self.now).functions) }
     {
+        let variables = variables_of(alloc, self.variables.as_slice())?;
+        let constants = copies_of(alloc, self.enumerations.as_slice())?;
         let constructors = names_of_all(alloc, self.unions.as_slice())?;
+        let funs = self.funs.share(alloc)?;
         Ok(DeclaredParts {
-            variables: self.variables,
-            constants: self.enumerations,
+            variables,
+            constants,
             constructors,
-            funs: self.funs,
+            funs,
         })
     }
+}
+
+// Variables of their own.
+fn variables_of(alloc: Global, variables: &[Variable]) -> Result<Vec<Variable>, Memory>
+    ensures exact { IfOk result (λ copies. map variable_view copies.items ≡ map variable_view variables.now) }
+{
+    let mut copies = Vec::with_capacity(alloc, variables.len())?;
+    for variable in variables {
+        let name = String::from_str(alloc, variable.name.as_str())?;
+        let colour = variable.colour.copy()?;
+        copies.push(Variable { name, colour })?;
+    }
+    Ok(copies)
+}
+
+// Lists of names of their own.
+fn copies_of(alloc: Global, lists: &[Vec<String>]) -> Result<Vec<Vec<String>>, Memory>
+    ensures exact { IfOk result (λ copies. names_view copies.items ≡ names_view lists.now) }
+{
+    let mut copies = Vec::with_capacity(alloc, lists.len())?;
+    for names in lists {
+        copies.push(copy_of(alloc, names.as_slice())?)?;
+    }
+    Ok(copies)
+}
+
+// Names of their own.
+fn copy_of(alloc: Global, names: &[String]) -> Result<Vec<String>, Memory>
+    ensures exact { IfOk result (λ copies. map string_bytes copies.items ≡ map string_bytes names.now) }
+{
+    let mut copies = Vec::with_capacity(alloc, names.len())?;
+    for name in names {
+        copies.push(String::from_str(alloc, name.as_str())?)?;
+    }
+    Ok(copies)
 }
 
 // The names of the constructors of each union.

@@ -52,7 +52,7 @@ pub call_in
     → k < length fs
     → f ≡ get_or fs k f
     → length args ≡ f.parameters
-    → calls_in w n k args ≡ meant_at w k args (expr_view f.body)
+    → calls_in w n k args ≡ meant_at w k args (expr_view f.body.value)
 call_in w n k args fs f same h there is count = function_in w n k args fs f same h there is ∙ right_count (function_view f) (setting_in w k) args count
 
 pub wrong_count_in

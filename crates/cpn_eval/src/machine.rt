@@ -256,7 +256,8 @@ impl<'w> Machine<'w> {
                 let locals = mem::replace(&mut self.locals, arguments);
                 self.frames.push(Frame::Caller(self.visible, locals))?;
                 self.visible = function;
-                Ok(Now::Open(&called.body))
+                let body: &Expr = &called.body;
+                Ok(Now::Open(body))
             }
         }
     }

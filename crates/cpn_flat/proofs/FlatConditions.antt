@@ -94,7 +94,7 @@ module _ (a : PlainAccepted) (well : IsWellAccepted a) where
             let long = length-written a.modules is classes 0 classes.firsts in
             subst (AreOfColour (place_at (flat_net a is names classes) c).colour) (sym (written_here a.modules is classes c (omega (arith, lt, long)))) (written_coloured a well is u names classes compound c)
 
-        pub flat_well : (m : Marking) → started (flat_net a is names classes) (all_written a.modules is classes) (read m) → IsWellLoaded (record { net = flat_net a is names classes; initial = m })
+        pub flat_well : (m : Marking) → started (flat_net a is names classes) (all_written a.modules is classes) (read m) → IsWellLoaded (record { net = flat_net a is names classes; initial = m; declared = a.declared })
         flat_well m h =
             let start = started_well (flat_net a is names classes) (all_written a.modules is classes) m (length-written a.modules is classes 0 classes.firsts ∙ sym (length-compound_places a well is names classes compound)) colours h in
             record {
@@ -104,4 +104,5 @@ module _ (a : PlainAccepted) (well : IsWellAccepted a) where
               bounded = start.bounded;
               in_time = start.in_time;
               named = flat_named a well is names classes compound u;
+              declares = record { variables = refl; constants = refl; constructors = refl; functions = refl };
             }

@@ -42,13 +42,15 @@ use cpn_tmset::Marking;
 use std::alloc::Global;
 use std::sync::Arc;
 
-/// A net and its initial marking.
+/// A net and its initial marking, and what is declared beside it.
 #[derive(Drop)]
 pub struct Loaded {
     /// The net.
     pub net: Net,
     /// The tokens of each of its places at the start.
     pub initial: Marking,
+    /// What is declared: the net's variables, constants, constructors and functions, whose bodies both share, and the colour sets.
+    pub decls: Decls,
 }
 
 /// The places and the transitions of a flat net.
@@ -98,14 +100,14 @@ fn parts_of(
 }
 
 /// A net of what is declared, with these places and transitions.
-fn net_of(alloc: Global, decls: Decls, parts: Parts) -> Result<Net, Memory>
-    ensures made { IfOk result (λ net. net_view net ≡ net_from (decls_view decls) (map place_view parts.places.items) (map transition_view parts.transitions.items)) }
+fn net_of(alloc: Global, decls: &Decls, parts: Parts) -> Result<Net, Memory>
+    ensures made { IfOk result (λ net. net_view net ≡ net_from (decls_view decls.now) (map place_view parts.places.items) (map transition_view parts.transitions.items)) }
 {
     let Parts {
         places,
         transitions,
     } = parts;
-    let declared = decls.into_parts(alloc)?;
+    let declared = decls.parts(alloc)?;
     let funs = Arc::new(alloc, declared.funs)?;
     Ok(Net {
         places,
@@ -172,10 +174,14 @@ pub fn flatten(alloc: Global, document: &Document, accepted: Accepted) -> Result
         &unfolded,
         &classes,
     )?;
-    let net = net_of(alloc, decls, parts)?;
+    let net = net_of(alloc, &decls, parts)?;
     let instances = unfolded.instances.as_slice();
     let initial = initial_of(alloc, &net, modules.as_slice(), instances, &classes)?;
-    Ok(Loaded { net, initial })
+    Ok(Loaded {
+        net,
+        initial,
+        decls,
+    })
 }
 
 /// The law that what is accepted of a document means at most one thing. A call does nothing: it is there for what it ensures.

@@ -20,6 +20,7 @@ use cpn_declared::{Decls, Meaning, TypeError, Tys, number_of};
 use cpn_forms::{Local, Place, Typed, is_local};
 use cpn_trees::{Ast, Parameter};
 use std::alloc::Global;
+use std::sync::Arc;
 
 /// The parameters as locals, from left to right, each of which has another name than those before it.
 fn scope_of<'t>(
@@ -74,11 +75,9 @@ fn add_call(
         parameters: types,
         result: ty,
     };
+    let body = Arc::new(alloc, expr)?;
     decls.add_name(alloc, name, meaning)?;
-    decls.add_function(Function {
-        parameters,
-        body: expr,
-    })?;
+    decls.add_function(Function { parameters, body })?;
     Ok(())
 }
 

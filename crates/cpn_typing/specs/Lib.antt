@@ -18,3 +18,4 @@ pub mod AcceptedTransitions
 pub mod Answers
 pub mod Bindings
 pub mod Sides
+pub mod DeclaresFor

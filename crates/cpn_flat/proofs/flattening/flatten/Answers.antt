@@ -116,7 +116,7 @@ pub returns-clause-reads : goal.returns-clause-reads
 returns-clause-reads c =
     let parts = (let made : AreItsParts (document_view c.args.document.now) (hierarchy_view c.args.accepted.hierarchy) (map module_net_view c.args.accepted.modules.items) (instances_view c.in_ok-unfolded.unfolded.instances.items) c.in_ok-classes.classes (map place_view c.in_ok-parts.parts.places.items) (map transition_view c.in_ok-parts.parts.transitions.items) = subst (λ ms. AreItsParts (document_view c.args.document.now) (hierarchy_view c.args.accepted.hierarchy) (map module_net_view ms) (instances_view c.in_ok-unfolded.unfolded.instances.items) c.in_ok-classes.classes (map place_view c.in_ok-parts.parts.places.items) (map transition_view c.in_ok-parts.parts.transitions.items)) c.as_slice.ensures.value c.in_ok-parts.ensures.made in made) in
     let is = net_is (document_view c.args.document.now) (accepted_view c.args.accepted) (instances_view c.in_ok-unfolded.unfolded.instances.items) c.in_ok-classes.classes (net_view c.in_ok-net.net) (map place_view c.in_ok-parts.parts.places.items) (map transition_view c.in_ok-parts.parts.transitions.items) c.in_ok-net.ensures.made parts in
-    subst (λ n. flat_in (document_view c.args.document.now) (accepted_view c.args.accepted) (read (record { net = n; initial = c.in_ok-initial.initial }))) (sym is)
+    subst (λ n. flat_in (document_view c.args.document.now) (accepted_view c.args.accepted) (read (record { net = n; initial = c.in_ok-initial.initial; declared = (accepted_view c.args.accepted).declared }))) (sym is)
     (is_flat (document_view c.args.document.now) (accepted_view c.args.accepted) (instances_view c.in_ok-unfolded.unfolded.instances.items) c.in_ok-unfolded.ensures.unfolded.unfolded parts.names parts.are_names c.in_ok-classes.classes c.in_ok-classes.ensures.compound c.in_ok-initial.initial
     (subst (λ n. started n (all_written (map module_net_view c.args.accepted.modules.items) (instances_view c.in_ok-unfolded.unfolded.instances.items) c.in_ok-classes.classes) (read c.in_ok-initial.initial)) is
     (subst (λ ms. started (net_view c.in_ok-net.net) (all_written (map module_net_view ms) (instances_view c.in_ok-unfolded.unfolded.instances.items) c.in_ok-classes.classes) (read c.in_ok-initial.initial)) c.as_slice-2.ensures.value
@@ -129,7 +129,7 @@ pub returns-clause-well_loaded : goal.returns-clause-well_loaded
 returns-clause-well_loaded c =
     let parts = (let made : AreItsParts (document_view c.args.document.now) (hierarchy_view c.args.accepted.hierarchy) (map module_net_view c.args.accepted.modules.items) (instances_view c.in_ok-unfolded.unfolded.instances.items) c.in_ok-classes.classes (map place_view c.in_ok-parts.parts.places.items) (map transition_view c.in_ok-parts.parts.transitions.items) = subst (λ ms. AreItsParts (document_view c.args.document.now) (hierarchy_view c.args.accepted.hierarchy) (map module_net_view ms) (instances_view c.in_ok-unfolded.unfolded.instances.items) c.in_ok-classes.classes (map place_view c.in_ok-parts.parts.places.items) (map transition_view c.in_ok-parts.parts.transitions.items)) c.as_slice.ensures.value c.in_ok-parts.ensures.made in made) in
     let is = net_is (document_view c.args.document.now) (accepted_view c.args.accepted) (instances_view c.in_ok-unfolded.unfolded.instances.items) c.in_ok-classes.classes (net_view c.in_ok-net.net) (map place_view c.in_ok-parts.parts.places.items) (map transition_view c.in_ok-parts.parts.transitions.items) c.in_ok-net.ensures.made parts in
-    subst (λ n. IsWellLoaded (record { net = n; initial = c.in_ok-initial.initial })) (sym is)
+    subst (λ n. IsWellLoaded (record { net = n; initial = c.in_ok-initial.initial; declared = (accepted_view c.args.accepted).declared })) (sym is)
     (flat_well (accepted_view c.args.accepted) c.requires.well (instances_view c.in_ok-unfolded.unfolded.instances.items) c.in_ok-unfolded.ensures.unfolded.unfolded c.in_ok-classes.classes c.in_ok-classes.ensures.compound parts.names c.requires.few_variables c.in_ok-initial.initial
     (subst (λ n. started n (all_written (map module_net_view c.args.accepted.modules.items) (instances_view c.in_ok-unfolded.unfolded.instances.items) c.in_ok-classes.classes) (read c.in_ok-initial.initial)) is
     (subst (λ ms. started (net_view c.in_ok-net.net) (all_written (map module_net_view ms) (instances_view c.in_ok-unfolded.unfolded.instances.items) c.in_ok-classes.classes) (read c.in_ok-initial.initial)) c.as_slice-2.ensures.value

@@ -23,7 +23,7 @@ returns-then-len-called c =
 pub returns : goal.returns
 returns c =
     let count : c.len.result ≡ length c.args.arguments.items = search rules in
-    enter_goes c.args.world.now c.args.self.now (record c.args.self.now { visible = c.args.function; locals = c.replace-locals.new.dest; frames = c.push.new.self }) c.args.function c.args.arguments.items c.args.self.now.locals.items (frames.Caller c.args.self.now.visible c.replace-locals.result) (expr_view c.in-Some.called.now.body)
+    enter_goes c.args.world.now c.args.self.now (record c.args.self.now { visible = c.args.function; locals = c.replace-locals.new.dest; frames = c.push.new.self }) c.args.function c.args.arguments.items c.args.self.now.locals.items (frames.Caller c.args.self.now.visible c.replace-locals.result) (expr_view c.in-Some.called.now.body.value)
     refl
     (ap (λ v. v.items) c.replace-locals.ensures.after)
     c.in_ok-push-in-Some.ensures.items

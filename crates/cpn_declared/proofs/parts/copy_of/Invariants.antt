@@ -1,0 +1,6 @@
+-- The copies so far are of those so far.
+use Rattle.std.proofs.Common.{◌≡◌, map, take, string_bytes}
+use Rattle.cpn_declared.proofs.parts.copy_of.Given as goal
+
+abbrev pub invariant-loop-name : goal.invariant-loop-name
+invariant-loop-name l = map string_bytes l.copies.items ≡ map string_bytes (take l.name-index l.names)
