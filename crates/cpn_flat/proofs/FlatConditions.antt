@@ -18,13 +18,13 @@ use Rattle.cpn_module_nets.specs.Nets.{PlainAccepted, IsWellAccepted, net_from}
 use Rattle.cpn_readings.specs.Relations.{HasOne}
 use Rattle.cpn_flat.specs.Flat.{all_written, flat_in}
 use Rattle.cpn_flat.specs.FlatNet.{all_places, flat_net}
-use Rattle.cpn_flat.specs.InitialMarking.{all_initials, started}
+use Rattle.cpn_flat.specs.InitialMarking.{all_initials, AreAllMeant, started}
 use Rattle.cpn_flat.specs.Items.{HaveItems}
 use Rattle.cpn_flat.specs.Parts.{AreItsParts}
 use Rattle.cpn_flat.specs.Names.{IsNamedIn}
 use Rattle.cpn_flat.specs.Placed.{StandBehind, AreOfModules, ArePlaced}
 use Rattle.cpn_flat.specs.Refusals.{read}
-use Rattle.cpn_flat.specs.Values.{AreAllMeant, AreOfColour, HaveColours}
+use Rattle.cpn_flat.specs.Values.{AreOfColour, HaveColours}
 use Rattle.cpn_flat.specs.WellLoaded.{IsWellLoaded}
 use Rattle.cpn_flat.proofs.FlatMeanings.{all_meant, length-written, written_here}
 use Rattle.cpn_flat.proofs.InstanceNames.{instances_named}

@@ -17,10 +17,9 @@ use Rattle.cpn_readings.proofs.RelatedReadings.{then_read, then_refused, refused
 use Rattle.cpn_flat.specs.Refusals.{FlatRefusal, read, refused}
 use Rattle.cpn_flat.specs.Names.{AreNames}
 use Rattle.cpn_flat.specs.FlatNet.{compound_places, all_transitions, flat_net}
-use Rattle.cpn_flat.specs.InitialMarking.{written_of, started}
+use Rattle.cpn_flat.specs.InitialMarking.{written_of, AreMeant, AreAllMeant, started}
 use Rattle.cpn_flat.specs.Flat.{IsUnfoldedAs, unfolded, not_unfolded, too_many, written_from, all_written, flat_in}
 use Rattle.cpn_flat.specs.Parts.{AreItsParts}
-use Rattle.cpn_flat.specs.Values.{AreMeant, AreAllMeant}
 
 -- ---- the lists of what is written
 

@@ -18,13 +18,13 @@ use Rattle.cpn_fuse.proofs.InstanceTrees.{instances_come}
 use Rattle.cpn_module.specs.Hierarchy.{PlainSubstitution, PlainHierarchy, structure_at}
 use Rattle.cpn_module_nets.specs.Nets.{Initial, PlainAccepted}
 use Rattle.cpn_readings.specs.Reading as readings
-use Rattle.cpn_readings.specs.Relations.{just, such_that, After, ◌>>=◌, HasOne}
+use Rattle.cpn_readings.specs.Relations.{such_that, After, ◌>>=◌, HasOne}
 use Rattle.cpn_readings.proofs.RelatedReadings.{IsOne, just_one, such_one, then_one_at, then_one, each_so_one}
 use Rattle.cpn_flat.specs.Refusals.{FlatRefusal, Reading, read, refused, each_from}
 use Rattle.cpn_flat.specs.Names.{joined_name, sub_name_at, name_at, name_where, AreNames}
 use Rattle.cpn_flat.specs.Placed.{IsBehind, StandBehind}
 use Rattle.cpn_flat.specs.FlatNet.{flat_net}
-use Rattle.cpn_flat.specs.InitialMarking.{tokens_of, values_of, IsShared, none_written, all_same, one_differs, started}
+use Rattle.cpn_flat.specs.InitialMarking.{tokens_of, values_of, IsShared, none_written, all_same, one_differs, evaluated, started}
 use Rattle.cpn_flat.specs.Flat.{IsUnfoldedAs, unfolded, not_unfolded, too_many, all_written, flat_in}
 
 -- ---- instances
@@ -89,7 +89,7 @@ shared_one place (v ∷ vs) x y (one_differs v' vs' other is_in differs) (one_di
 
 started_one : (n : PlainNet) (written : List (List Initial)) → HasOne (started n written)
 unfolding started
-started_one n written = then_one (just (each_from (values_of n) 0 written)) _ (just_one (each_from (values_of n) 0 written)) (λ values. each_so_one (λ c value. IsShared (place_at n c) value) (λ c value. shared_one (place_at n c) value) 0 values)
+started_one n written = then_one (evaluated n written) _ (λ r s h k. just_one (each_from (values_of n) 0 written) r s h.1 k.1) (λ values. each_so_one (λ c value. IsShared (place_at n c) value) (λ c value. shared_one (place_at n c) value) 0 values)
 
 -- ---- the whole
 

@@ -1,8 +1,9 @@
 -- The initial marking: its two steps, and how many values there are, with how many tokens.
 use Rattle.std.proofs.Common.{◌≡◌, ℕ, suc, ◌≤◌, List, [], ◌∷◌, length, map, refl, sym, ap, ◌∙◌, subst, arith}
-use Rattle.std.specs.Prelude.{Option}
+use Rattle.std.specs.Prelude.{Option, Some, None}
 use Rattle.std.proofs.lemmas.List.{length-map}
-use Rattle.cpn_definitions.specs.Inscription.{Functions}
+use Rattle.cpn_definitions.specs.Colour.{PlainColour}
+use Rattle.cpn_definitions.specs.Inscription.{Functions, variable, one}
 use Rattle.cpn_definitions.specs.Marking.{Marking}
 use Rattle.cpn_definitions.specs.Net.{Coloured, PlainNet, place_at}
 use Rattle.cpn_definitions.specs.Outcome.{Outcome, gives, faults, no_meaning}
@@ -13,29 +14,43 @@ use Rattle.cpn_readings.specs.Reading.{Refuses}
 use Rattle.cpn_readings.specs.Relations.{just, each_so, RefusesBy}
 use Rattle.cpn_readings.proofs.Readings.{same_read, steps, each_all}
 use Rattle.cpn_readings.proofs.RelatedReadings.{then_read, refused_first, refused_next, just_refused}
-use Rattle.cpn_flat.specs.Refusals.{FlatRefusal, read, each_from}
-use Rattle.cpn_flat.specs.InitialMarking.{terms_at, value_of, values_of, started}
+use Rattle.cpn_flat.specs.Refusals.{FlatRefusal, Reading, read, each_from}
+use Rattle.cpn_flat.specs.InitialMarking.{terms_at, value_of, values_of, AreAllMeant, evaluated, started}
 use Rattle.cpn_flat.specs.Values.{AreFew, AreAllFew}
 use Rattle.cpn_flat.proofs.SharedMarkings.{Shares}
 
 -- ---- the steps
 
-module _ (n : PlainNet) (written : List (List Initial)) where
+module _ (n : PlainNet) (written : List (List Initial)) (meant : AreAllMeant n.functions written) where
   -- an initial marking has a fault
   pub started_refused : (o : Option FlatRefusal) → Refuses o (each_from (values_of n) 0 written) → RefusesBy (started n written) o
   unfolding started
-  started_refused o h = refused_first (just (each_from (values_of n) 0 written)) _ o (just_refused (each_from (values_of n) 0 written) o h)
+  started_refused o h = refused_first (evaluated n written) _ o (refused_so o (just_refused (each_from (values_of n) 0 written) o h))
+    where
+      refused_so : (o : Option FlatRefusal) → RefusesBy (just (each_from (values_of n) 0 written)) o → RefusesBy (evaluated n written) o
+      refused_so None h = tt
+      refused_so (Some refusal) h = (meant, h)
 
   module _ (values : List (List (List PlainTerm))) (are : each_from (values_of n) 0 written ≡ read values) where
     -- the members of each compound place share their tokens
     pub started_read : (m : Marking) → each_so (Shares n) 0 values (read m) → started n written (read m)
     unfolding started
-    started_read m h = then_read (just (each_from (values_of n) 0 written)) _ values (read m) (sym are) h
+    started_read m h = then_read (evaluated n written) _ values (read m) (meant, sym are) h
 
     -- those of one compound place do not
     pub started_apart : (o : Option FlatRefusal) → RefusesBy (each_so (Shares n) 0 values) o → RefusesBy (started n written) o
     unfolding started
-    started_apart o h = refused_next (just (each_from (values_of n) 0 written)) _ values o (sym are) h
+    started_apart o h = refused_next (evaluated n written) _ values o (meant, sym are) h
+
+-- ---- where one of them has no meaning, there is no reading
+
+not_meant : (n : PlainNet) (written : List (List Initial)) (r : Reading Marking) → (AreAllMeant n.functions written → ⊥) → started n written r → ⊥
+unfolding started
+not_meant n written r none h = none h.1.0
+
+-- as of an initial marking that is a variable
+a_variable_alone : (n : PlainNet) (colour : PlainColour) (r : Reading Marking) → started n ((record { expr = one (variable 0); colour = colour } ∷ []) ∷ []) r → ⊥
+a_variable_alone n colour r = not_meant n ((record { expr = one (variable 0); colour = colour } ∷ []) ∷ []) r (λ meant. meant.0.0 refl)
 
 -- ---- the values
 

@@ -26,12 +26,11 @@ use Rattle.cpn_definitions.proofs.Terms.{AreTermsOf, terms_are}
 use Rattle.cpn_definitions.proofs.TokenCounts.{tokens_are_few}
 use Rattle.cpn_module_nets.specs.Nets.{Initial, IsOfColour}
 use Rattle.cpn_readings.specs.Reading.{each}
-use Rattle.cpn_readings.specs.Relations.{just}
 use Rattle.cpn_readings.proofs.Readings.{same_read, steps}
 use Rattle.cpn_readings.proofs.RelatedReadings.{step_parts}
 use Rattle.cpn_readings.proofs.RelatedLists.{AreRead, each_read}
 use Rattle.cpn_flat.specs.Refusals.{Reading, read, each_from}
-use Rattle.cpn_flat.specs.InitialMarking.{token_of, tokens_of, terms_at, value_of, values_of, IsShared, none_written, all_same, one_differs, started}
+use Rattle.cpn_flat.specs.InitialMarking.{token_of, tokens_of, terms_at, value_of, values_of, IsShared, none_written, all_same, one_differs, evaluated, started}
 use Rattle.cpn_flat.specs.Values.{AreOfColour, HaveColours}
 use Rattle.cpn_flat.proofs.SharedMarkings.{Shares}
 use Rattle.cpn_flat.proofs.StartedMarkings.{as_many_values}
@@ -197,8 +196,8 @@ marking_from n i [] (values ∷ lists) (tokens ∷ m) there long starts are = ab
 pub started_well : (n : PlainNet) (written : List (List Initial)) (m : Marking) → length written ≡ length n.places → HaveColours n written → started n written (read m) → IsStartOf n.places m
 unfolding started
 started_well n written m long have h =
-    let first = step_parts (just (each_from (values_of n) 0 written)) _ m h in
-    let values_are = sym first.1 in
+    let first = step_parts (evaluated n written) _ m h in
+    let values_are = sym first.1.1 in
     marking_from n 0 n.places first.0 m (λ k. ap (place_at n) (from_zero k)) (as_many_values n written first.0 values_are ∙ long)
     (lists_start n 0 written first.0 (λ c lt. subst (λ k. AreOfColour (place_at n k).colour (slice_index_or written c [])) (from_zero c) (have c lt)) values_are)
     (each_read (Shares n) 0 first.0 m first.2)

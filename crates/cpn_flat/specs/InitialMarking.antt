@@ -2,7 +2,7 @@
 -- have the same value, which counts once. A member without one takes that of the others, and where none is written there is no
 -- token. Source: own choice; initial markings are those of Jensen and Kristensen, chapter 4.
 use Rattle.std.specs.Prelude.{◌≡◌, ℕ, ◌==◌, Bool, if◌then◌else◌, List, [], ◌∷◌, ◌++◌, replicate, map, Option, Some, None, Contains, All}
-use Rattle.std.specs.List.{flat_map, enumerate_from}
+use Rattle.std.specs.List.{flat_map, enumerate_from, AllByRecursion}
 use Rattle.cpn_definitions.specs.Inscription.{Functions}
 use Rattle.cpn_definitions.specs.Lists.{in_order}
 use Rattle.cpn_definitions.specs.Marking.{PlainToken, Tokens, Marking, token_at, token_cmp}
@@ -11,7 +11,7 @@ use Rattle.cpn_definitions.specs.Outcome.{Outcome, gives, faults, no_meaning}
 use Rattle.cpn_definitions.specs.Terms.{PlainTerm, terms_of}
 use Rattle.cpn_classes.specs.Numbering.{Numbering}
 use Rattle.cpn_fuse.specs.Instances.{PlainInstance}
-use Rattle.cpn_module_nets.specs.Nets.{Initial, PlainModuleNet}
+use Rattle.cpn_module_nets.specs.Nets.{Initial, IsMeant, PlainModuleNet}
 use Rattle.cpn_readings.specs.Reading.{each}
 use Rattle.cpn_readings.specs.Relations.{just, ◌>>=◌, each_so}
 use Rattle.cpn_flat.specs.Refusals.{FlatRefusal, init, initial_differs, Reading, read, refused, each_from}
@@ -52,7 +52,7 @@ token_of timed term = token_at term.value (if timed then term.delay else 0)
 abbrev pub tokens_of : Bool → List PlainTerm → Tokens
 tokens_of timed terms = in_order token_cmp (flat_map (λ term. replicate term.count (token_of timed term)) terms)
 
--- The terms of an initial marking at a place, or its fault. One that is accepted has a meaning.
+-- The terms of an initial marking at a place, or its fault. Nothing asks for those of one without a meaning: it has no reading.
 abbrev pub terms_at : Coloured → Outcome (List PlainTerm) → Reading (List PlainTerm)
 terms_at place (gives terms) = read terms
 terms_at place (faults fault) = refused (init place.name fault)
@@ -66,6 +66,19 @@ value_of funs place initial = terms_at place (terms_of funs initial.expr initial
 abbrev pub values_of : PlainNet → ℕ → List Initial → Reading (List (List PlainTerm))
 values_of n c initials = each (value_of n.functions (place_at n c)) initials
 
+-- each of the written initial markings has a meaning
+abbrev pub AreMeant : Functions → List Initial → Type 0
+AreMeant funs initials = AllByRecursion (λ initial. IsMeant funs (Some initial)) initials
+
+-- the same of those of each compound place
+abbrev pub AreAllMeant : Functions → List (List Initial) → Type 0
+AreAllMeant funs lists = AllByRecursion (AreMeant funs) lists
+
+-- What all of them are evaluated to, or the first fault. Where one of them has no meaning there is no reading; each that is accepted
+-- has one.
+abbrev pub evaluated : PlainNet → List (List Initial) → Reading (List (List (List PlainTerm))) → Type 0
+evaluated n written reading = AreAllMeant n.functions written × just (each_from (values_of n) 0 written) reading
+
 -- What members share: those that have something written have the same tokens, which count once.
 pub data IsShared (place : Coloured) : List (List PlainTerm) → Reading Tokens → Type 0 where
   none_written : IsShared place [] (read [])
@@ -76,5 +89,5 @@ pub data IsShared (place : Coloured) : List (List PlainTerm) → Reading Tokens 
 -- given the written initial markings of the members of each compound place.
 unfoldable pub started : PlainNet → List (List Initial) → Reading Marking → Type 0
 started n written = do
-  values ← just (each_from (values_of n) 0 written)
+  values ← evaluated n written
   each_so (λ c value. IsShared (place_at n c) value) 0 values

@@ -3,14 +3,13 @@ use Rattle.std.specs.Prelude.{ℕ, ◌<◌, ◌≤◌, Bool, List, [], length, s
 use Rattle.std.specs.List.{flat_map, AllByRecursion}
 use Rattle.std.specs.declared.alloc.Global.{Global}
 use Rattle.cpn_definitions.specs.Colour.{PlainColour}
-use Rattle.cpn_definitions.specs.Inscription.{Functions}
 use Rattle.cpn_definitions.specs.Lists.{with_items}
 use Rattle.cpn_definitions.specs.Marking.{Tokens, token_cmp}
 use Rattle.cpn_definitions.specs.Net.{PlainNet, place_at}
 use Rattle.cpn_definitions.specs.Terms.{PlainTerm, most_tokens, tokens_in}
 use Rattle.cpn_eval.specs.declared.term.Term.{Term}
 use Rattle.cpn_eval.specs.Terms.{items_view}
-use Rattle.cpn_module_nets.specs.Nets.{Initial, IsMeant, IsOfColour}
+use Rattle.cpn_module_nets.specs.Nets.{Initial, IsOfColour}
 use Rattle.cpn_flat.specs.InitialMarking.{token_of}
 
 -- ---- views
@@ -22,14 +21,6 @@ abbrev pub value_lists_view : List (Vec (Vec Term Global) Global) → List (List
 value_lists_view lists = map (λ list. values_view list.items) lists
 
 -- ---- what is asked
-
--- each of the written initial markings has a meaning
-abbrev pub AreMeant : Functions → List Initial → Type 0
-AreMeant funs initials = AllByRecursion (λ initial. IsMeant funs (Some initial)) initials
-
--- the same of those of each compound place
-abbrev pub AreAllMeant : Functions → List (List Initial) → Type 0
-AreAllMeant funs lists = AllByRecursion (AreMeant funs) lists
 
 -- each of them is for the colour set
 abbrev pub AreOfColour : PlainColour → List Initial → Type 0

@@ -2,9 +2,8 @@
 
 ghost use Rattle.std.specs.Prelude.{◌≡◌, ◌<◌, ◌^◌, length};
 ghost use Rattle.cpn_core.specs.Nets.{net_view};
-ghost use Rattle.cpn_flat.specs.InitialMarking.{started};
+ghost use Rattle.cpn_flat.specs.InitialMarking.{AreAllMeant, started};
 ghost use Rattle.cpn_flat.specs.WrittenViews.{lists_view};
-ghost use Rattle.cpn_flat.specs.Values.{AreAllMeant};
 ghost use Rattle.cpn_flat.specs.Answers.{GivesBy};
 
 use crate::refusals::FlatError;

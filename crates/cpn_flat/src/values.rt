@@ -10,9 +10,9 @@ ghost use Rattle.cpn_readings.specs.Reading.{Refuses, each};
 ghost use Rattle.cpn_module_nets.specs.Nets.{IsMeant};
 ghost use Rattle.cpn_module_nets.specs.Views.{initial_view};
 ghost use Rattle.cpn_flat.specs.Refusals.{each_from};
-ghost use Rattle.cpn_flat.specs.InitialMarking.{terms_at, value_of as valued, values_of as values_at_number};
+ghost use Rattle.cpn_flat.specs.InitialMarking.{terms_at, value_of as valued, values_of as values_at_number, AreMeant, AreAllMeant};
 ghost use Rattle.cpn_flat.specs.WrittenViews.{written_view, lists_view};
-ghost use Rattle.cpn_flat.specs.Values.{values_view, value_lists_view, AreMeant, AreAllMeant};
+ghost use Rattle.cpn_flat.specs.Values.{values_view, value_lists_view};
 ghost use Rattle.cpn_flat.specs.Answers.{refusal_of, Gives};
 
 use crate::refusals::FlatError;

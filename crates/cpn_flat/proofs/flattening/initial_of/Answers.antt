@@ -6,8 +6,7 @@ use Rattle.cpn_fuse.specs.Views.{instances_view}
 use Rattle.cpn_module_nets.specs.Views.{module_net_view}
 use Rattle.cpn_flat.specs.Answers.{GivesBy}
 use Rattle.cpn_flat.specs.Flat.{all_written}
-use Rattle.cpn_flat.specs.InitialMarking.{written_in, started}
-use Rattle.cpn_flat.specs.Values.{AreAllMeant}
+use Rattle.cpn_flat.specs.InitialMarking.{written_in, AreAllMeant, started}
 use Rattle.cpn_flat.specs.WrittenViews.{written_view, optional_view, lists_view}
 use Rattle.cpn_flat.proofs.FlatMeanings.{lists_are}
 use Rattle.cpn_flat.proofs.flattening.initial_of.Goals as goal

@@ -12,7 +12,8 @@ use Rattle.cpn_module_nets.specs.Nets.{Initial}
 use Rattle.cpn_readings.proofs.NumberedLists.{numbered_more, numbered_refused, numbered_done}
 use Rattle.cpn_flat.specs.InitialMarking.{values_of}
 use Rattle.cpn_flat.specs.WrittenViews.{written_view}
-use Rattle.cpn_flat.specs.Values.{values_view, value_lists_view, AreMeant}
+use Rattle.cpn_flat.specs.InitialMarking.{AreMeant}
+use Rattle.cpn_flat.specs.Values.{values_view, value_lists_view}
 use Rattle.cpn_flat.specs.Answers.{refusal_of}
 use Rattle.cpn_flat.proofs.AllItems.{all_item}
 use Rattle.cpn_flat.proofs.values.all_values.Goals as goal
