@@ -57,9 +57,10 @@ parts_older n i (sub ∷ subs) = (let e : n < suc n = omega arith in e, parts_ol
 
 later_parts : (n m k i : ℕ) (subs : List PlainSubstitution) → k < i → AllByRecursion (IsApart (record { of_module = m; part_of = Some (record { instance = n; substitution = k }) })) (parts_from n i subs)
 later_parts n m k i [] lt = tt
-later_parts n m k i (sub ∷ subs) lt =
-    ((λ e. let same = ap (λ (x : PlainPart). x.substitution) (same_Some (record { instance = n; substitution = k }) (record { instance = n; substitution = i }) e) in absurd (omega (arith, same))),
-    later_parts n m k (suc i) subs (omega arith))
+later_parts n m k i (sub ∷ subs) lt = (
+  (λ e. let same = ap (λ (x : PlainPart). x.substitution) (same_Some (record { instance = n; substitution = k }) (record { instance = n; substitution = i }) e) in absurd (omega (arith, same))),
+  later_parts n m k (suc i) subs (omega arith),
+)
 
 parts_apart : (n i : ℕ) (subs : List PlainSubstitution) → AreApart (parts_from n i subs)
 parts_apart n i [] = tt
@@ -69,24 +70,27 @@ module _ (h : PlainHierarchy) where
   -- what holds of those that wait, and of each that stands in a later instance, holds of those that come
   come_hold : (Q : PlainInstance → Type 0) (n : ℕ) (waiting come later : List PlainInstance) → ComeFirst h n waiting come later → ((y : PlainInstance) → IsNewer n y.part_of → Q y) → AllByRecursion Q waiting → AllByRecursion Q come
   come_hold Q n waiting come later (none_yet _ _) newer all = tt
-  come_hold Q n waiting come later (one_first _ x rest others _ comes) newer all =
-      (all.0, come_hold Q (suc n) (parts_of h n x ++ rest) others later comes (λ y is. newer y (newer_before n y.part_of is))
-      (each_appended Q (parts_of h n x) rest (each_also (λ y. IsNewer n y.part_of) Q newer (parts_of h n x) (parts_newer n 0 (structure_at h x.of_module).substitutions)) all.1))
+  come_hold Q n waiting come later (one_first _ x rest others _ comes) newer all = (
+    all.0,
+    come_hold Q (suc n) (parts_of h n x ++ rest) others later comes (λ y is. newer y (newer_before n y.part_of is))
+        (each_appended Q (parts_of h n x) rest (each_also (λ y. IsNewer n y.part_of) Q newer (parts_of h n x) (parts_newer n 0 (structure_at h x.of_module).substitutions)) all.1),
+  )
 
   -- where those that wait stand at two places, and in earlier instances, those that come stand at two places
   come_apart : (n : ℕ) (waiting come later : List PlainInstance) → ComeFirst h n waiting come later → AreApart waiting → AllByRecursion (λ y. IsOlder n y.part_of) waiting → AreApart come
   come_apart n waiting come later (none_yet _ _) apart older = tt
   come_apart n waiting come later (one_first _ x rest others _ comes) apart older =
       let parts : List PlainInstance = parts_of h n x in
-      let newer_parts : AllByRecursion (λ y. IsNewer n y.part_of) (parts_of h n x) = parts_newer n 0 (structure_at h x.of_module).substitutions in
-      (come_hold (IsApart x) (suc n) (parts ++ rest) others later comes (λ y newer e. older_or_newer (suc n) x.part_of y.part_of (still_older n x.part_of older.0) newer e)
-      (each_appended (IsApart x) parts rest (each_also (λ y. IsNewer n y.part_of) (IsApart x) (λ y newer e. older_or_newer n x.part_of y.part_of older.0 newer e) parts newer_parts) apart.0),
-      come_apart (suc n) (parts ++ rest) others later comes
-      (apart_behind parts rest (parts_apart n 0 (structure_at h x.of_module).substitutions) apart.1
-      (each_also (λ z. IsNewer n z.part_of) (λ z. AllByRecursion (IsApart z) rest)
-      (λ z newer. each_also (λ y. IsOlder n y.part_of) (IsApart z) (λ y is e. older_or_newer n y.part_of z.part_of is newer (sym e)) rest older.1) parts newer_parts))
-      (each_appended (λ y. IsOlder (suc n) y.part_of) parts rest (parts_older n 0 (structure_at h x.of_module).substitutions)
-      (each_also (λ y. IsOlder n y.part_of) (λ y. IsOlder (suc n) y.part_of) (λ y is. still_older n y.part_of is) rest older.1)))
+      let newer_parts : AllByRecursion (λ y. IsNewer n y.part_of) (parts_of h n x) = parts_newer n 0 (structure_at h x.of_module).substitutions in (
+        come_hold (IsApart x) (suc n) (parts ++ rest) others later comes (λ y newer e. older_or_newer (suc n) x.part_of y.part_of (still_older n x.part_of older.0) newer e)
+            (each_appended (IsApart x) parts rest (each_also (λ y. IsNewer n y.part_of) (IsApart x) (λ y newer e. older_or_newer n x.part_of y.part_of older.0 newer e) parts newer_parts) apart.0),
+        come_apart (suc n) (parts ++ rest) others later comes
+            (apart_behind parts rest (parts_apart n 0 (structure_at h x.of_module).substitutions) apart.1
+            (each_also (λ z. IsNewer n z.part_of) (λ z. AllByRecursion (IsApart z) rest)
+            (λ z newer. each_also (λ y. IsOlder n y.part_of) (IsApart z) (λ y is e. older_or_newer n y.part_of z.part_of is newer (sym e)) rest older.1) parts newer_parts))
+            (each_appended (λ y. IsOlder (suc n) y.part_of) parts rest (parts_older n 0 (structure_at h x.of_module).substitutions)
+            (each_also (λ y. IsOlder n y.part_of) (λ y. IsOlder (suc n) y.part_of) (λ y is. still_older n y.part_of is) rest older.1)),
+      )
 
 -- ---- by their numbers
 

@@ -66,7 +66,7 @@ module _ (names : List (List ℕ)) (own : PlainInstance → List (List ℕ)) whe
             → k ≡ sum (take i (map (λ x. length (own x)) is)) + p → l ≡ sum (take j (map (λ x. length (own x)) is)) + q → k ≡ l
         one_number i p j q in_i in_p in_j in_q k_is l_is =
             let joined : joined_name (name_at names i) (slice_index_or (own (instance_at is i)) p []) ≡ joined_name (name_at names j) (slice_index_or (own (instance_at is j)) q [])
-                = sym (name_of_number is i p in_i in_p) ∙ ap (λ (m : ℕ). slice_index_or (each_instance names_at 0 is) m []) (sym k_is) ∙ same ∙ ap (λ (m : ℕ). slice_index_or (each_instance names_at 0 is) m []) l_is ∙ name_of_number is j q in_j in_q in
+            = sym (name_of_number is i p in_i in_p) ∙ ap (λ (m : ℕ). slice_index_or (each_instance names_at 0 is) m []) (sym k_is) ∙ same ∙ ap (λ (m : ℕ). slice_index_or (each_instance names_at 0 is) m []) l_is ∙ name_of_number is j q in_j in_q in
             let parts = joined_once (name_at names i) (name_at names j) (slice_index_or (own (instance_at is i)) p []) (slice_index_or (own (instance_at is j)) q []) (plain_at i p in_i in_p) (plain_at j q in_j in_q) joined in
             let instances : i ≡ j = told i j in_i in_j parts.0 in
             let here : q < length (own (instance_at is i)) = subst (λ (m : ℕ). q < length (own (instance_at is m))) (sym instances) in_q in

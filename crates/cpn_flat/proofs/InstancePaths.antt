@@ -100,14 +100,14 @@ module _ (d : RawDocument) (well : AreWellNamed d) where
         let in_p : p.instance < length is = omega (arith, before_i) in
         let in_q : q.instance < length is = omega (arith, before_j) in
         let parts = joined_once (name_at names p.instance) (name_at names q.instance) (sub_name_at d (instance_at is p.instance).of_module p.substitution) (sub_name_at d (instance_at is q.instance).of_module q.substitution)
-            (sub_plain p.instance p.substitution in_p placed_i.substitution) (sub_plain q.instance q.substitution in_q placed_j.substitution) same in
+        (sub_plain p.instance p.substitution in_p placed_i.substitution) (sub_plain q.instance q.substitution in_q placed_j.substitution) same in
         let instances : p.instance ≡ q.instance = tells p.instance q.instance (omega (arith, before_i)) in_p in_q parts.0 in
         let in_sub : q.substitution < length (structure_at h (instance_at is p.instance).of_module).substitutions = subst (λ (k : ℕ). q.substitution < length (structure_at h (instance_at is k).of_module).substitutions) (sym instances) placed_j.substitution in
         let names_same : sub_name_at d (instance_at is p.instance).of_module p.substitution ≡ sub_name_at d (instance_at is p.instance).of_module q.substitution
-            = parts.1 ∙ ap (λ (k : ℕ). sub_name_at d (instance_at is k).of_module q.substitution) (sym instances) in
+        = parts.1 ∙ ap (λ (k : ℕ). sub_name_at d (instance_at is k).of_module q.substitution) (sym instances) in
         let subs : p.substitution ≡ q.substitution = positions_from_distinct (subs_of p.instance) (module_named (instance_at is p.instance).of_module (in_document p.instance in_p)).subs.distinct p.substitution q.substitution
-            (in_subs p.instance p.substitution in_p placed_i.substitution) (in_subs p.instance q.substitution in_p in_sub)
-            (sym (sub_name p.instance p.substitution in_p placed_i.substitution) ∙ names_same ∙ sub_name p.instance q.substitution in_p in_sub) in
+        (in_subs p.instance p.substitution in_p placed_i.substitution) (in_subs p.instance q.substitution in_p in_sub)
+        (sym (sub_name p.instance p.substitution in_p placed_i.substitution) ∙ names_same ∙ sub_name p.instance q.substitution in_p in_sub) in
         ap Some (one_record p q instances subs)
 
     module _ (instances : AreInstances h is) where

@@ -127,9 +127,10 @@ known_behind n (x ∷ names) more h = ap (λ b. bytes_eq n x.name || b) (known_b
 
 in_itself : (ns : List Name) → AllByRecursion (λ n. list_any (bytes_eq n) ns ≡ true) ns
 in_itself [] = tt
-in_itself (x ∷ ns) =
-    (ap (λ b. b || list_any (bytes_eq x) ns) (bytes_of_itself x),
-    each_also (λ n. list_any (bytes_eq n) ns ≡ true) (λ n. list_any (bytes_eq n) (x ∷ ns) ≡ true) (λ n h. ap (λ b. bytes_eq n x || b) h ∙ or-true (bytes_eq n x)) ns (in_itself ns))
+in_itself (x ∷ ns) = (
+  ap (λ b. b || list_any (bytes_eq x) ns) (bytes_of_itself x),
+  each_also (λ n. list_any (bytes_eq n) ns ≡ true) (λ n. list_any (bytes_eq n) (x ∷ ns) ≡ true) (λ n h. ap (λ b. bytes_eq n x || b) h ∙ or-true (bytes_eq n x)) ns (in_itself ns),
+)
 
 their_names : (k : ℕ) (t : PlainTy) (ns : List Name) → map (λ d. d.name) (variables_from k t ns) ≡ ns
 their_names k t [] = refl
