@@ -21,5 +21,4 @@ pub mod Named
 pub mod DistinctNames
 pub mod Times
 pub mod Bounds
-pub mod DistinctNames
 pub mod Integers

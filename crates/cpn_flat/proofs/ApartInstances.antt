@@ -8,6 +8,7 @@ use Rattle.std.proofs.lemmas.Option.{same_Some}
 use Rattle.cpn_definitions.proofs.DistinctLists.{each_also}
 use Rattle.cpn_definitions.proofs.RisingLists.{each_appended}
 use Rattle.cpn_module.specs.Hierarchy.{PlainSubstitution, PlainHierarchy, structure_at}
+use Rattle.cpn_fuse.proofs.InstanceTrees.{instances_come}
 use Rattle.cpn_fuse.specs.Instances.{PlainPart, PlainInstance, instance_at, parts_from, parts_of, ComeFirst, none_yet, one_first, top_of, AreInstances}
 
 -- two instances stand at two places
@@ -117,4 +118,4 @@ one_place h is are i j in_i in_j same =
     ]
   where
     all : AreApart is
-    all = come_apart h 0 (top_of h ∷ []) is [] are (tt, tt) (tt, tt)
+    all = come_apart h 0 (top_of h ∷ []) is [] (instances_come h is are) (tt, tt) (tt, tt)
