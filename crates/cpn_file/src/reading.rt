@@ -19,16 +19,16 @@ use cpn_module_nets::{accept, one_acceptance};
 use std::alloc::Global;
 
 /// What a document is read as: what is accepted of it, then its flat net.
-fn loaded_of(alloc: Global, document: &Document) -> Result<Loaded, LoadError>
-    requires few_arcs { HaveFewArcs (document_view document.now) }
-    requires well_named { AreWellNamed (document_view document.now) }
-    requires few_declarations { HasFewDeclarations (document_view document.now) }
-    ensures reads { LoadsBy loaded_view result (loaded_in (document_view document.now)) }
+fn loaded_of(alloc: Global, document: Document) -> Result<Loaded, LoadError>
+    requires few_arcs { HaveFewArcs (document_view document) }
+    requires well_named { AreWellNamed (document_view document) }
+    requires few_declarations { HasFewDeclarations (document_view document) }
+    ensures reads { LoadsBy loaded_view result (loaded_in (document_view document)) }
     ensures well_loaded { IfOk result (λ loaded. IsWellLoaded (loaded_view loaded)) }
     ensures distinct { IfOk result (λ loaded. HasDistinctNames (loaded_view loaded).net) }
     ensures well_spelled { IfOk result (λ loaded. HasWellSpelledNames (loaded_view loaded).net) }
 {
-    let accepted = accept(alloc, document)?;
+    let accepted = accept(alloc, &document)?;
     let loaded = flatten(alloc, document, accepted)?;
     Ok(loaded)
 }
@@ -63,6 +63,6 @@ pub fn load(alloc: Global, bytes: &[u8]) -> Result<Loaded, LoadError>
     one_acceptance();
     one_flat_net();
     let document = read_document(alloc, bytes)?;
-    let loaded = loaded_of(alloc, &document)?;
+    let loaded = loaded_of(alloc, document)?;
     Ok(loaded)
 }

@@ -247,5 +247,5 @@ named_well d a loaded well_named has well h =
     let are = such_holds (AreInstanceNames d is.0) names.0 names.1 in
     let compound = such_holds (AreCompound a.hierarchy is.0) classes.0 classes.1 in
     let made = unfolded_is a (read is.0) is.0 is.1 refl in
-    subst (λ (x : PlainLoaded). HasDistinctNames x.net × HasWellSpelledNames x.net) (sym (same_read loaded (record { net = flat_net a is.0 names.0 classes.0; initial = marking.0; declared = a.declared }) marking.2))
+    subst (λ (x : PlainLoaded). HasDistinctNames x.net × HasWellSpelledNames x.net) (sym (same_read loaded (record { net = flat_net a is.0 names.0 classes.0; initial = marking.0; declared = a.declared; monitors = d.monitors; phases = d.phases }) marking.2))
     (flat_distinct d a well_named has well is.0 made names.0 are classes.0 compound, flat_spelled d a well_named has well is.0 made names.0 are classes.0 compound)

@@ -9,6 +9,8 @@ use Rattle.cpn_core.specs.declared.nets.Net.{Net}
 use Rattle.cpn_definitions.specs.Marking.{Marking}
 use Rattle.cpn_definitions.specs.Net.{PlainTransition, Coloured, place_at}
 use Rattle.cpn_document.specs.Document.{RawDocument}
+use Rattle.cpn_document.specs.Monitors.{RawMonitor}
+use Rattle.cpn_document.specs.Phases.{RawPhase}
 use Rattle.cpn_fuse.specs.Compound.{AreCompound}
 use Rattle.cpn_fuse.specs.Instances.{PlainInstance, AreInstances}
 use Rattle.cpn_fuse.specs.PlaceInstances.{place_count}
@@ -94,8 +96,9 @@ module _ (a : PlainAccepted) (well : IsWellAccepted a) where
             let long = length-written a.modules is classes 0 classes.firsts in
             subst (AreOfColour (place_at (flat_net a is names classes) c).colour) (sym (written_here a.modules is classes c (omega (arith, lt, long)))) (written_coloured a well is u names classes compound c)
 
-        pub flat_well : (m : Marking) → started (flat_net a is names classes) (all_written a.modules is classes) (read m) → IsWellLoaded (record { net = flat_net a is names classes; initial = m; declared = a.declared })
-        flat_well m h =
+        pub flat_well : (monitors : List RawMonitor) (phases : List RawPhase) (m : Marking) → started (flat_net a is names classes) (all_written a.modules is classes) (read m)
+            → IsWellLoaded (record { net = flat_net a is names classes; initial = m; declared = a.declared; monitors = monitors; phases = phases })
+        flat_well monitors phases m h =
             let start = started_well (flat_net a is names classes) (all_written a.modules is classes) m (length-written a.modules is classes 0 classes.firsts ∙ sym (length-compound_places a well is names classes compound)) colours h in
             record {
               sound = flat_sound a well is names classes compound u few_variables;

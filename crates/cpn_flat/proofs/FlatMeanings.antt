@@ -78,7 +78,7 @@ module _ (d : RawDocument) (a : PlainAccepted) where
         (refused_next _ _ names o (names, are, refl) (refused_next _ _ classes o (classes, compound, refl) (refused_first (started (flat_net a is names classes) (all_written a.modules is classes)) _ o h)))
 
     -- it has
-    pub is_flat : (m : Marking) → started (flat_net a is names classes) (all_written a.modules is classes) (read m) → flat_in d a (read (record { net = flat_net a is names classes; initial = m; declared = a.declared }))
+    pub is_flat : (m : Marking) → started (flat_net a is names classes) (all_written a.modules is classes) (read m) → flat_in d a (read (record { net = flat_net a is names classes; initial = m; declared = a.declared; monitors = d.monitors; phases = d.phases }))
     unfolding flat_in
     is_flat m h =
         then_read (IsUnfoldedAs a.hierarchy) _ is _ (unfolded is u) (then_read _ _ names _ (names, are, refl) (then_read _ _ classes _ (classes, compound, refl) (then_read (started (flat_net a is names classes) (all_written a.modules is classes)) _ m _ h refl)))

@@ -5,6 +5,8 @@ use Rattle.cpn_definitions.specs.Marking.{Marking}
 use Rattle.cpn_definitions.specs.Net.{PlainNet}
 use Rattle.cpn_classes.specs.Numbering.{Numbering}
 use Rattle.cpn_document.specs.Document.{RawDocument}
+use Rattle.cpn_document.specs.Monitors.{RawMonitor}
+use Rattle.cpn_document.specs.Phases.{RawPhase}
 use Rattle.cpn_module.specs.Hierarchy.{PlainHierarchy}
 use Rattle.cpn_typing.specs.Names.{Declared}
 use Rattle.cpn_fuse.specs.Instances.{PlainInstance}
@@ -18,11 +20,13 @@ use Rattle.cpn_flat.specs.Names.{AreNames}
 use Rattle.cpn_flat.specs.FlatNet.{flat_net}
 use Rattle.cpn_flat.specs.InitialMarking.{written_of, started}
 
--- A net and its initial marking, and what is declared beside it.
+-- A net and its initial marking, and what is declared beside it; and the monitors and phases of the document, as they are written.
 pub record PlainLoaded : Type 0 where
   pub net : PlainNet
   pub initial : Marking
   pub declared : Declared
+  pub monitors : List RawMonitor
+  pub phases : List RawPhase
 
 -- what there are too many of
 abbrev pub too_many : UnfoldingRefusal → FlatRefusal
@@ -51,4 +55,4 @@ flat_in d accepted = do
   names ← such_that (AreNames d is)
   classes ← such_that (AreCompound accepted.hierarchy is)
   marking ← started (flat_net accepted is names classes) (all_written accepted.modules is classes)
-  just (read (record { net = flat_net accepted is names classes; initial = marking; declared = accepted.declared }))
+  just (read (record { net = flat_net accepted is names classes; initial = marking; declared = accepted.declared; monitors = d.monitors; phases = d.phases }))

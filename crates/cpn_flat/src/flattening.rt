@@ -33,7 +33,7 @@ use crate::written::{all_initials, written_lists};
 use cpn_classes::Classes;
 use cpn_core::{Memory, Net, Place, Transition};
 use cpn_declared::Decls;
-use cpn_document::Document;
+use cpn_document::{Document, Monitor, Phase};
 use cpn_fuse::{Instance, Unfolded, compound, one_unfolding, unfold};
 use cpn_module::Hierarchy;
 use cpn_module_nets::{Accepted, ModuleNet};
@@ -41,7 +41,7 @@ use cpn_tmset::Marking;
 use std::alloc::Global;
 use std::sync::Arc;
 
-/// A net and its initial marking, and what is declared beside it.
+/// A net and its initial marking, and what is declared beside it; and the monitors and phases of the document, as they are written.
 #[derive(Drop)]
 pub struct Loaded {
     /// The net.
@@ -50,6 +50,10 @@ pub struct Loaded {
     pub initial: Marking,
     /// What is declared: the net's variables, constants, constructors and functions, whose bodies both share, and the colour sets.
     pub decls: Decls,
+    /// The monitors, in their order.
+    pub monitors: Vec<Monitor>,
+    /// The phases, in their order.
+    pub phases: Vec<Phase>,
 }
 
 /// The places and the transitions of a flat net.
@@ -147,14 +151,14 @@ fn initial_of(
 /// ([`FlatError::Places`]), more than 16,384 transition instances ([`FlatError::Transitions`]); an initial marking has a fault
 /// ([`FlatError::Init`]); two members of a compound place have initial markings that differ ([`FlatError::InitialDiffers`]). Or
 /// [`FlatError::Memory`]: memory ran out.
-pub fn flatten(alloc: Global, document: &Document, accepted: Accepted) -> Result<Loaded, FlatError>
+pub fn flatten(alloc: Global, document: Document, accepted: Accepted) -> Result<Loaded, FlatError>
     requires well { IsWellAccepted (accepted_view accepted) }
     requires few_variables { length (decls_view accepted.decls).variables < 2 ^ 32 }
-    requires hierarchy { hierarchy_view accepted.hierarchy ≡ hierarchy_in (document_view document.now) }
+    requires hierarchy { hierarchy_view accepted.hierarchy ≡ hierarchy_in (document_view document) }
     // What is answered is what is meant: the flat net and its initial marking, or the first refusal.
-    ensures reads { GivesBy loaded_view result (flat_in (document_view document.now) (accepted_view accepted)) }
+    ensures reads { GivesBy loaded_view result (flat_in (document_view document) (accepted_view accepted)) }
     // At most one thing is meant.
-    ensures one { HasOne (flat_in (document_view document.now) (accepted_view accepted)) }
+    ensures one { HasOne (flat_in (document_view document) (accepted_view accepted)) }
     // The net is sound, and its initial marking is one of its places.
     ensures well_loaded { IfOk result (λ loaded. IsWellLoaded (loaded_view loaded)) }
 {
@@ -167,7 +171,7 @@ pub fn flatten(alloc: Global, document: &Document, accepted: Accepted) -> Result
     let classes = compound(alloc, &hierarchy, &unfolded)?;
     let parts = parts_of(
         alloc,
-        document,
+        &document,
         &hierarchy,
         modules.as_slice(),
         &unfolded,
@@ -180,6 +184,8 @@ pub fn flatten(alloc: Global, document: &Document, accepted: Accepted) -> Result
         net,
         initial,
         decls,
+        monitors: document.monitors,
+        phases: document.phases,
     })
 }
 

@@ -29,15 +29,15 @@ use Rattle.cpn_flat.proofs.flattening.flatten.Goals as goal
 pub returns-in_err-unfolded-clause-reads : goal.returns-in_err-unfolded-clause-reads
 returns-in_err-unfolded-clause-reads c =
     let p = err_from_is_err_and c.from_residual.result c.from_residual.ensures.1 in
-    rw (p.1, p.2) (not_flat (document_view c.args.document.now) (accepted_view c.args.accepted) (refusal_of c.in_err-unfolded.field-0.0) c.in_err-unfolded.ensures.refused)
+    rw (p.1, p.2) (not_flat (document_view c.args.document) (accepted_view c.args.accepted) (refusal_of c.in_err-unfolded.field-0.0) c.in_err-unfolded.ensures.refused)
 
 pub returns-in_err-unfolded-clause-one : goal.returns-in_err-unfolded-clause-one
-returns-in_err-unfolded-clause-one c = one_meaning (accepted_view c.args.accepted) c.requires.well (document_view c.args.document.now) c.in_err-unfolded.ensures.one c.in_err-unfolded.ensures.one_refusal c.in_err-unfolded.ensures.not_both
+returns-in_err-unfolded-clause-one c = one_meaning (accepted_view c.args.accepted) c.requires.well (document_view c.args.document) c.in_err-unfolded.ensures.one c.in_err-unfolded.ensures.one_refusal c.in_err-unfolded.ensures.not_both
 
 -- ---- what the calls ask for
 
 pub returns-in_err-classes-clause-one : goal.returns-in_err-classes-clause-one
-returns-in_err-classes-clause-one c = one_meaning (accepted_view c.args.accepted) c.requires.well (document_view c.args.document.now) c.in_ok-unfolded.ensures.one c.in_ok-unfolded.ensures.one_refusal c.in_ok-unfolded.ensures.not_both
+returns-in_err-classes-clause-one c = one_meaning (accepted_view c.args.accepted) c.requires.well (document_view c.args.document) c.in_ok-unfolded.ensures.one c.in_ok-unfolded.ensures.one_refusal c.in_ok-unfolded.ensures.not_both
 
 pub parts_of-requires-clause-behind : goal.parts_of-requires-clause-behind
 parts_of-requires-clause-behind c = behind (accepted_view c.args.accepted) c.requires.well (instances_view c.in_ok-unfolded.unfolded.instances.items) c.in_ok-unfolded.ensures.unfolded.unfolded
@@ -52,7 +52,7 @@ parts_of-requires-clause-in_modules c =
     (of_modules (accepted_view c.args.accepted) c.requires.well (instances_view c.in_ok-unfolded.unfolded.instances.items) c.in_ok-unfolded.ensures.unfolded.unfolded)
 
 pub parts_of-requires-clause-there : goal.parts_of-requires-clause-there
-parts_of-requires-clause-there c = named_in (accepted_view c.args.accepted) c.requires.well (instances_view c.in_ok-unfolded.unfolded.instances.items) c.in_ok-unfolded.ensures.unfolded.unfolded (document_view c.args.document.now) c.requires.hierarchy
+parts_of-requires-clause-there c = named_in (accepted_view c.args.accepted) c.requires.well (instances_view c.in_ok-unfolded.unfolded.instances.items) c.in_ok-unfolded.ensures.unfolded.unfolded (document_view c.args.document) c.requires.hierarchy
 
 pub parts_of-requires-clause-items : goal.parts_of-requires-clause-items
 parts_of-requires-clause-items c =
@@ -65,10 +65,10 @@ parts_of-requires-clause-as_many c = λ names.
     ∙ ap (λ ms. length (all_places (map module_net_view ms) (instances_view c.in_ok-unfolded.unfolded.instances.items) names)) (sym c.as_slice.ensures.value)
 
 pub returns-in_err-parts-clause-one : goal.returns-in_err-parts-clause-one
-returns-in_err-parts-clause-one c = one_meaning (accepted_view c.args.accepted) c.requires.well (document_view c.args.document.now) c.in_ok-unfolded.ensures.one c.in_ok-unfolded.ensures.one_refusal c.in_ok-unfolded.ensures.not_both
+returns-in_err-parts-clause-one c = one_meaning (accepted_view c.args.accepted) c.requires.well (document_view c.args.document) c.in_ok-unfolded.ensures.one c.in_ok-unfolded.ensures.one_refusal c.in_ok-unfolded.ensures.not_both
 
 pub returns-in_err-net-clause-one : goal.returns-in_err-net-clause-one
-returns-in_err-net-clause-one c = one_meaning (accepted_view c.args.accepted) c.requires.well (document_view c.args.document.now) c.in_ok-unfolded.ensures.one c.in_ok-unfolded.ensures.one_refusal c.in_ok-unfolded.ensures.not_both
+returns-in_err-net-clause-one c = one_meaning (accepted_view c.args.accepted) c.requires.well (document_view c.args.document) c.in_ok-unfolded.ensures.one c.in_ok-unfolded.ensures.one_refusal c.in_ok-unfolded.ensures.not_both
 
 pub initial_of-requires-clause-in_modules : goal.initial_of-requires-clause-in_modules
 initial_of-requires-clause-in_modules c =
@@ -83,53 +83,53 @@ initial_of-requires-clause-as_many c =
 
 pub initial_of-requires-clause-each : goal.initial_of-requires-clause-each
 initial_of-requires-clause-each c =
-    let parts = (let made : AreItsParts (document_view c.args.document.now) (hierarchy_view c.args.accepted.hierarchy) (map module_net_view c.args.accepted.modules.items) (instances_view c.in_ok-unfolded.unfolded.instances.items) c.in_ok-classes.classes (map place_view c.in_ok-parts.parts.places.items) (map transition_view c.in_ok-parts.parts.transitions.items) = subst (λ ms. AreItsParts (document_view c.args.document.now) (hierarchy_view c.args.accepted.hierarchy) (map module_net_view ms) (instances_view c.in_ok-unfolded.unfolded.instances.items) c.in_ok-classes.classes (map place_view c.in_ok-parts.parts.places.items) (map transition_view c.in_ok-parts.parts.transitions.items)) c.as_slice.ensures.value c.in_ok-parts.ensures.made in made) in
-    places_each (accepted_view c.args.accepted) c.requires.well (instances_view c.in_ok-unfolded.unfolded.instances.items) c.in_ok-unfolded.ensures.unfolded.unfolded c.in_ok-classes.classes c.in_ok-classes.ensures.compound (document_view c.args.document.now) c.in_ok-net.net (map place_view c.in_ok-parts.parts.places.items) (map transition_view c.in_ok-parts.parts.transitions.items) c.in_ok-net.ensures.made parts
+    let parts = (let made : AreItsParts (document_view c.args.document) (hierarchy_view c.args.accepted.hierarchy) (map module_net_view c.args.accepted.modules.items) (instances_view c.in_ok-unfolded.unfolded.instances.items) c.in_ok-classes.classes (map place_view c.in_ok-parts.parts.places.items) (map transition_view c.in_ok-parts.parts.transitions.items) = subst (λ ms. AreItsParts (document_view c.args.document) (hierarchy_view c.args.accepted.hierarchy) (map module_net_view ms) (instances_view c.in_ok-unfolded.unfolded.instances.items) c.in_ok-classes.classes (map place_view c.in_ok-parts.parts.places.items) (map transition_view c.in_ok-parts.parts.transitions.items)) c.as_slice.ensures.value c.in_ok-parts.ensures.made in made) in
+    places_each (accepted_view c.args.accepted) c.requires.well (instances_view c.in_ok-unfolded.unfolded.instances.items) c.in_ok-unfolded.ensures.unfolded.unfolded c.in_ok-classes.classes c.in_ok-classes.ensures.compound (document_view c.args.document) c.in_ok-net.net (map place_view c.in_ok-parts.parts.places.items) (map transition_view c.in_ok-parts.parts.transitions.items) c.in_ok-net.ensures.made parts
 
 pub initial_of-requires-clause-few : goal.initial_of-requires-clause-few
 initial_of-requires-clause-few c =
-    let parts = (let made : AreItsParts (document_view c.args.document.now) (hierarchy_view c.args.accepted.hierarchy) (map module_net_view c.args.accepted.modules.items) (instances_view c.in_ok-unfolded.unfolded.instances.items) c.in_ok-classes.classes (map place_view c.in_ok-parts.parts.places.items) (map transition_view c.in_ok-parts.parts.transitions.items) = subst (λ ms. AreItsParts (document_view c.args.document.now) (hierarchy_view c.args.accepted.hierarchy) (map module_net_view ms) (instances_view c.in_ok-unfolded.unfolded.instances.items) c.in_ok-classes.classes (map place_view c.in_ok-parts.parts.places.items) (map transition_view c.in_ok-parts.parts.transitions.items)) c.as_slice.ensures.value c.in_ok-parts.ensures.made in made) in
-    places_few (accepted_view c.args.accepted) c.requires.well (instances_view c.in_ok-unfolded.unfolded.instances.items) c.in_ok-unfolded.ensures.unfolded.unfolded c.in_ok-classes.classes c.in_ok-classes.ensures.compound (document_view c.args.document.now) c.in_ok-net.net (map place_view c.in_ok-parts.parts.places.items) (map transition_view c.in_ok-parts.parts.transitions.items) c.in_ok-net.ensures.made parts
+    let parts = (let made : AreItsParts (document_view c.args.document) (hierarchy_view c.args.accepted.hierarchy) (map module_net_view c.args.accepted.modules.items) (instances_view c.in_ok-unfolded.unfolded.instances.items) c.in_ok-classes.classes (map place_view c.in_ok-parts.parts.places.items) (map transition_view c.in_ok-parts.parts.transitions.items) = subst (λ ms. AreItsParts (document_view c.args.document) (hierarchy_view c.args.accepted.hierarchy) (map module_net_view ms) (instances_view c.in_ok-unfolded.unfolded.instances.items) c.in_ok-classes.classes (map place_view c.in_ok-parts.parts.places.items) (map transition_view c.in_ok-parts.parts.transitions.items)) c.as_slice.ensures.value c.in_ok-parts.ensures.made in made) in
+    places_few (accepted_view c.args.accepted) c.requires.well (instances_view c.in_ok-unfolded.unfolded.instances.items) c.in_ok-unfolded.ensures.unfolded.unfolded c.in_ok-classes.classes c.in_ok-classes.ensures.compound (document_view c.args.document) c.in_ok-net.net (map place_view c.in_ok-parts.parts.places.items) (map transition_view c.in_ok-parts.parts.transitions.items) c.in_ok-net.ensures.made parts
 
 pub initial_of-requires-clause-meant : goal.initial_of-requires-clause-meant
 initial_of-requires-clause-meant c =
-    let parts = (let made : AreItsParts (document_view c.args.document.now) (hierarchy_view c.args.accepted.hierarchy) (map module_net_view c.args.accepted.modules.items) (instances_view c.in_ok-unfolded.unfolded.instances.items) c.in_ok-classes.classes (map place_view c.in_ok-parts.parts.places.items) (map transition_view c.in_ok-parts.parts.transitions.items) = subst (λ ms. AreItsParts (document_view c.args.document.now) (hierarchy_view c.args.accepted.hierarchy) (map module_net_view ms) (instances_view c.in_ok-unfolded.unfolded.instances.items) c.in_ok-classes.classes (map place_view c.in_ok-parts.parts.places.items) (map transition_view c.in_ok-parts.parts.transitions.items)) c.as_slice.ensures.value c.in_ok-parts.ensures.made in made) in
+    let parts = (let made : AreItsParts (document_view c.args.document) (hierarchy_view c.args.accepted.hierarchy) (map module_net_view c.args.accepted.modules.items) (instances_view c.in_ok-unfolded.unfolded.instances.items) c.in_ok-classes.classes (map place_view c.in_ok-parts.parts.places.items) (map transition_view c.in_ok-parts.parts.transitions.items) = subst (λ ms. AreItsParts (document_view c.args.document) (hierarchy_view c.args.accepted.hierarchy) (map module_net_view ms) (instances_view c.in_ok-unfolded.unfolded.instances.items) c.in_ok-classes.classes (map place_view c.in_ok-parts.parts.places.items) (map transition_view c.in_ok-parts.parts.transitions.items)) c.as_slice.ensures.value c.in_ok-parts.ensures.made in made) in
     subst (λ ms. AreAllMeant (net_view c.in_ok-net.net).functions (all_written (map module_net_view ms) (instances_view c.as_slice-instances.result.now) c.in_ok-classes.classes)) (sym c.as_slice-2.ensures.value)
     (subst (λ is. AreAllMeant (net_view c.in_ok-net.net).functions (all_written (map module_net_view c.args.accepted.modules.items) (instances_view is) c.in_ok-classes.classes)) (sym c.as_slice-instances.ensures.value)
-    (net_meant (accepted_view c.args.accepted) c.requires.well (instances_view c.in_ok-unfolded.unfolded.instances.items) c.in_ok-unfolded.ensures.unfolded.unfolded c.in_ok-classes.classes c.in_ok-classes.ensures.compound (document_view c.args.document.now) c.in_ok-net.net (map place_view c.in_ok-parts.parts.places.items) (map transition_view c.in_ok-parts.parts.transitions.items) c.in_ok-net.ensures.made parts))
+    (net_meant (accepted_view c.args.accepted) c.requires.well (instances_view c.in_ok-unfolded.unfolded.instances.items) c.in_ok-unfolded.ensures.unfolded.unfolded c.in_ok-classes.classes c.in_ok-classes.ensures.compound (document_view c.args.document) c.in_ok-net.net (map place_view c.in_ok-parts.parts.places.items) (map transition_view c.in_ok-parts.parts.transitions.items) c.in_ok-net.ensures.made parts))
 
 pub returns-in_err-initial-clause-reads : goal.returns-in_err-initial-clause-reads
 returns-in_err-initial-clause-reads c =
-    let parts = (let made : AreItsParts (document_view c.args.document.now) (hierarchy_view c.args.accepted.hierarchy) (map module_net_view c.args.accepted.modules.items) (instances_view c.in_ok-unfolded.unfolded.instances.items) c.in_ok-classes.classes (map place_view c.in_ok-parts.parts.places.items) (map transition_view c.in_ok-parts.parts.transitions.items) = subst (λ ms. AreItsParts (document_view c.args.document.now) (hierarchy_view c.args.accepted.hierarchy) (map module_net_view ms) (instances_view c.in_ok-unfolded.unfolded.instances.items) c.in_ok-classes.classes (map place_view c.in_ok-parts.parts.places.items) (map transition_view c.in_ok-parts.parts.transitions.items)) c.as_slice.ensures.value c.in_ok-parts.ensures.made in made) in
+    let parts = (let made : AreItsParts (document_view c.args.document) (hierarchy_view c.args.accepted.hierarchy) (map module_net_view c.args.accepted.modules.items) (instances_view c.in_ok-unfolded.unfolded.instances.items) c.in_ok-classes.classes (map place_view c.in_ok-parts.parts.places.items) (map transition_view c.in_ok-parts.parts.transitions.items) = subst (λ ms. AreItsParts (document_view c.args.document) (hierarchy_view c.args.accepted.hierarchy) (map module_net_view ms) (instances_view c.in_ok-unfolded.unfolded.instances.items) c.in_ok-classes.classes (map place_view c.in_ok-parts.parts.places.items) (map transition_view c.in_ok-parts.parts.transitions.items)) c.as_slice.ensures.value c.in_ok-parts.ensures.made in made) in
     let p = err_from_is_err_and c.from_residual-in_err-initial.result c.from_residual-in_err-initial.ensures.1 in
-    let is = net_is (document_view c.args.document.now) (accepted_view c.args.accepted) (instances_view c.in_ok-unfolded.unfolded.instances.items) c.in_ok-classes.classes (net_view c.in_ok-net.net) (map place_view c.in_ok-parts.parts.places.items) (map transition_view c.in_ok-parts.parts.transitions.items) c.in_ok-net.ensures.made parts in
-    rw (p.1, p.2) (not_started (document_view c.args.document.now) (accepted_view c.args.accepted) (instances_view c.in_ok-unfolded.unfolded.instances.items) c.in_ok-unfolded.ensures.unfolded.unfolded parts.names parts.are_names c.in_ok-classes.classes c.in_ok-classes.ensures.compound (flat_refusal_of c.in_err-initial.field-0.0)
+    let is = net_is (document_view c.args.document) (accepted_view c.args.accepted) (instances_view c.in_ok-unfolded.unfolded.instances.items) c.in_ok-classes.classes (net_view c.in_ok-net.net) (map place_view c.in_ok-parts.parts.places.items) (map transition_view c.in_ok-parts.parts.transitions.items) c.in_ok-net.ensures.made parts in
+    rw (p.1, p.2) (not_started (document_view c.args.document) (accepted_view c.args.accepted) (instances_view c.in_ok-unfolded.unfolded.instances.items) c.in_ok-unfolded.ensures.unfolded.unfolded parts.names parts.are_names c.in_ok-classes.classes c.in_ok-classes.ensures.compound (flat_refusal_of c.in_err-initial.field-0.0)
     (subst (λ n. RefusesBy (started n (all_written (map module_net_view c.args.accepted.modules.items) (instances_view c.in_ok-unfolded.unfolded.instances.items) c.in_ok-classes.classes)) (flat_refusal_of c.in_err-initial.field-0.0)) is
     (subst (λ ms. RefusesBy (started (net_view c.in_ok-net.net) (all_written (map module_net_view ms) (instances_view c.in_ok-unfolded.unfolded.instances.items) c.in_ok-classes.classes)) (flat_refusal_of c.in_err-initial.field-0.0)) c.as_slice-2.ensures.value
     (subst (λ xs. RefusesBy (started (net_view c.in_ok-net.net) (all_written (map module_net_view c.as_slice-2.result.now) (instances_view xs) c.in_ok-classes.classes)) (flat_refusal_of c.in_err-initial.field-0.0)) c.as_slice-instances.ensures.value c.in_err-initial.ensures.reads))))
 
 pub returns-in_err-initial-clause-one : goal.returns-in_err-initial-clause-one
-returns-in_err-initial-clause-one c = one_meaning (accepted_view c.args.accepted) c.requires.well (document_view c.args.document.now) c.in_ok-unfolded.ensures.one c.in_ok-unfolded.ensures.one_refusal c.in_ok-unfolded.ensures.not_both
+returns-in_err-initial-clause-one c = one_meaning (accepted_view c.args.accepted) c.requires.well (document_view c.args.document) c.in_ok-unfolded.ensures.one c.in_ok-unfolded.ensures.one_refusal c.in_ok-unfolded.ensures.not_both
 
 pub returns-clause-reads : goal.returns-clause-reads
 returns-clause-reads c =
-    let parts = (let made : AreItsParts (document_view c.args.document.now) (hierarchy_view c.args.accepted.hierarchy) (map module_net_view c.args.accepted.modules.items) (instances_view c.in_ok-unfolded.unfolded.instances.items) c.in_ok-classes.classes (map place_view c.in_ok-parts.parts.places.items) (map transition_view c.in_ok-parts.parts.transitions.items) = subst (λ ms. AreItsParts (document_view c.args.document.now) (hierarchy_view c.args.accepted.hierarchy) (map module_net_view ms) (instances_view c.in_ok-unfolded.unfolded.instances.items) c.in_ok-classes.classes (map place_view c.in_ok-parts.parts.places.items) (map transition_view c.in_ok-parts.parts.transitions.items)) c.as_slice.ensures.value c.in_ok-parts.ensures.made in made) in
-    let is = net_is (document_view c.args.document.now) (accepted_view c.args.accepted) (instances_view c.in_ok-unfolded.unfolded.instances.items) c.in_ok-classes.classes (net_view c.in_ok-net.net) (map place_view c.in_ok-parts.parts.places.items) (map transition_view c.in_ok-parts.parts.transitions.items) c.in_ok-net.ensures.made parts in
-    subst (λ n. flat_in (document_view c.args.document.now) (accepted_view c.args.accepted) (read (record { net = n; initial = c.in_ok-initial.initial; declared = (accepted_view c.args.accepted).declared }))) (sym is)
-    (is_flat (document_view c.args.document.now) (accepted_view c.args.accepted) (instances_view c.in_ok-unfolded.unfolded.instances.items) c.in_ok-unfolded.ensures.unfolded.unfolded parts.names parts.are_names c.in_ok-classes.classes c.in_ok-classes.ensures.compound c.in_ok-initial.initial
+    let parts = (let made : AreItsParts (document_view c.args.document) (hierarchy_view c.args.accepted.hierarchy) (map module_net_view c.args.accepted.modules.items) (instances_view c.in_ok-unfolded.unfolded.instances.items) c.in_ok-classes.classes (map place_view c.in_ok-parts.parts.places.items) (map transition_view c.in_ok-parts.parts.transitions.items) = subst (λ ms. AreItsParts (document_view c.args.document) (hierarchy_view c.args.accepted.hierarchy) (map module_net_view ms) (instances_view c.in_ok-unfolded.unfolded.instances.items) c.in_ok-classes.classes (map place_view c.in_ok-parts.parts.places.items) (map transition_view c.in_ok-parts.parts.transitions.items)) c.as_slice.ensures.value c.in_ok-parts.ensures.made in made) in
+    let is = net_is (document_view c.args.document) (accepted_view c.args.accepted) (instances_view c.in_ok-unfolded.unfolded.instances.items) c.in_ok-classes.classes (net_view c.in_ok-net.net) (map place_view c.in_ok-parts.parts.places.items) (map transition_view c.in_ok-parts.parts.transitions.items) c.in_ok-net.ensures.made parts in
+    subst (λ n. flat_in (document_view c.args.document) (accepted_view c.args.accepted) (read (record { net = n; initial = c.in_ok-initial.initial; declared = (accepted_view c.args.accepted).declared; monitors = (document_view c.args.document).monitors; phases = (document_view c.args.document).phases }))) (sym is)
+    (is_flat (document_view c.args.document) (accepted_view c.args.accepted) (instances_view c.in_ok-unfolded.unfolded.instances.items) c.in_ok-unfolded.ensures.unfolded.unfolded parts.names parts.are_names c.in_ok-classes.classes c.in_ok-classes.ensures.compound c.in_ok-initial.initial
     (subst (λ n. started n (all_written (map module_net_view c.args.accepted.modules.items) (instances_view c.in_ok-unfolded.unfolded.instances.items) c.in_ok-classes.classes) (read c.in_ok-initial.initial)) is
     (subst (λ ms. started (net_view c.in_ok-net.net) (all_written (map module_net_view ms) (instances_view c.in_ok-unfolded.unfolded.instances.items) c.in_ok-classes.classes) (read c.in_ok-initial.initial)) c.as_slice-2.ensures.value
     (subst (λ xs. started (net_view c.in_ok-net.net) (all_written (map module_net_view c.as_slice-2.result.now) (instances_view xs) c.in_ok-classes.classes) (read c.in_ok-initial.initial)) c.as_slice-instances.ensures.value c.in_ok-initial.ensures.reads))))
 
 pub returns-clause-one : goal.returns-clause-one
-returns-clause-one c = one_meaning (accepted_view c.args.accepted) c.requires.well (document_view c.args.document.now) c.in_ok-unfolded.ensures.one c.in_ok-unfolded.ensures.one_refusal c.in_ok-unfolded.ensures.not_both
+returns-clause-one c = one_meaning (accepted_view c.args.accepted) c.requires.well (document_view c.args.document) c.in_ok-unfolded.ensures.one c.in_ok-unfolded.ensures.one_refusal c.in_ok-unfolded.ensures.not_both
 
 pub returns-clause-well_loaded : goal.returns-clause-well_loaded
 returns-clause-well_loaded c =
-    let parts = (let made : AreItsParts (document_view c.args.document.now) (hierarchy_view c.args.accepted.hierarchy) (map module_net_view c.args.accepted.modules.items) (instances_view c.in_ok-unfolded.unfolded.instances.items) c.in_ok-classes.classes (map place_view c.in_ok-parts.parts.places.items) (map transition_view c.in_ok-parts.parts.transitions.items) = subst (λ ms. AreItsParts (document_view c.args.document.now) (hierarchy_view c.args.accepted.hierarchy) (map module_net_view ms) (instances_view c.in_ok-unfolded.unfolded.instances.items) c.in_ok-classes.classes (map place_view c.in_ok-parts.parts.places.items) (map transition_view c.in_ok-parts.parts.transitions.items)) c.as_slice.ensures.value c.in_ok-parts.ensures.made in made) in
-    let is = net_is (document_view c.args.document.now) (accepted_view c.args.accepted) (instances_view c.in_ok-unfolded.unfolded.instances.items) c.in_ok-classes.classes (net_view c.in_ok-net.net) (map place_view c.in_ok-parts.parts.places.items) (map transition_view c.in_ok-parts.parts.transitions.items) c.in_ok-net.ensures.made parts in
-    subst (λ n. IsWellLoaded (record { net = n; initial = c.in_ok-initial.initial; declared = (accepted_view c.args.accepted).declared })) (sym is)
-    (flat_well (accepted_view c.args.accepted) c.requires.well (instances_view c.in_ok-unfolded.unfolded.instances.items) c.in_ok-unfolded.ensures.unfolded.unfolded c.in_ok-classes.classes c.in_ok-classes.ensures.compound parts.names c.requires.few_variables c.in_ok-initial.initial
+    let parts = (let made : AreItsParts (document_view c.args.document) (hierarchy_view c.args.accepted.hierarchy) (map module_net_view c.args.accepted.modules.items) (instances_view c.in_ok-unfolded.unfolded.instances.items) c.in_ok-classes.classes (map place_view c.in_ok-parts.parts.places.items) (map transition_view c.in_ok-parts.parts.transitions.items) = subst (λ ms. AreItsParts (document_view c.args.document) (hierarchy_view c.args.accepted.hierarchy) (map module_net_view ms) (instances_view c.in_ok-unfolded.unfolded.instances.items) c.in_ok-classes.classes (map place_view c.in_ok-parts.parts.places.items) (map transition_view c.in_ok-parts.parts.transitions.items)) c.as_slice.ensures.value c.in_ok-parts.ensures.made in made) in
+    let is = net_is (document_view c.args.document) (accepted_view c.args.accepted) (instances_view c.in_ok-unfolded.unfolded.instances.items) c.in_ok-classes.classes (net_view c.in_ok-net.net) (map place_view c.in_ok-parts.parts.places.items) (map transition_view c.in_ok-parts.parts.transitions.items) c.in_ok-net.ensures.made parts in
+    subst (λ n. IsWellLoaded (record { net = n; initial = c.in_ok-initial.initial; declared = (accepted_view c.args.accepted).declared; monitors = (document_view c.args.document).monitors; phases = (document_view c.args.document).phases })) (sym is)
+    (flat_well (accepted_view c.args.accepted) c.requires.well (instances_view c.in_ok-unfolded.unfolded.instances.items) c.in_ok-unfolded.ensures.unfolded.unfolded c.in_ok-classes.classes c.in_ok-classes.ensures.compound parts.names c.requires.few_variables (document_view c.args.document).monitors (document_view c.args.document).phases c.in_ok-initial.initial
     (subst (λ n. started n (all_written (map module_net_view c.args.accepted.modules.items) (instances_view c.in_ok-unfolded.unfolded.instances.items) c.in_ok-classes.classes) (read c.in_ok-initial.initial)) is
     (subst (λ ms. started (net_view c.in_ok-net.net) (all_written (map module_net_view ms) (instances_view c.in_ok-unfolded.unfolded.instances.items) c.in_ok-classes.classes) (read c.in_ok-initial.initial)) c.as_slice-2.ensures.value
     (subst (λ xs. started (net_view c.in_ok-net.net) (all_written (map module_net_view c.as_slice-2.result.now) (instances_view xs) c.in_ok-classes.classes) (read c.in_ok-initial.initial)) c.as_slice-instances.ensures.value c.in_ok-initial.ensures.reads))))

@@ -1,16 +1,23 @@
 -- The next instance stands behind the one that it stands in, and what it is called by is in the document.
-use Rattle.std.proofs.Common.{◌≡◌, length, sym, subst}
+use Rattle.std.proofs.Common.{◌≡◌, ◌∙◌, ℕ, ◌<◌, List, length, get_or, map, ap, sym, subst}
 use Rattle.cpn_document.specs.Views.{document_view}
 use Rattle.cpn_fuse.specs.Instances.{PlainInstance}
 use Rattle.cpn_fuse.specs.Views.{instance_view, instances_view}
 use Rattle.cpn_flat.specs.Names.{IsNamedIn}
-use Rattle.cpn_flat.specs.Placed.{IsBehind}
+use Rattle.cpn_flat.specs.Placed.{IsBehind, StandBehind}
 use Rattle.cpn_flat.proofs.AllItems.{all_at}
 use Rattle.cpn_flat.proofs.InstanceItems.{seen_at, in_views}
 use Rattle.cpn_flat.proofs.names.instance_names.Goals as goal
 
+-- the instance at a position stands behind as many as there are before it
+behind_at : {V : Type 0} (view : V → PlainInstance) (vs : List V) (i k : ℕ) (d : V) → i < length vs → k ≡ i → StandBehind (map view vs) → IsBehind k (view (get_or vs i d)).part_of
+behind_at view vs i k d lt same behind =
+    subst (λ (n : ℕ). IsBehind n (view (get_or vs i d)).part_of) (sym same)
+    (subst (λ (x : PlainInstance). IsBehind i x.part_of) (seen_at view vs i d lt) (behind i (in_views view vs i d lt)))
+
 pub instance_name-requires-clause-behind : goal.instance_name-requires-clause-behind
-instance_name-requires-clause-behind c = ?
+instance_name-requires-clause-behind c =
+    behind_at instance_view c.args.instances.now c.loop-instance.instance-index _ _ c.loop-instance-test.true (ap length c.as_slice.ensures.value ∙ c.loop-instance.invariant.number) c.requires.behind
 
 pub instance_name-requires-clause-there : goal.instance_name-requires-clause-there
 instance_name-requires-clause-there c = all_at (IsNamedIn (document_view c.args.document.now) (instances_view c.args.instances.now)) instance_view c.args.instances.now c.loop-instance.instance-index _ c.loop-instance-test.true c.requires.there
