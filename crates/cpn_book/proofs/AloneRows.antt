@@ -1,6 +1,6 @@
 -- Rows by which going on alone is computed: what does, and what does not.
-use Rattle.std.proofs.Common.{◌≡◌, ℕ, ◌≤◌, List, [], ◌∷◌, ◌++◌, refl, arith}
-use Rattle.cpn_runs.specs.State.{PlainEvent, claim_made, claim_completed, clock_moved, cut_made}
+use Rattle.std.proofs.Common.{ℕ, [], ◌∷◌, refl, arith}
+use Rattle.cpn_runs.specs.State.{claim_made, claim_completed, clock_moved, cut_made}
 use Rattle.cpn_book.specs.GoingAlone.{AreCompletions, AreRounds, GoesOnAlone}
 
 -- two open claims, of which the second is another seat's; then the clock moves, and seat 0 plays a round, which makes a cut
