@@ -23,9 +23,9 @@ returns-then-len-called c =
 pub returns : goal.returns
 returns c =
     let count : c.len.result ≡ length c.args.arguments.items = search rules in
-    enter_goes c.args.world.now c.args.self.now (record c.args.self.now { visible = c.args.function; locals = c.replace-locals.new.dest; frames = c.push.new.self }) c.args.function c.args.arguments.items c.args.self.now.locals.items (frames.Caller c.args.self.now.visible c.replace-locals.result) (expr_view c.in-Some.called.now.body.value)
+    rw c.deref-body.ensures (enter_goes c.args.world.now c.args.self.now (record c.args.self.now { visible = c.args.function; locals = c.replace-locals.new.dest; frames = c.push.new.self }) c.args.function c.args.arguments.items c.args.self.now.locals.items (frames.Caller c.args.self.now.visible c.replace-locals.result) (expr_view c.in-Some.called.now.body.value)
     refl
     (ap (λ v. v.items) c.replace-locals.ensures.after)
     c.in_ok-push-in-Some.ensures.items
     (ap (λ v. back c.args.self.now.visible (map held_view v.items)) c.replace-locals.ensures.value)
-    (call_in c.args.world.now c.args.self.now.visible c.args.function (map held_view c.args.arguments.items) c.deref.result.now c.in-Some.called.now c.deref.ensures.value c.if-function-self.false c.in-Some.ensures.lookup.3.0 c.in-Some.ensures.lookup.1 (length-map c.args.arguments.items held_view ∙ sym count ∙ c.if-len-called.false))
+    (call_in c.args.world.now c.args.self.now.visible c.args.function (map held_view c.args.arguments.items) c.deref.result.now c.in-Some.called.now c.deref.ensures.value c.if-function-self.false c.in-Some.ensures.lookup.3.0 c.in-Some.ensures.lookup.1 (length-map c.args.arguments.items held_view ∙ sym count ∙ c.if-len-called.false)))
