@@ -133,6 +133,7 @@ first_of_the_name = refl
 
 abbrev in_itself_below : RawDocument
 in_itself_below = record {
+  version = 1;
   declarations = [];
   top = codes "Top";
   modules =
@@ -140,6 +141,8 @@ in_itself_below = record {
       ∷ record { name = codes "Low"; places = []; transitions = []; arcs = []; subs = record { name = codes "s"; submodule = codes "Low"; assign = [] } ∷ [] }
       ∷ [];
   fusions = [];
+  monitors = [];
+  phases = [];
 }
 
 -- nothing is part of the top
