@@ -20,7 +20,7 @@ module _ {V : Type 0} (view : V → PlainInstance) (vs : List V) (i : ℕ) (d : 
   pub seen_at : instance_at (map view vs) i ≡ view (get_or vs i d)
   seen_at = get_or-map view vs i d no_instance lt
 
-  in_views : i < length (map view vs)
+  pub in_views : i < length (map view vs)
   in_views = let e = length-map vs view in omega (arith, lt, e)
 
   module _ (h : PlainHierarchy) (modules : List PlainModuleNet) (firsts : List ℕ) (are : AreFirstPlaces h (map view vs) firsts) where

@@ -56,7 +56,7 @@ module _ (d : RawDocument) (well : AreWellNamed d) where
         ∙ length-map (raw_module_at d m).subs (substitution_in d (raw_module_at d m))
 
     -- the names of the substitution transitions of the module of an instance
-    subs_of : ℕ → List (List ℕ)
+    abbrev subs_of : ℕ → List (List ℕ)
     subs_of i = map (λ (sub : RawSub). sub.name) (raw_module_at d (instance_at is i).of_module).subs
 
     sub_name : (i k : ℕ) → i < length is → k < length (structure_at h (instance_at is i).of_module).substitutions → sub_name_at d (instance_at is i).of_module k ≡ slice_index_or (subs_of i) k []
