@@ -1,12 +1,13 @@
 -- What a report that was written gives: its clauses, and that its status is no other.
 use Rattle.std.proofs.Common.{◌≡◌, ℕ, ◌<◌, ◌≤◌, Bool, true, false, List, length, Some, None, Option, IfSome, sym, ap, ◌∙◌, subst, inl, inr, arith}
 use Rattle.std.specs.Io.KnownBytes.{Appends}
-use Rattle.cpn_file.specs.Reading.{Refusal, refused}
+use Rattle.cpn_flat.specs.Flat.{PlainLoaded}
+use Rattle.cpn_file.specs.Reading.{Refusal, read, refused}
 use Rattle.cpn_file.specs.Reads.{IsReadAs}
 use Rattle.cpn_sim.specs.Limits.{most_bytes}
-use Rattle.cpn_sim.specs.Options.{options_from}
+use Rattle.cpn_sim.specs.Options.{PlainOptions, options_from}
 use Rattle.cpn_sim.specs.Causes.{GiveOptions, HaveOneReading}
-use Rattle.cpn_sim.specs.Reported.{IsReported, IsReport}
+use Rattle.cpn_sim.specs.Reported.{IsReported, IsReportOf, IsReport}
 use Rattle.cpn_sim.specs.declared.statuses.Status.{Status}
 use Rattle.cpn_sim.specs.declared.statuses.Status.TheVariants as statuses
 use Rattle.cpn_sim.proofs.OneReport.{read_not_refused}
@@ -38,6 +39,15 @@ pub written : (words : List (List ℕ)) (left : Option (List ℕ)) (status given
     → IfSome left (λ bytes. (length bytes ≤ most_bytes) × ((text : List ℕ) × IsReport bytes words status text × Appends old new text))
 written words None status given report old new is same appended = tt
 written words (Some bytes) status given report old new is same appended = (is.0, (report, subst (λ s. IsReport bytes words s report) same is.1, appended))
+
+-- a report of the net that bytes are read as is one of the bytes that were left
+pub read_reported : (words : List (List ℕ)) (left : Option (List ℕ)) (bytes : List ℕ) (options : PlainOptions) (loaded : PlainLoaded) (status : Status) (report : List ℕ)
+    → IfSome left (λ xs. bytes ≡ xs) → length bytes ≤ most_bytes → options_from words ≡ Some options → IsReadAs bytes (read loaded) → IsReportOf loaded options status report
+    → IfSome left (λ xs. (length xs ≤ most_bytes) × IsReport xs words status report)
+read_reported words None bytes options loaded status report same short given reads is = tt
+read_reported words (Some xs) bytes options loaded status report same short given reads is =
+    subst (λ (bs : List ℕ). (length bs ≤ most_bytes) × IsReport bs words status report) same
+    (short, record { options = options; words_are = given; is_report = record { loaded = loaded; reads = reads; is_report = is } })
 
 -- where there is a report, the words give options
 pub not_refused_words : (words : List (List ℕ)) → GiveOptions words → options_from words ≡ None → ⊥

@@ -1,11 +1,13 @@
--- What refuses a document has its cause, and the document that was read has one reading.
+-- What refuses a document has its cause, the document that was read has one reading, and the report is that of a run of it.
 use Rattle.std.proofs.Common.{ℕ, List, IfSome, map, string_bytes, subst}
+use Rattle.cpn_flat.specs.Views.{loaded_view}
 use Rattle.cpn_file.specs.Answers.{load_refusal_of}
-use Rattle.cpn_file.specs.Reading.{refused}
+use Rattle.cpn_file.specs.Reading.{read, refused}
 use Rattle.cpn_file.specs.Reads.{IsReadAs}
 use Rattle.cpn_sim.specs.Causes.{GiveOptions, HaveOneReading}
 use Rattle.cpn_sim.specs.OptionsView.{options_view}
 use Rattle.cpn_sim.proofs.RefusedDocuments.{read_once, its_cause, its_reading}
+use Rattle.cpn_sim.proofs.WrittenReports.{read_reported}
 use Rattle.cpn_sim.proofs.answers.answer.Goals as goal
 
 pub returns-in-Err-clause-cause : goal.returns-in-Err-clause-cause
@@ -29,3 +31,10 @@ returns-in-Ok-report_of-clause-one_reading g c =
     let bytes : List ℕ = c.in-Ok-read_all.bytes.items in
     let one : HaveOneReading bytes = subst HaveOneReading c.deref.ensures.value c.load.ensures.one_reading in
     read_once left bytes c.in-Ok-read_all.ensures.bytes one
+
+pub returns-in-Ok-report_of-clause-report : goal.returns-in-Ok-report_of-clause-report
+returns-in-Ok-report_of-clause-report g c =
+    let left = g.S.Source.left c.args.source.now in
+    let bytes : List ℕ = c.in-Ok-read_all.bytes.items in
+    let reads : IsReadAs bytes (read (loaded_view c.in-Ok-load.loaded)) = subst (λ (bs : List ℕ). IsReadAs bs (read (loaded_view c.in-Ok-load.loaded))) c.deref.ensures.value c.in-Ok-load.ensures.reads in
+    read_reported (map string_bytes c.args.words.now) left bytes (options_view c.in-Ok.options) (loaded_view c.in-Ok-load.loaded) _ _ c.in-Ok-read_all.ensures.bytes c.in-Ok-read_all.ensures.short c.in-Ok.ensures.options reads c.in-Ok-report_of.ensures.report
