@@ -1,7 +1,7 @@
 -- Rules of the items of a list, looked at one item after another.
-use Rattle.std.proofs.Common.{◌≡◌, ℕ, ◌+◌, ◌<◌, ◌≤◌, Bool, false, List, ◌++◌, length, drop, get_or, map, ap, ◌∙◌, subst}
+use Rattle.std.proofs.Common.{◌≡◌, ℕ, ◌+◌, ◌<◌, ◌≤◌, Bool, false, List, ◌++◌, length, drop, get_or, map, sym, ap, ◌∙◌, subst, All}
 use Rattle.std.specs.Prelude.{Option, Some, None, Result, IsErrAnd}
-use Rattle.std.proofs.lemmas.List.{get_or_default}
+use Rattle.std.proofs.lemmas.List.{get_or_default, get_or-map, length-map}
 use Rattle.std.proofs.lemmas.Result.{err_from_is_err_and}
 use Rattle.cpn_readings.specs.Rules.{first_broken, each_item, Breaks}
 use Rattle.cpn_readings.proofs.BrokenRules.{broken_later, item_kept, item_broken, items_kept}
@@ -50,3 +50,7 @@ module _ {V A : Type 0} (seen : V → A) (rules : ℕ → A → List Rule) (vs :
 -- the item at a position, whatever stands past the last
 pub at_position : {V : Type 0} (ws : List V) (i : ℕ) (d : V) → i < length ws → get_or ws i d ≡ get_or ws i (get_or ws i d)
 at_position ws i d lt = get_or_default ws i d (get_or ws i d) lt
+
+-- what holds of each item that is seen holds of the one at a position
+pub seen_at : {V A : Type 0} (P : A → Type 0) (seen : V → A) (vs : List V) (i : ℕ) (v : V) → i < length vs → v ≡ get_or vs i v → All P (map seen vs) → P (seen v)
+seen_at P seen vs i v lt at all = subst P (get_or-map seen vs i v (seen v) lt ∙ ap seen (sym at)) (all i (seen v) (subst (λ n. i < n) (sym (length-map vs seen)) lt))

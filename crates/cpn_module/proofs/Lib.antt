@@ -1,7 +1,9 @@
 mod NameNumbers
 mod NamedHierarchy
-mod NumberedRules
-mod NumbersThere
+mod KeptRules
+mod KnownNames
+mod KnownNumbers
+mod FoundPlaces
 mod CheckedItems
 mod NumberLists
 mod PartsOfModules

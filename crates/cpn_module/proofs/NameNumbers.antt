@@ -1,10 +1,10 @@
 -- Names one behind the other: the number of a name among them.
-use Rattle.std.proofs.Common.{◌≡◌, ℕ, suc, ◌+◌, ◌<◌, ◌≤◌, Bool, true, false, ◌||◌, cond, if◌then◌else◌, nat_lt, List, [], ◌∷◌, ◌++◌, length, take, get_or, refl, sym, ap, ◌∙◌, arith}
-use Rattle.std.specs.Prelude.{Option, Some, None, option_map}
+use Rattle.std.proofs.Common.{◌≡◌, ℕ, suc, ◌+◌, ◌<◌, Bool, true, false, ◌||◌, cond, if◌then◌else◌, nat_lt, List, [], ◌∷◌, ◌++◌, length, take, get_or, refl, sym, ap, subst, ◌∙◌, arith}
+use Rattle.std.specs.Prelude.{Option, Some, None, option_map, is_some}
 use Rattle.std.specs.Option.{option_or, unwrap_or}
 use Rattle.std.specs.Borrow.{Bor}
 use Rattle.std.specs.Str.{bytes_eq}
-use Rattle.std.proofs.lemmas.Bool.{lt-ltb, le-ltb}
+use Rattle.std.proofs.lemmas.Bool.{lt-ltb, le-ltb, ltb-true}
 use Rattle.std.proofs.lemmas.Bool.Decides.{nat_tests}
 use Rattle.std.proofs.lemmas.Cmp.{nat_list_eq_equiv}
 use Rattle.std.proofs.lemmas.List.{take_more, map-append, length-map, length-take-le}
@@ -18,15 +18,24 @@ use Rattle.cpn_module.specs.declared.hierarchy.Node.TheVariants as nodes
 
 -- ---- the number of a name, where it is there or not
 
--- where the name is not there, its position is that past the last
-pub number_or_length : (name : List ℕ) (names : List (List ℕ)) → unwrap_or (number_of name names) (length names) ≡ position name names
-number_or_length name [] = refl
-number_or_length name (n ∷ ns) = by (bytes_eq name n) (number_of name ns) (number_or_length name ns)
+-- the number of a name that is there is its position
+pub number_is : (name : List ℕ) (names : List (List ℕ)) → is_one_of name names ≡ true → number_of name names ≡ Some (position name names)
+number_is name [] h = cc
+number_is name (n ∷ ns) h = by (bytes_eq name n) h (number_is name ns)
   where
-    by : (b : Bool) (o : Option ℕ) → unwrap_or o (length ns) ≡ position name ns → unwrap_or (if b then Some 0 else option_map (λ i. suc i) o) (suc (length ns)) ≡ (if b then 0 else suc (position name ns))
+    by : (b : Bool) → (b || is_one_of name ns) ≡ true → (is_one_of name ns ≡ true → number_of name ns ≡ Some (position name ns)) → (if b then Some 0 else option_map (λ i. suc i) (number_of name ns)) ≡ Some (if b then 0 else suc (position name ns))
+    by true h rest = refl
+    by false h rest = ap (option_map (λ i. suc i)) (rest h)
+
+-- a name is there where it has a number
+pub told : (name : List ℕ) (names : List (List ℕ)) → is_some (number_of name names) ≡ is_one_of name names
+told name [] = refl
+told name (n ∷ ns) = by (bytes_eq name n) (number_of name ns) (told name ns)
+  where
+    by : (b : Bool) (o : Option ℕ) → is_some o ≡ is_one_of name ns → is_some (if b then Some 0 else option_map (λ i. suc i) o) ≡ (b || is_one_of name ns)
     by true o h = refl
-    by false None h = ap suc h
-    by false (Some i) h = ap suc h
+    by false None h = h
+    by false (Some i) h = h
 
 -- a name is there where its position is that of one of the names
 pub there_within : (name : List ℕ) (names : List (List ℕ)) → is_one_of name names ≡ nat_lt (position name names) (length names)
@@ -40,13 +49,33 @@ there_within name (n ∷ ns) = by (bytes_eq name n) (there_within name ns)
     by true h = sym (lt-ltb 0 (suc (length ns)) (omega arith))
     by false h = h ∙ next (position name ns) (length ns)
 
-module _ (transitions subs : List (List ℕ)) (name : List ℕ) (number : ℕ) (is : number ≡ position name transitions) where
-  -- a transition has the name, or none has it
-  pub node_there : number < length transitions → node_among transitions subs name ≡ nodes.Transition number
-  node_there lt = rw (there_within name transitions, ← is, lt-ltb number (length transitions) lt) refl
+-- a number that was found is the position, and within
+pub found : (name : List ℕ) (names : List (List ℕ)) (number : ℕ) → number_of name names ≡ Some number → (is_one_of name names ≡ true) × (number ≡ position name names) × (number < length names)
+found name names number h =
+    let there : is_one_of name names ≡ true = sym (told name names) ∙ ap is_some h in
+    let is : Some number ≡ Some (position name names) = sym h ∙ number_is name names there in
+    let same : number ≡ position name names = cc is in
+    (there, same, ltb-true number (length names) (ap (λ n. nat_lt n (length names)) same ∙ sym (there_within name names) ∙ there))
 
-  pub node_else : length transitions ≤ number → node_among transitions subs name ≡ nodes.Substitution (position name subs)
-  node_else le = rw (there_within name transitions, ← is, le-ltb number (length transitions) le) refl
+-- the number of a name that is there is within
+pub number_within : (number : ℕ) (name : List ℕ) (names : List (List ℕ)) (count : ℕ) → number ≡ position name names → is_one_of name names ≡ true → count ≡ length names → number < count
+number_within number name names count is there many =
+    let lt : position name names < length names = ltb-true (position name names) (length names) (sym (there_within name names) ∙ there) in
+    omega (arith, lt, is, many)
+
+-- a transition has the name, or else a substitution transition
+module _ (transitions subs : List (List ℕ)) (name : List ℕ) where
+  no_transition : number_of name transitions ≡ None → is_one_of name transitions ≡ false
+  no_transition h = sym (told name transitions) ∙ ap is_some h
+
+  pub node_there : (number : ℕ) → number_of name transitions ≡ Some number → node_among transitions subs name ≡ nodes.Transition number
+  node_there number h = let at = found name transitions number h in rw (at.0, ← at.1) refl
+
+  pub node_else : number_of name transitions ≡ None → node_among transitions subs name ≡ nodes.Substitution (position name subs)
+  node_else h = rw (no_transition h) refl
+
+  pub sub_there : number_of name transitions ≡ None → (is_one_of name transitions || is_one_of name subs) ≡ true → is_one_of name subs ≡ true
+  sub_there h known = subst (λ b. (b || is_one_of name subs) ≡ true) (no_transition h) known
 
 -- ---- one name more
 
@@ -95,8 +124,6 @@ module _ {S : Type 0} (names : List (Bor (List ℕ))) (i : ℕ) (d : Bor (List �
       by true h = first_there first i (number_of q (texts_of (take i names))) (h refl)
       by false h = as_before (number_of q (texts_of (take i names)))
 
--- the number that a map has, or else how many names there are
-pub number_found : {S : Type 0} (name : List ℕ) (names : List (Bor (List ℕ))) (numbers : IndexMap (Bor (List ℕ)) ℕ S) (count number : ℕ) → Numbers (texts_of names) numbers → count ≡ length names → number ≡ unwrap_or (get_by (λ k. bytes_eq name k.now) numbers) count → number ≡ position name (texts_of names)
-number_found name names numbers count number known many h =
-    let long : length (texts_of names) ≡ length names = length-map names (λ (k : Bor (List ℕ)). k.now) in
-    h ∙ rw (known name, many, ← long) (number_or_length name (texts_of names))
+-- the number that a map has
+pub number_found : {S : Type 0} (name : List ℕ) (names : List (Bor (List ℕ))) (numbers : IndexMap (Bor (List ℕ)) ℕ S) (number : Option ℕ) → Numbers (texts_of names) numbers → number ≡ get_by (λ k. bytes_eq name k.now) numbers → number ≡ number_of name (texts_of names)
+number_found name names numbers number known h = h ∙ known name

@@ -3,9 +3,9 @@ pub mod Hierarchy
 pub mod Submodules
 pub mod Named
 pub mod Names
+pub mod Known
 pub mod Colours
 pub mod ModuleRules
-pub mod NumberRules
 pub mod Checked
 pub mod Ranges
 pub mod Views

@@ -30,49 +30,78 @@ Rule = rules.Rule ModuleRefusal
 abbrev pub rule : Bool → ModuleRefusal → List Rule
 rule kept refusal = record { kept = kept; refusal = refusal } ∷ []
 
--- ---- what the rules are about
+-- ---- names of modules
 
--- rules of each substitution transition of each module, of each arc of each module, of each member of each fusion set, with their
--- numbers
-unfoldable pub each_sub : (ℕ → RawModule → ℕ → RawSub → List Rule) → RawDocument → List Rule
-each_sub of d = each_item (λ m raw. each_item (of m raw) 0 raw.subs) 0 d.modules
+-- the submodule of a substitution transition, given the names of the modules
+abbrev pub submodule_rule : List (List ℕ) → ℕ → ℕ → RawSub → List Rule
+submodule_rule modules m i sub = rule (is_one_of sub.submodule modules) (unknown_module (at_sub m i of_sub.Module))
 
-unfoldable pub each_arc : (ℕ → RawModule → ℕ → RawArc → List Rule) → RawDocument → List Rule
-each_arc of d = each_item (λ m raw. each_item (of m raw) 0 raw.arcs) 0 d.modules
+unfoldable pub submodule_rules : List (List ℕ) → ℕ → RawModule → List Rule
+submodule_rules modules m raw = each_item (submodule_rule modules m) 0 raw.subs
 
-unfoldable pub each_member : (ℕ → RawFusion → ℕ → RawMember → List Rule) → RawDocument → List Rule
-each_member of d = each_item (λ f fusion. each_item (of f fusion) 0 fusion.members) 0 d.fusions
+-- the module of a member of a fusion set
+abbrev pub member_module_rule : List (List ℕ) → ℕ → ℕ → RawMember → List Rule
+member_module_rule modules f k member = rule (is_one_of member.of_module modules) (unknown_module (at_member f k of_member.Module))
 
--- ---- names
+unfoldable pub member_module_rules : List (List ℕ) → ℕ → RawFusion → List Rule
+member_module_rules modules f fusion = each_item (member_module_rule modules f) 0 fusion.members
 
 -- The top module, the submodule of each substitution transition, and the module of each member of a fusion set are there.
 unfoldable pub module_rules : RawDocument → List Rule
 module_rules d =
     rule (is_one_of d.top (module_names d)) (unknown_module at.Top)
-    ++ each_sub (λ m raw i sub. rule (is_one_of sub.submodule (module_names d)) (unknown_module (at_sub m i of_sub.Module))) d
-    ++ each_member (λ f fusion k member. rule (is_one_of member.of_module (module_names d)) (unknown_module (at_member f k of_member.Module))) d
+    ++ each_item (submodule_rules (module_names d)) 0 d.modules
+    ++ each_item (member_module_rules (module_names d)) 0 d.fusions
 
--- an assignment has a port of the submodule and a place of the module
-unfoldable pub assignment_place_rules : RawDocument → ℕ → RawModule → ℕ → RawSub → ℕ → RawAssignment → List Rule
-assignment_place_rules d m raw i sub k a =
+-- ---- names of places
+
+-- the place of an arc, given the names of the places of its module
+abbrev pub arc_place_rule : List (List ℕ) → ℕ → ℕ → RawArc → List Rule
+arc_place_rule places m i arc = rule (is_one_of arc.place places) (unknown_place (at_arc m i of_arc.Place))
+
+unfoldable pub arc_place_rules : List (List ℕ) → ℕ → RawModule → List Rule
+arc_place_rules places m raw = each_item (arc_place_rule places m) 0 raw.arcs
+
+-- an assignment has a port of the submodule and a place of the module, given the names of the places of the module
+unfoldable pub assignment_place_rules : RawDocument → List (List ℕ) → ℕ → ℕ → RawSub → ℕ → RawAssignment → List Rule
+assignment_place_rules d places m i sub k a =
     rule (is_port (module_named d sub.submodule) a.port) (unknown_place (at_assignment m i k of_assignment.Port))
-    ++ rule (is_one_of a.socket (place_names raw)) (unknown_place (at_assignment m i k of_assignment.Socket))
+    ++ rule (is_one_of a.socket places) (unknown_place (at_assignment m i k of_assignment.Socket))
+
+unfoldable pub sub_place_rules : RawDocument → List (List ℕ) → ℕ → ℕ → RawSub → List Rule
+sub_place_rules d places m i sub = each_item (assignment_place_rules d places m i sub) 0 sub.assign
 
 -- the places of arcs and of assignments of a module
 unfoldable pub places_of_module_rules : RawDocument → ℕ → RawModule → List Rule
-places_of_module_rules d m raw =
-    each_item (λ i arc. rule (is_one_of arc.place (place_names raw)) (unknown_place (at_arc m i of_arc.Place))) 0 raw.arcs
-    ++ each_item (λ i sub. each_item (assignment_place_rules d m raw i sub) 0 sub.assign) 0 raw.subs
+places_of_module_rules d m raw = arc_place_rules (place_names raw) m raw ++ each_item (sub_place_rules d (place_names raw) m) 0 raw.subs
+
+-- the place of a member of a fusion set
+abbrev pub member_place_rule : RawDocument → ℕ → ℕ → RawMember → List Rule
+member_place_rule d f k member = rule (is_one_of member.place (place_names (module_named d member.of_module))) (unknown_place (at_member f k of_member.Place))
+
+unfoldable pub member_place_rules : RawDocument → ℕ → RawFusion → List Rule
+member_place_rules d f fusion = each_item (member_place_rule d f) 0 fusion.members
 
 -- The places of arcs, the ports and sockets of assignments, and the places of members of fusion sets are there.
 unfoldable pub place_rules : RawDocument → List Rule
-place_rules d =
-    each_item (places_of_module_rules d) 0 d.modules
-    ++ each_member (λ f fusion k member. rule (is_one_of member.place (place_names (module_named d member.of_module))) (unknown_place (at_member f k of_member.Place))) d
+place_rules d = each_item (places_of_module_rules d) 0 d.modules ++ each_item (member_place_rules d) 0 d.fusions
+
+-- ---- names of transitions
+
+-- the transition of an arc, or its substitution transition, given the names of both in its module
+abbrev pub arc_transition_rule : List (List ℕ) → List (List ℕ) → ℕ → ℕ → RawArc → List Rule
+arc_transition_rule transitions subs m i arc = rule (is_one_of arc.transition transitions || is_one_of arc.transition subs) (unknown_transition (at_arc m i of_arc.Transition))
+
+unfoldable pub arc_transition_rules : List (List ℕ) → List (List ℕ) → ℕ → RawModule → List Rule
+arc_transition_rules transitions subs m raw = each_item (arc_transition_rule transitions subs m) 0 raw.arcs
+
+-- the transitions of the arcs of a module
+abbrev pub transitions_of_module_rules : ℕ → RawModule → List Rule
+transitions_of_module_rules m raw = arc_transition_rules (transition_names raw) (sub_names raw) m raw
 
 -- The transitions of arcs are there, or substitution transitions.
 unfoldable pub transition_rules : RawDocument → List Rule
-transition_rules d = each_arc (λ m raw i arc. rule (is_one_of arc.transition (transition_names raw) || is_one_of arc.transition (sub_names raw)) (unknown_transition (at_arc m i of_arc.Transition))) d
+transition_rules d = each_item transitions_of_module_rules 0 d.modules
 
 -- Everything that is named is there.
 unfoldable pub name_rules : RawDocument → List Rule

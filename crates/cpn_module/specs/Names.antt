@@ -3,9 +3,9 @@ use Rattle.std.specs.Prelude.{◌≡◌, ℕ, suc, if◌then◌else◌, List, []
 use Rattle.std.specs.Borrow.{Bor}
 use Rattle.std.specs.Str.{bytes_eq}
 use Rattle.indexmap.specs.IndexMap.{IndexMap, get_by}
-use Rattle.cpn_document.specs.Document.{RawSub, RawModule, RawMember, RawFusion}
+use Rattle.cpn_document.specs.Document.{RawSub, RawModule, RawMember, RawFusion, RawDocument}
 use Rattle.cpn_module.specs.Hierarchy.{PlainSubstitution, PlainStructure, PlainMember}
-use Rattle.cpn_module.specs.Named.{position, place_names, ends_in, assignment_among}
+use Rattle.cpn_module.specs.Named.{position, module_names, place_names, ends_in, assignment_among}
 
 -- the texts that the program refers to, as lists of bytes
 abbrev pub texts_of : List (Bor (List ℕ)) → List (List ℕ)
@@ -23,6 +23,11 @@ Numbers names numbers = (name : List ℕ) → get_by (λ k. bytes_eq name k.now)
 -- the list of names at a number; past the last there is no name
 abbrev pub names_at : List (List (List ℕ)) → ℕ → List (List ℕ)
 names_at lists m = slice_index_or lists m []
+
+-- The names of the modules of a document, and those of the places of each.
+pub record AreNamesOf (d : RawDocument) (modules : List (List ℕ)) (places : List (List (List ℕ))) : Type 0 where
+  pub modules_are : modules ≡ module_names d
+  pub places_are : places ≡ map place_names d.modules
 
 -- everything by its number, given the names of the modules and those of the places of each module
 abbrev pub substitution_among : List (List ℕ) → List (List (List ℕ)) → List (List ℕ) → RawSub → PlainSubstitution

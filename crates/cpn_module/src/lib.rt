@@ -17,9 +17,9 @@ mod numbered;
 mod pairs;
 mod pointing;
 mod ports;
-mod ranges;
 mod refusals;
 mod sockets;
+mod unknown;
 
 pub use checking::check_hierarchy;
 pub use hierarchy::{

@@ -1,9 +1,11 @@
 //! Lists of names, and the numbers of names in them.
 
 ghost use Rattle.std.specs.Prelude.{◌≡◌, ◌<◌, length, map, IfOk};
+ghost use Rattle.cpn_document.specs.Parts.{is_one_of};
 ghost use Rattle.cpn_document.specs.Views.{module_view, place_view, transition_view, sub_view};
 ghost use Rattle.cpn_module.specs.Named.{position, place_names as names_of_places};
-ghost use Rattle.cpn_module.specs.Names.{texts_of as bytes_of, names_at, Numbers};
+ghost use Rattle.cpn_module.specs.Names.{texts_of as bytes_of, number_of, names_at, Numbers};
+ghost use Rattle.cpn_module.specs.Known.{IsKnown};
 
 use cpn_document::{Module, Place, Sub, Transition};
 use indexmap::IndexMap;
@@ -96,18 +98,26 @@ impl<'n> Names<'n> {
         Names::of(alloc, names)
     }
 
-    /// How many names there are.
-    pub(crate) fn len(&self) -> usize
-        ensures number { result ≡ length self.now }
+    /// The number of a name, where it is there.
+    pub(crate) fn number(&self, name: &str) -> Option<usize>
+        ensures number { result ≡ number_of name.now self.now }
     {
-        self.names.len()
+        self.numbers.get(name).copied()
     }
 
-    /// The number of a name; that past the last, where it is not there.
-    pub(crate) fn number(&self, name: &str) -> usize
+    /// Whether a name is there.
+    pub(crate) fn has(&self, name: &str) -> bool
+        ensures tells { result ≡ is_one_of name.now self.now }
+    {
+        self.number(name).is_some()
+    }
+
+    /// The number of a name that is there.
+    pub(crate) fn number_there(&self, name: &str) -> usize
+        requires there { IsKnown name.now self.now }
         ensures number { result ≡ position name.now self.now }
     {
-        self.numbers.get(name).copied().unwrap_or(self.names.len())
+        self.number(name).unwrap()
     }
 }
 
@@ -141,13 +151,12 @@ impl<'d> DocumentNames<'d> {
         })
     }
 
-    /// The number of a place of a module, by the module's number.
+    /// The number of a place that is there, by the number of its module and its name.
     pub(crate) fn place(&self, of_module: usize, name: &str) -> usize
+        requires in_range { of_module < length self.now.places.items }
+        requires there { IsKnown name.now (names_at self.now.places.items of_module) }
         ensures number { result ≡ position name.now (names_at self.now.places.items of_module) }
     {
-        match self.places.get(of_module) {
-            Some(names) => names.number(name),
-            None => 0,
-        }
+        self.places[of_module].number_there(name)
     }
 }

@@ -9,9 +9,10 @@ ghost use Rattle.cpn_module.specs.Views.{hierarchy_view};
 ghost use Rattle.cpn_module.specs.Answers.{Checks};
 
 use crate::hierarchy::Hierarchy;
+use crate::name_lists::DocumentNames;
 use crate::numbered::hierarchy_of;
-use crate::ranges::check_numbers;
 use crate::refusals::ModuleError;
+use crate::unknown::check_names;
 use cpn_document::Document;
 use std::alloc::Global;
 
@@ -21,7 +22,8 @@ pub(crate) fn named(alloc: Global, document: &Document) -> Result<Hierarchy, Mod
     ensures named { IfOk result (λ hierarchy. hierarchy_view hierarchy ≡ hierarchy_in (document_view document.now)) }
     ensures numbers { IfOk result (λ hierarchy. HasItsNumbers (hierarchy_view hierarchy)) }
 {
-    let hierarchy = hierarchy_of(alloc, document)?;
-    check_numbers(&hierarchy)?;
+    let names = DocumentNames::of(alloc, document.modules.as_slice())?;
+    check_names(alloc, document, &names)?;
+    let hierarchy = hierarchy_of(alloc, document, &names)?;
     Ok(hierarchy)
 }

@@ -1,9 +1,10 @@
 //! Everything that the names of a document name, by its number.
 
-ghost use Rattle.std.specs.Prelude.{◌≡◌, map, IfOk};
+ghost use Rattle.std.specs.Prelude.{◌≡◌, ◌<◌, length, map, All, IfOk};
 ghost use Rattle.cpn_document.specs.Views.{place_view, arc_view, assignment_view, sub_view, module_view, member_view, fusion_view, document_view};
-ghost use Rattle.cpn_module.specs.Named.{place_names, node_among, ends_among, ends_in, assignment_among, hierarchy_in};
-ghost use Rattle.cpn_module.specs.Names.{names_at, substitution_among, structure_among, member_among, fusion_among};
+ghost use Rattle.cpn_module.specs.Named.{place_names, transition_names, sub_names, node_among, ends_among, ends_in, assignment_among, hierarchy_in};
+ghost use Rattle.cpn_module.specs.Names.{AreNamesOf, names_at, substitution_among, structure_among, member_among, fusion_among};
+ghost use Rattle.cpn_module.specs.Known.{IsKnownNode, IsKnownArc, IsKnownAssignment, IsKnownSub, IsKnownModule, IsKnownMember, IsKnownFusion, AreKnown};
 ghost use Rattle.cpn_module.specs.Views.{ends_view, assigned_view, substitution_view, structure_view, fused_view, fusion_set_view, hierarchy_view};
 
 use crate::hierarchy::{
@@ -26,13 +27,12 @@ fn ports_of(alloc: Global, places: &[Place]) -> Result<Vec<Option<PortType>>, Al
 
 /// The transition of a name, or else the substitution transition.
 fn node_of(transitions: &Names, subs: &Names, name: &str) -> Node
+    requires there { IsKnownNode name.now transitions.now subs.now }
     ensures exact { result ≡ node_among transitions.now subs.now name.now }
 {
-    let number = transitions.number(name);
-    if number < transitions.len() {
-        Node::Transition(number)
-    } else {
-        Node::Substitution(subs.number(name))
+    match transitions.number(name) {
+        Some(number) => Node::Transition(number),
+        None => Node::Substitution(subs.number_there(name)),
     }
 }
 
@@ -44,12 +44,13 @@ fn ends_of(
     subs: &Names,
     arcs: &[Arc],
 ) -> Result<Vec<Ends>, AllocError>
+    requires known { All (IsKnownArc places.now transitions.now subs.now) (map arc_view arcs.now) }
     ensures ends { IfOk result (λ ends. map ends_view ends.items ≡ map (ends_among places.now transitions.now subs.now) (map arc_view arcs.now)) }
 {
     let mut ends = Vec::with_capacity(alloc, arcs.len())?;
     for arc in arcs {
         ends.push(Ends {
-            place: places.number(arc.place.as_str()),
+            place: places.number_there(arc.place.as_str()),
             node: node_of(transitions, subs, arc.transition.as_str()),
             way: arc.way,
         })?;
@@ -60,6 +61,7 @@ fn ends_of(
 /// The arcs of a module.
 fn arcs_of(alloc: Global, places: &Names, module: &Module) -> Result<Vec<Ends>, AllocError>
     requires places { places.now ≡ place_names (module_view module.now) }
+    requires known { All (IsKnownArc (place_names (module_view module.now)) (transition_names (module_view module.now)) (sub_names (module_view module.now))) (module_view module.now).arcs }
     ensures ends { IfOk result (λ ends. map ends_view ends.items ≡ map (ends_in (module_view module.now)) (map arc_view module.now.arcs.items)) }
 {
     let transitions = Names::of_transitions(alloc, module.transitions.as_slice())?;
@@ -76,13 +78,15 @@ fn assigned_of(
     sockets: &Names,
     assign: &[Assignment],
 ) -> Result<Vec<Assigned>, AllocError>
+    requires in_range { submodule < length names.now.places.items }
+    requires known { All (IsKnownAssignment sockets.now (names_at names.now.places.items submodule)) (map assignment_view assign.now) }
     ensures assigned { IfOk result (λ assigned. map assigned_view assigned.items ≡ map (assignment_among sockets.now (names_at names.now.places.items submodule)) (map assignment_view assign.now)) }
 {
     let mut assigned = Vec::with_capacity(alloc, assign.len())?;
     for assignment in assign {
         assigned.push(Assigned {
             port: names.place(submodule, assignment.port.as_str()),
-            socket: sockets.number(assignment.socket.as_str()),
+            socket: sockets.number_there(assignment.socket.as_str()),
         })?;
     }
     Ok(assigned)
@@ -95,11 +99,13 @@ fn substitutions_of(
     sockets: &Names,
     subs: &[Sub],
 ) -> Result<Vec<Substitution>, AllocError>
+    requires many { length names.now.places.items ≡ length names.now.modules }
+    requires known { All (IsKnownSub names.now.modules names.now.places.items sockets.now) (map sub_view subs.now) }
     ensures substitutions { IfOk result (λ substitutions. map substitution_view substitutions.items ≡ map (substitution_among names.now.modules names.now.places.items sockets.now) (map sub_view subs.now)) }
 {
     let mut substitutions = Vec::with_capacity(alloc, subs.len())?;
     for sub in subs {
-        let submodule = names.modules.number(sub.submodule.as_str());
+        let submodule = names.modules.number_there(sub.submodule.as_str());
         let assignments = assigned_of(alloc, names, submodule, sockets, sub.assign.as_slice())?;
         substitutions.push(Substitution {
             submodule,
@@ -117,6 +123,8 @@ fn structure_of(
     module: &Module,
 ) -> Result<Structure, AllocError>
     requires places { places.now ≡ place_names (module_view module.now) }
+    requires many { length names.now.places.items ≡ length names.now.modules }
+    requires known { IsKnownModule names.now.modules names.now.places.items (module_view module.now) }
     ensures structure { IfOk result (λ structure. structure_view structure ≡ structure_among names.now.modules names.now.places.items (module_view module.now)) }
 {
     Ok(Structure {
@@ -134,6 +142,8 @@ fn structures_of(
     modules: &[Module],
 ) -> Result<Vec<Structure>, AllocError>
     requires places { names.now.places.items ≡ map place_names (map module_view modules.now) }
+    requires many { length names.now.places.items ≡ length names.now.modules }
+    requires known { All (IsKnownModule names.now.modules names.now.places.items) (map module_view modules.now) }
     ensures structures { IfOk result (λ structures. map structure_view structures.items ≡ map (structure_among names.now.modules names.now.places.items) (map module_view modules.now)) }
 {
     let mut structures = Vec::with_capacity(alloc, modules.len())?;
@@ -150,11 +160,13 @@ fn members_of(
     names: &DocumentNames,
     members: &[Member],
 ) -> Result<Vec<FusedPlace>, AllocError>
+    requires many { length names.now.places.items ≡ length names.now.modules }
+    requires known { All (IsKnownMember names.now.modules names.now.places.items) (map member_view members.now) }
     ensures members { IfOk result (λ fused. map fused_view fused.items ≡ map (member_among names.now.modules names.now.places.items) (map member_view members.now)) }
 {
     let mut fused = Vec::with_capacity(alloc, members.len())?;
     for member in members {
-        let of_module = names.modules.number(member.module.as_str());
+        let of_module = names.modules.number_there(member.module.as_str());
         let place = names.place(of_module, member.place.as_str());
         fused.push(FusedPlace { of_module, place })?;
     }
@@ -167,6 +179,8 @@ fn fusions_of(
     names: &DocumentNames,
     fusions: &[Fusion],
 ) -> Result<Vec<FusionSet>, AllocError>
+    requires many { length names.now.places.items ≡ length names.now.modules }
+    requires known { All (IsKnownFusion names.now.modules names.now.places.items) (map fusion_view fusions.now) }
     ensures fusions { IfOk result (λ sets. map fusion_set_view sets.items ≡ map (fusion_among names.now.modules names.now.places.items) (map fusion_view fusions.now)) }
 {
     let mut sets = Vec::with_capacity(alloc, fusions.len())?;
@@ -177,15 +191,20 @@ fn fusions_of(
     Ok(sets)
 }
 
-/// The hierarchy that a document names. What no name names has the number past the last.
-pub(crate) fn hierarchy_of(alloc: Global, document: &Document) -> Result<Hierarchy, AllocError>
+/// The hierarchy that a document names, given the names of its modules and of their places.
+pub(crate) fn hierarchy_of(
+    alloc: Global,
+    document: &Document,
+    names: &DocumentNames,
+) -> Result<Hierarchy, AllocError>
+    requires names { AreNamesOf (document_view document.now) names.now.modules names.now.places.items }
+    requires known { AreKnown names.now.modules names.now.places.items (document_view document.now) }
     ensures named { IfOk result (λ hierarchy. hierarchy_view hierarchy ≡ hierarchy_in (document_view document.now)) }
 {
-    let names = DocumentNames::of(alloc, document.modules.as_slice())?;
-    let modules = structures_of(alloc, &names, document.modules.as_slice())?;
-    let fusions = fusions_of(alloc, &names, document.fusions.as_slice())?;
+    let modules = structures_of(alloc, names, document.modules.as_slice())?;
+    let fusions = fusions_of(alloc, names, document.fusions.as_slice())?;
     Ok(Hierarchy {
-        top: names.modules.number(document.top.as_str()),
+        top: names.modules.number_there(document.top.as_str()),
         modules,
         fusions,
     })

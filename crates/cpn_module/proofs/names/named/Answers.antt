@@ -1,16 +1,22 @@
--- The rules of names are those of the numbers that they name.
+-- The names are those of the document, and the rules that are kept are that each is known.
+use Rattle.std.proofs.Common.{rules}
 use Rattle.cpn_document.specs.Views.{document_view}
-use Rattle.cpn_module.specs.Views.{hierarchy_view}
-use Rattle.cpn_module.proofs.NumberedRules.{rules_same}
-use Rattle.cpn_module.proofs.NumbersThere.{numbers_there}
-use Rattle.cpn_module.proofs.CheckedItems.{passed_on}
+use Rattle.cpn_module.proofs.KnownNames.{are_known}
+use Rattle.cpn_module.proofs.KnownNumbers.{known_numbered}
 use Rattle.cpn_module.proofs.names.named.Goals as goal
 
-pub returns-in_err-check_numbers-clause-checks : goal.returns-in_err-check_numbers-clause-checks
-returns-in_err-check_numbers-clause-checks c = passed_on _ _ c.in_err-check_numbers.field-0.0 c.from_residual-in_err-check_numbers.ensures.1 (rw (rules_same (document_view c.args.document.now), ← c.in_ok-hierarchy.ensures.named) c.in_err-check_numbers.ensures.checks)
+pub check_names-requires : goal.check_names-requires
+check_names-requires c = record { names = record { modules_are = search rules; places_are = search rules } }
 
-pub returns-clause-checks : goal.returns-clause-checks
-returns-clause-checks c = rw (rules_same (document_view c.args.document.now), ← c.in_ok-hierarchy.ensures.named) c.in_ok-check_numbers.ensures.checks
+pub hierarchy_of-requires : goal.hierarchy_of-requires
+hierarchy_of-requires c = record {
+  names = record { modules_are = search rules; places_are = search rules };
+  known =
+      let d = document_view c.args.document.now in
+      rw (c.in_ok-names.ensures.modules, c.in_ok-names.ensures.places, c.as_slice.ensures.value) (are_known d c.in_ok-check_names.ensures.checks);
+}
 
 pub returns-clause-numbers : goal.returns-clause-numbers
-returns-clause-numbers c = numbers_there (hierarchy_view c.in_ok-hierarchy.hierarchy) c.in_ok-check_numbers.ensures.checks
+returns-clause-numbers c =
+    let d = document_view c.args.document.now in
+    rw c.in_ok-hierarchy.ensures.named (known_numbered d (are_known d c.in_ok-check_names.ensures.checks))

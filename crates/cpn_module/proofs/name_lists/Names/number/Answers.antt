@@ -5,5 +5,5 @@ use Rattle.cpn_module.proofs.name_lists.Names.number.Goals as goal
 
 pub returns : goal.returns
 returns c = record {
-  number = rw (← c.self.view_is) (number_found c.args.name.now c.self.inside.names.items c.self.inside.numbers c.len.result c.unwrap_or.result c.self.invariant (search rules) (search rules));
+  number = rw (← c.self.view_is) (number_found c.args.name.now c.self.inside.names.items c.self.inside.numbers c.copied.result c.self.invariant (search rules));
 }
