@@ -54,3 +54,9 @@ at_position ws i d lt = get_or_default ws i d (get_or ws i d) lt
 -- what holds of each item that is seen holds of the one at a position
 pub seen_at : {V A : Type 0} (P : A → Type 0) (seen : V → A) (vs : List V) (i : ℕ) (v : V) → i < length vs → v ≡ get_or vs i v → All P (map seen vs) → P (seen v)
 seen_at P seen vs i v lt at all = subst P (get_or-map seen vs i v (seen v) lt ∙ ap seen (sym at)) (all i (seen v) (subst (λ n. i < n) (sym (length-map vs seen)) lt))
+
+-- an item of a list, as it is seen in another list that is the same
+pub seen_in : {V A : Type 0} (seen : V → A) (vs ws : List V) → ws ≡ vs → (i : ℕ) (v : V) → i < length ws → v ≡ get_or ws i v → (i < length (map seen vs)) × (seen v ≡ get_or (map seen vs) i (seen v))
+seen_in seen vs ws same i v lt at =
+    let in_vs : i < length vs = subst (λ xs. i < length xs) same lt in
+    (subst (λ n. i < n) (sym (length-map vs seen)) in_vs, ap seen (at ∙ ap (λ xs. get_or xs i v) same) ∙ sym (get_or-map seen vs i v (seen v) in_vs))

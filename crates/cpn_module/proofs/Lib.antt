@@ -4,6 +4,7 @@ mod KeptRules
 mod KnownNames
 mod KnownNumbers
 mod FoundPlaces
+mod NumberedPlaces
 mod CheckedItems
 mod NumberLists
 mod PartsOfModules

@@ -4,6 +4,7 @@ pub mod Submodules
 pub mod Named
 pub mod Names
 pub mod Known
+pub mod PlacesAt
 pub mod Colours
 pub mod ModuleRules
 pub mod Checked

@@ -1,10 +1,11 @@
 //! What a document is checked as.
 
-ghost use Rattle.std.specs.Prelude.{IfOk, IfErr};
+ghost use Rattle.std.specs.Prelude.{◌≡◌, IfOk, IfErr};
 ghost use Rattle.cpn_readings.specs.Relations.{RefusesBy, HasOne};
 ghost use Rattle.cpn_declared.specs.DeclsViews.{decls_view};
 ghost use Rattle.cpn_document.specs.Views.{document_view};
 ghost use Rattle.cpn_module.specs.Hierarchy.{IsAcyclic};
+ghost use Rattle.cpn_module.specs.Named.{hierarchy_in};
 ghost use Rattle.cpn_module.specs.ModuleRules.{relation_rules};
 ghost use Rattle.cpn_module.specs.Checked.{read, IsChecked};
 ghost use Rattle.cpn_module.specs.Ranges.{HasItsNumbers};
@@ -30,6 +31,8 @@ fn check_relations(
     decls: &Decls,
     hierarchy: &Hierarchy,
 ) -> Result<(), ModuleError>
+    requires named { hierarchy_view hierarchy.now ≡ hierarchy_in (document_view document.now) }
+    requires numbers { HasItsNumbers (hierarchy_view hierarchy.now) }
     ensures checks { Checks result (relation_rules (decls_view decls.now) (document_view document.now) (hierarchy_view hierarchy.now)) }
 {
     check_sockets(alloc, hierarchy)?;

@@ -1,6 +1,6 @@
 //! Colour sets that agree: of sockets and ports, and of the members of fusion sets.
 
-ghost use Rattle.std.specs.Prelude.{◌≡◌, map};
+ghost use Rattle.std.specs.Prelude.{◌≡◌, map, All};
 ghost use Rattle.cpn_readings.specs.Rules.{each_item};
 ghost use Rattle.cpn_declared.specs.DeclsViews.{decls_view};
 ghost use Rattle.cpn_document.specs.Views.{document_view};
@@ -8,6 +8,9 @@ ghost use Rattle.cpn_module.specs.Answers.{Checks};
 ghost use Rattle.cpn_module.specs.ModuleRules.{colour_rules, sub_colour_rules, structure_colour_rules, fusion_colour_rules, colour_name as colour_of, agrees_with_first as agrees_with_the_first};
 ghost use Rattle.cpn_module.specs.Views.{substitution_view, structure_view, fused_view, fusion_set_view, hierarchy_view};
 ghost use Rattle.cpn_module.specs.Colours.{colours_agree as names_agree};
+ghost use Rattle.cpn_module.specs.Named.{hierarchy_in};
+ghost use Rattle.cpn_module.specs.Ranges.{HasItsNumbers};
+ghost use Rattle.cpn_module.specs.PlacesAt.{IsPlaceAt, IsMemberAt, AreAssignedAt, HasPlacesAt};
 
 use crate::hierarchy::{FusedPlace, FusionSet, Hierarchy, Structure, Substitution};
 use crate::pointing::{at_assignment, at_member};
@@ -34,15 +37,10 @@ fn colours_agree(decls: &Decls, name: &str, other: &str) -> bool
 
 /// The name of the colour set of a place of a module, by their numbers.
 fn colour_name(document: &Document, of_module: usize, place: usize) -> &str
+    requires there { IsPlaceAt (document_view document.now) of_module place }
     ensures exact { result.now ≡ colour_of (document_view document.now) of_module place }
 {
-    match document.modules.get(of_module) {
-        None => "",
-        Some(found) => match found.places.get(place) {
-            None => "",
-            Some(there) => there.colour.as_str(),
-        },
-    }
+    document.modules[of_module].places[place].colour.as_str()
 }
 
 /// Checks a substitution transition, by the numbers of its module and its own.
@@ -53,6 +51,7 @@ fn check_substitution(
     in_sub: usize,
     substitution: &Substitution,
 ) -> Result<(), ModuleError>
+    requires there { All (AreAssignedAt (document_view document.now) in_module (substitution_view substitution.now)) (substitution_view substitution.now).assignments }
     ensures checks { Checks result (sub_colour_rules (decls_view decls.now) (document_view document.now) in_module in_sub (substitution_view substitution.now)) }
 {
     let assignments = substitution.assignments.as_slice();
@@ -74,6 +73,7 @@ fn check_structure(
     in_module: usize,
     structure: &Structure,
 ) -> Result<(), ModuleError>
+    requires there { All (HasPlacesAt (document_view document.now) in_module) (structure_view structure.now).substitutions }
     ensures checks { Checks result (structure_colour_rules (decls_view decls.now) (document_view document.now) in_module (structure_view structure.now)) }
 {
     let substitutions = structure.substitutions.as_slice();
@@ -89,6 +89,8 @@ fn check_structures(
     decls: &Decls,
     hierarchy: &Hierarchy,
 ) -> Result<(), ModuleError>
+    requires named { hierarchy_view hierarchy.now ≡ hierarchy_in (document_view document.now) }
+    requires numbers { HasItsNumbers (hierarchy_view hierarchy.now) }
     ensures checks { Checks result (each_item (structure_colour_rules (decls_view decls.now) (document_view document.now)) 0 (hierarchy_view hierarchy.now).modules) }
 {
     let modules = hierarchy.modules.as_slice();
@@ -105,6 +107,8 @@ fn agrees_with_first(
     member: FusedPlace,
     members: &[FusedPlace],
 ) -> bool
+    requires there { All (IsMemberAt (document_view document.now)) (map fused_view members.now) }
+    requires member { IsMemberAt (document_view document.now) (fused_view member) }
     ensures exact { result ≡ agrees_with_the_first (decls_view decls.now) (document_view document.now) (fused_view member) (map fused_view members.now) }
 {
     match members.first() {
@@ -124,6 +128,7 @@ fn check_fusion(
     in_fusion: usize,
     fusion: &FusionSet,
 ) -> Result<(), ModuleError>
+    requires there { All (IsMemberAt (document_view document.now)) (fusion_set_view fusion.now) }
     ensures checks { Checks result (fusion_colour_rules (decls_view decls.now) (document_view document.now) in_fusion (fusion_set_view fusion.now)) }
 {
     let members = fusion.members.as_slice();
@@ -142,6 +147,8 @@ fn check_fusions(
     decls: &Decls,
     hierarchy: &Hierarchy,
 ) -> Result<(), ModuleError>
+    requires named { hierarchy_view hierarchy.now ≡ hierarchy_in (document_view document.now) }
+    requires numbers { HasItsNumbers (hierarchy_view hierarchy.now) }
     ensures checks { Checks result (each_item (fusion_colour_rules (decls_view decls.now) (document_view document.now)) 0 (hierarchy_view hierarchy.now).fusions) }
 {
     let fusions = hierarchy.fusions.as_slice();
@@ -159,6 +166,8 @@ pub(crate) fn check_colours(
     decls: &Decls,
     hierarchy: &Hierarchy,
 ) -> Result<(), ModuleError>
+    requires named { hierarchy_view hierarchy.now ≡ hierarchy_in (document_view document.now) }
+    requires numbers { HasItsNumbers (hierarchy_view hierarchy.now) }
     ensures checks { Checks result (colour_rules (decls_view decls.now) (document_view document.now) (hierarchy_view hierarchy.now)) }
 {
     check_structures(document, decls, hierarchy)?;

@@ -2,10 +2,16 @@
 use Rattle.std.proofs.Common.{◌∙◌, arith}
 use Rattle.std.proofs.lemmas.Result.{err_from_is_err_and}
 use Rattle.cpn_readings.proofs.BrokenRules.{item_kept, item_broken, items_kept}
+use Rattle.cpn_document.specs.Views.{document_view}
 use Rattle.cpn_module.specs.Answers.{refusal_of}
 use Rattle.cpn_module.specs.Views.{substitution_view}
 use Rattle.cpn_module.proofs.ColourRules.{at_slice}
+use Rattle.cpn_module.specs.PlacesAt.{HasPlacesAt}
+use Rattle.cpn_module.proofs.CheckedItems.{seen_at}
 use Rattle.cpn_module.proofs.colours.check_structure.Goals as goal
+
+pub check_substitution-requires : goal.check_substitution-requires
+check_substitution-requires c = record { there = seen_at (HasPlacesAt (document_view c.args.document.now) c.args.in_module) substitution_view c.as_slice-substitutions.result.now c.loop-number.number c.index-substitutions-number.result c.loop-number-test.true c.index-substitutions-number.is (rw c.as_slice-substitutions.ensures.value c.requires.there) }
 
 pub returns-in_err-check_substitution : goal.returns-in_err-check_substitution
 returns-in_err-check_substitution c = record {

@@ -1,11 +1,20 @@
 -- The next assignment has colour sets that agree, or breaks its rule.
-use Rattle.std.proofs.Common.{◌∙◌, arith}
+use Rattle.std.proofs.Common.{◌∙◌, get_or, arith}
 use Rattle.cpn_readings.proofs.BrokenRules.{items_kept}
 use Rattle.cpn_declared.specs.DeclsViews.{decls_view}
-use Rattle.cpn_module.specs.Views.{assigned_view}
+use Rattle.cpn_document.specs.Views.{document_view}
+use Rattle.cpn_module.specs.Views.{assigned_view, substitution_view}
 use Rattle.cpn_module.proofs.ColourRules.{read_kept, read_broken, found_agree, at_slice}
 use Rattle.cpn_module.proofs.OneRule.{rule_kept, rule_broken}
+use Rattle.cpn_module.specs.PlacesAt.{AreAssignedAt}
+use Rattle.cpn_module.proofs.CheckedItems.{seen_at, at_position}
 use Rattle.cpn_module.proofs.colours.check_substitution.Goals as goal
+
+pub colour_name-socket-requires : goal.colour_name-socket-requires
+colour_name-socket-requires c = record { there = (seen_at (AreAssignedAt (document_view c.args.document.now) c.args.in_module (substitution_view c.args.substitution.now)) assigned_view c.as_slice-assignments.result.now c.loop-number.number (get_or c.as_slice-assignments.result.now c.loop-number.number (record { port = 0; socket = 0 })) (omega arith) (at_position c.as_slice-assignments.result.now c.loop-number.number (record { port = 0; socket = 0 }) (omega arith)) (rw c.as_slice-assignments.ensures.value c.requires.there)).socket }
+
+pub colour_name-port-requires : goal.colour_name-port-requires
+colour_name-port-requires c = record { there = (seen_at (AreAssignedAt (document_view c.args.document.now) c.args.in_module (substitution_view c.args.substitution.now)) assigned_view c.as_slice-assignments.result.now c.loop-number.number (get_or c.as_slice-assignments.result.now c.loop-number.number (record { port = 0; socket = 0 })) (omega arith) (at_position c.as_slice-assignments.result.now c.loop-number.number (record { port = 0; socket = 0 }) (omega arith)) (rw c.as_slice-assignments.ensures.value c.requires.there)).port }
 
 pub returns-then-not-colours_agree : goal.returns-then-not-colours_agree
 returns-then-not-colours_agree c =
