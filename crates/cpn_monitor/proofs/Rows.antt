@@ -1,6 +1,7 @@
 -- Worked cases of monitors: a run of three occurrences, from clock 3 to clock 9. Two tokens stand on place 0; an occurrence of transition 0
 -- moves one of them to place 1, one of transition 1 takes it from there.
 use Rattle.std.proofs.Common.{◌≡◌, ℕ, pos, negsuc, List, [], ◌∷◌, Some, None, refl}
+use Rattle.std.specs.Prelude.{codes}
 use Rattle.cpn_definitions.specs.Inscription.{PlainExpr, Functions, literal, variable, apply, operation, calling, division, subtraction, more_exprs, no_exprs}
 use Rattle.cpn_definitions.specs.Marking.{Tokens, Marking, token_at}
 use Rattle.cpn_definitions.specs.Value.{PlainValue, int}
@@ -49,15 +50,15 @@ one_occurrence : measured ten run (counts 1) ≡ counted 1
 one_occurrence = refl
 
 -- Place 0 has 2 tokens for no time, 1 from 3 to 5, again 1 for no time, and 0 from 5 to 9.
-emptied_place : measured ten run (sizes 0) ≡ sized 0 2 0 2
+emptied_place : measured ten run (sizes 0) ≡ sized 0 2 0 2 9
 emptied_place = refl
 
 -- Place 1 has 0 tokens for no time, 1 from 3 to 5, 0 for no time, and 1 from 5 to 9.
-filled_place : measured ten run (sizes 1) ≡ sized 0 1 1 6
+filled_place : measured ten run (sizes 1) ≡ sized 0 1 1 6 9
 filled_place = refl
 
 -- with no occurrence, the start alone counts: 2 tokens from 3 to 9
-nothing_occurs : measured ten (record run { steps = [] }) (sizes 0) ≡ sized 2 2 2 12
+nothing_occurs : measured ten (record run { steps = [] }) (sizes 0) ≡ sized 2 2 2 12 9
 nothing_occurs = refl
 
 -- 10 div 5 is 2, and 10 div 0 a fault, which is counted apart
@@ -79,9 +80,9 @@ last_size : measured ten run (stops_by_size 1 at_most 0) ≡ sized_to_stop 1
 last_size = refl
 
 abbrev monitor : PlainMeasure → PlainMonitor
-monitor measure = record { name = []; measure = measure }
+monitor measure = record { name = codes "m"; measure = measure }
 
-in_their_order : values_of ten (monitor (counts 1) ∷ monitor (counts 0) ∷ []) run ≡ counted 1 ∷ counted 2 ∷ []
+in_their_order : values_of ten (record { name = codes "first"; measure = counts 1 } ∷ monitor (counts 0) ∷ []) run ≡ record { name = codes "first"; measured = counted 1 } ∷ record { name = codes "m"; measured = counted 2 } ∷ []
 in_their_order = refl
 
 -- ---- which monitor stops the run
@@ -96,6 +97,17 @@ second_time = refl
 -- it has occurred once after the second occurrence, too, but that is one of transition 1
 of_another_transition : stop_after (monitor (stops_by_count 0 1) ∷ []) steps 1 ≡ None
 of_another_transition = refl
+
+-- it stops at the first occurrence alone, and not again after it has occurred more often
+not_again : stop_after (monitor (stops_by_count 0 1) ∷ []) steps 2 ≡ None
+not_again = refl
+
+-- place 0 has 1, 1 and 0 tokens after the occurrences: more than 0, and fewer than 1
+more_than_at_least : stop_after (monitor (stops_by_size 0 at_least 0) ∷ []) steps 0 ≡ Some 0
+more_than_at_least = refl
+
+fewer_than_at_most : stop_after (monitor (stops_by_size 0 at_most 1) ∷ []) steps 2 ≡ Some 0
+fewer_than_at_most = refl
 
 -- place 1 has 1, 0 and 1 tokens after the occurrences
 at_least_one : stop_after (monitor (stops_by_size 1 at_least 1) ∷ []) steps 0 ≡ Some 0

@@ -11,11 +11,11 @@ use Rattle.cpn_definitions.specs.Value.{PlainValue, unit, boolean, int, constant
 use Rattle.cpn_monitor.specs.Monitors.{PlainMonitor, PlainMeasure, counts, sizes, values, stops_by_count, stops_by_size}
 use Rattle.cpn_monitor.specs.Steps.{PlainStep, MeasuredRun, steps_of, binding_in, TimedSize, sizes_over_time}
 
--- What a monitor measured: how often; the least, the greatest and the last size with the sum over time; how many values with their sum,
+-- What a monitor measured: how often; the least, the greatest and the last size, with the sum over time and the time up to which it counts; how many values with their sum,
 -- the least and the greatest of them, and how many faults; how often, until it stopped; the last size.
 pub data PlainMeasured : Type 0 where
   counted : ℕ → PlainMeasured
-  sized : ℕ → ℕ → ℕ → ℕ → PlainMeasured
+  sized : ℕ → ℕ → ℕ → ℕ → ℕ → PlainMeasured
   valued : ℕ → ℤ → Option ℤ → Option ℤ → ℕ → PlainMeasured
   counted_to_stop : ℕ → PlainMeasured
   sized_to_stop : ℕ → PlainMeasured
@@ -96,11 +96,16 @@ values_among outcomes =
 -- What a monitor measures of a run, where its inscription may call the functions.
 abbrev pub measured : Functions → MeasuredRun → PlainMeasure → PlainMeasured
 measured funs run (counts t) = counted (count_of t run.steps)
-measured funs run (sizes p) = sized (least_of (size_list p run)) (greatest_of (size_list p run)) (last_of (size_list p run)) (sum_until run.last_clock (sizes_over_time p run))
+measured funs run (sizes p) = sized (least_of (size_list p run)) (greatest_of (size_list p run)) (last_of (size_list p run)) (sum_until run.last_clock (sizes_over_time p run)) run.last_clock
 measured funs run (values t e) = values_among (outcomes_of funs t e run.steps)
 measured funs run (stops_by_count t n) = counted_to_stop (count_of t run.steps)
 measured funs run (stops_by_size p bound n) = sized_to_stop (last_of (size_list p run))
 
--- The values of monitors, in their order.
-abbrev pub values_of : Functions → List PlainMonitor → MeasuredRun → List PlainMeasured
-values_of funs monitors run = map (λ monitor. measured funs run monitor.measure) monitors
+-- What the monitor of a name measured.
+pub record PlainMonitorValue : Type 0 where
+  pub name : List ℕ
+  pub measured : PlainMeasured
+
+-- The values of monitors, in their order, each under its name.
+abbrev pub values_of : Functions → List PlainMonitor → MeasuredRun → List PlainMonitorValue
+values_of funs monitors run = map (λ monitor. record { name = monitor.name; measured = measured funs run monitor.measure }) monitors

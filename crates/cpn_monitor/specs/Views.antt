@@ -2,7 +2,7 @@
 use Rattle.std.specs.Prelude.{List, map, string_bytes}
 use Rattle.cpn_core.specs.Inscriptions.{expr_view}
 use Rattle.cpn_monitor.specs.Monitors.{PlainMonitor, PlainMeasure, counts, sizes, values, stops_by_count, stops_by_size, PlainBound, at_least, at_most}
-use Rattle.cpn_monitor.specs.MonitorValues.{PlainMeasured, counted, sized, valued, counted_to_stop, sized_to_stop}
+use Rattle.cpn_monitor.specs.MonitorValues.{PlainMeasured, counted, sized, valued, counted_to_stop, sized_to_stop, PlainMonitorValue}
 use Rattle.cpn_monitor.specs.declared.monitors.Bound.{Bound}
 use Rattle.cpn_monitor.specs.declared.monitors.Bound.TheVariants as bounds
 use Rattle.cpn_monitor.specs.declared.monitors.Measure.{Measure}
@@ -11,6 +11,7 @@ use Rattle.cpn_monitor.specs.declared.monitors.Monitor.{Monitor}
 use Rattle.cpn_monitor.specs.declared.monitors.Monitors.{Monitors}
 use Rattle.cpn_monitor.specs.declared.values.Measured.{Measured}
 use Rattle.cpn_monitor.specs.declared.values.Measured.TheVariants as numbers
+use Rattle.cpn_monitor.specs.declared.values.MonitorValue.{MonitorValue}
 use Rattle.cpn_monitor.specs.declared.values.Values14.{Values14}
 
 abbrev pub bound_view : Bound → PlainBound
@@ -30,13 +31,16 @@ monitor_view monitor = record { name = string_bytes monitor.name; measure = meas
 abbrev pub monitors_view : Monitors → List PlainMonitor
 monitors_view monitors = map monitor_view monitors.monitors.items
 
--- what was measured; up to which time a sum counts is the program's own
+-- what was measured
 abbrev pub measured_view : Measured → PlainMeasured
 measured_view (numbers.Count n) = counted n
-measured_view (numbers.Size least greatest last sum until) = sized least greatest last sum
+measured_view (numbers.Size least greatest last sum until) = sized least greatest last sum until
 measured_view (numbers.Value count sum least greatest faulted) = valued count sum least greatest faulted
 measured_view (numbers.StopCount n) = counted_to_stop n
 measured_view (numbers.StopSize last) = sized_to_stop last
 
-abbrev pub values_view : Values14 → List PlainMeasured
-values_view all = map (λ value. measured_view value.measured) all.values.items
+abbrev pub value_view : MonitorValue → PlainMonitorValue
+value_view value = record { name = string_bytes value.name; measured = measured_view value.measured }
+
+abbrev pub values_view : Values14 → List PlainMonitorValue
+values_view all = map value_view all.values.items
