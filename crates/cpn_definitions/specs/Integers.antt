@@ -1,4 +1,5 @@
--- Colour sets of integers of 64 bits, as are those that a document declares. Source: our own profile of CPN ML.
+-- Colour sets whose integers have 64 bits. That those of a document that is loaded have is the clause `short` of `load` (`cpn_file`).
+-- Source: our own profile of CPN ML.
 use Rattle.std.specs.Prelude.{◌≡◌, ◌^◌, ℤ, pos, negsuc, Bool, true, ◌&&◌, nat_lt}
 use Rattle.std.specs.List.{list_all}
 use Rattle.cpn_definitions.specs.Colour.{PlainShape, PlainShapes, Constructors, unit_shape, boolean_shape, int_shape, text_shape, constant_shape, tuple_shape, union_shape, list_shape, no_shapes, more_shapes, no_constructors, without, taking}

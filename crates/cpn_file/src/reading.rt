@@ -2,6 +2,7 @@
 
 ghost use Rattle.std.specs.Prelude.{◌≡◌, ℕ, List, IfOk, IfErr, IfSome};
 ghost use Rattle.cpn_definitions.specs.DistinctNames.{HasDistinctNames, HasWellSpelledNames};
+ghost use Rattle.cpn_definitions.specs.Integers.{HasShortIntegers};
 ghost use Rattle.cpn_document.specs.FewArcs.{HaveFewArcs};
 ghost use Rattle.cpn_document.specs.Views.{document_view};
 ghost use Rattle.cpn_document.specs.WellNamed.{AreWellNamed, HasFewDeclarations};
@@ -27,6 +28,7 @@ fn loaded_of(alloc: Global, document: Document) -> Result<Loaded, LoadError>
     ensures well_loaded { IfOk result (λ loaded. IsWellLoaded (loaded_view loaded)) }
     ensures distinct { IfOk result (λ loaded. HasDistinctNames (loaded_view loaded).net) }
     ensures well_spelled { IfOk result (λ loaded. HasWellSpelledNames (loaded_view loaded).net) }
+    ensures short { IfOk result (λ loaded. HasShortIntegers (loaded_view loaded).net) }
 {
     let accepted = accept(alloc, &document)?;
     let loaded = flatten(alloc, document, accepted)?;
@@ -54,6 +56,8 @@ pub fn load(alloc: Global, bytes: &[u8]) -> Result<Loaded, LoadError>
     ensures distinct { IfOk result (λ loaded. HasDistinctNames (loaded_view loaded).net) }
     // Its names are paths and words.
     ensures well_spelled { IfOk result (λ loaded. HasWellSpelledNames (loaded_view loaded).net) }
+    // The integers of the colour sets of its places and variables have 64 bits.
+    ensures short { IfOk result (λ loaded. HasShortIntegers (loaded_view loaded).net) }
     ensures refuses { IfErr result (λ e. IfSome (load_refusal_of e) (λ refusal. IsReadAs bytes.now (refused refusal))) }
     // Whatever the answer, the bytes have at most one reading.
     ensures one_reading { (reading other : Reading PlainLoaded) → IsReadAs bytes.now reading → IsReadAs bytes.now other → reading ≡ other }

@@ -1,5 +1,6 @@
 -- The flat net of a document has distinct names: no two places and no two transitions have one name, nor have two variables, two
--- constants of an enumeration or two constructors of a union. And all its names are well spelled.
+-- constants of an enumeration or two constructors of a union. All its names are well spelled. And its
+-- integers have 64 bits.
 use Rattle.std.proofs.Common.{◌≡◌, ℕ, suc, ◌+◌, ◌<◌, true, List, [], ◌∷◌, ◌++◌, length, take, map, sum, refl, sym, ap, ap₂, ◌∙◌, subst, inl, inr, arith}
 use Rattle.std.specs.Prelude.{slice_index_or}
 use Rattle.std.specs.List.{AllByRecursion, list_all}
@@ -7,7 +8,8 @@ use Rattle.std.proofs.lemmas.Bool.{and_from, cases_order}
 use Rattle.std.proofs.lemmas.List.{length-map, map-append, get_or-map}
 use Rattle.std.proofs.lemmas.List.Elements.{recursion_from_All}
 use Rattle.cpn_definitions.specs.DistinctNames.{AreDistinct, is_path, is_word, HasDistinctNames, HasWellSpelledNames}
-use Rattle.cpn_definitions.specs.Net.{PlainTransition, Coloured, nothing}
+use Rattle.cpn_definitions.specs.Integers.{HasShortIntegers}
+use Rattle.cpn_definitions.specs.Net.{PlainTransition, Coloured, PlainNet, nothing}
 use Rattle.cpn_definitions.proofs.DistinctLists.{TellsPositions, distinct_from_positions, positions_from_distinct}
 use Rattle.cpn_classes.specs.Numbering.{Numbering, first_of}
 use Rattle.cpn_document.specs.Document.{RawDocument}
@@ -16,7 +18,7 @@ use Rattle.cpn_fuse.specs.Instances.{PlainInstance, instance_at}
 use Rattle.cpn_fuse.specs.Compound.{AreCompound}
 use Rattle.cpn_fuse.specs.Unfolded.{IsUnfolded, AreInModules}
 use Rattle.cpn_module_nets.specs.Nets.{PlainAccepted, IsWellAccepted}
-use Rattle.cpn_module_nets.proofs.AcceptedNames.{names_of_places, names_of_transitions, HasItsNames}
+use Rattle.cpn_module_nets.proofs.AcceptedNames.{names_of_places, names_of_transitions, HasItsNames, HasShortParts}
 use Rattle.cpn_typing.proofs.DistinctDeclared.{names_of_variables, names_of_constructors}
 use Rattle.cpn_readings.specs.Relations.{such_that}
 use Rattle.cpn_readings.proofs.Readings.{same_read}
@@ -31,6 +33,7 @@ use Rattle.cpn_flat.proofs.InstancePaths.{name_in, module_named, in_document, in
 use Rattle.cpn_flat.proofs.JoinedNames.{IsPlain, plain_name, joined_once, IsPath, path_joined}
 use Rattle.cpn_flat.proofs.PlacedInstances.{placed}
 use Rattle.cpn_flat.proofs.PlaceLookups.{length-all_places}
+use Rattle.cpn_flat.proofs.ShortFlatNets.{flat_short}
 
 -- ---- names of what instances have
 
@@ -232,14 +235,20 @@ module _ (d : RawDocument) (a : PlainAccepted) (well_named : AreWellNamed d) (ha
 
 -- ---- what is meant
 
+-- A net whose names are distinct and well spelled, and whose integers have 64 bits.
+pub record IsWellWritten (n : PlainNet) : Type 0 where
+  pub distinct : HasDistinctNames n
+  pub spelled : HasWellSpelledNames n
+  pub short : HasShortIntegers n
+
 unfolded_is : (a : PlainAccepted) (reading : Reading (List PlainInstance)) (is : List PlainInstance) → IsUnfoldedAs a.hierarchy reading → reading ≡ read is → IsUnfolded a.hierarchy is
 unfolded_is a reading is (unfolded made made_so) e = subst (IsUnfolded a.hierarchy) (same_read made is e) made_so
 unfolded_is a reading is (not_unfolded refusal refused_so) e = cc
 
--- The flat net that is meant has distinct names, and they are well spelled.
-pub named_well : (d : RawDocument) (a : PlainAccepted) (loaded : PlainLoaded) → AreWellNamed d → HasItsNames d a → IsWellAccepted a → flat_in d a (read loaded) → HasDistinctNames loaded.net × HasWellSpelledNames loaded.net
+-- The flat net that is meant is well written.
+pub well_written : (d : RawDocument) (a : PlainAccepted) (loaded : PlainLoaded) → AreWellNamed d → HasItsNames d a → HasShortParts a → IsWellAccepted a → flat_in d a (read loaded) → IsWellWritten loaded.net
 unfolding flat_in
-named_well d a loaded well_named has well h =
+well_written d a loaded well_named has short well h =
     let is = step_parts (IsUnfoldedAs a.hierarchy) _ loaded h in
     let names = step_parts (such_that (AreInstanceNames d is.0)) _ loaded is.2 in
     let classes = step_parts (such_that (AreCompound a.hierarchy is.0)) _ loaded names.2 in
@@ -247,5 +256,9 @@ named_well d a loaded well_named has well h =
     let are = such_holds (AreInstanceNames d is.0) names.0 names.1 in
     let compound = such_holds (AreCompound a.hierarchy is.0) classes.0 classes.1 in
     let made = unfolded_is a (read is.0) is.0 is.1 refl in
-    subst (λ (x : PlainLoaded). HasDistinctNames x.net × HasWellSpelledNames x.net) (sym (same_read loaded (record { net = flat_net a is.0 names.0 classes.0; initial = marking.0; declared = a.declared; monitors = d.monitors; phases = d.phases }) marking.2))
-    (flat_distinct d a well_named has well is.0 made names.0 are classes.0 compound, flat_spelled d a well_named has well is.0 made names.0 are classes.0 compound)
+    subst (λ (x : PlainLoaded). IsWellWritten x.net) (sym (same_read loaded (record { net = flat_net a is.0 names.0 classes.0; initial = marking.0; declared = a.declared; monitors = d.monitors; phases = d.phases }) marking.2))
+    (record {
+      distinct = flat_distinct d a well_named has well is.0 made names.0 are classes.0 compound;
+      spelled = flat_spelled d a well_named has well is.0 made names.0 are classes.0 compound;
+      short = flat_short a short well is.0 names.0 classes.0 compound made;
+    })

@@ -11,7 +11,9 @@ mod PlacedInstances
 mod JoinedColours
 mod SoundFlatNets
 mod ItemsThere
+mod CompoundColours
 mod NamedFlatNets
+mod ShortFlatNets
 mod ApartInstances
 mod JoinedNames
 mod InstancePaths

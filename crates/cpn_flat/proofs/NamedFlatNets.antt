@@ -1,24 +1,21 @@
 -- The flat net of what is accepted is named: it has the names of the colour sets of its places and its variables.
-use Rattle.std.proofs.Common.{◌≡◌, ℕ, ◌+◌, ◌<◌, ◌&&◌, true, nat_le, List, length, refl, sym, ap, ◌∙◌, subst, arith}
-use Rattle.std.specs.Prelude.{slice_index_or}
+use Rattle.std.proofs.Common.{◌≡◌, ℕ, ◌<◌, ◌&&◌, true, nat_le, List, length, refl, sym, ap, ◌∙◌}
 use Rattle.std.specs.List.{AllByRecursion, list_all}
-use Rattle.std.proofs.lemmas.List.{length-map, get_or-map}
-use Rattle.std.proofs.lemmas.List.Elements.{All-from_recursion, All-get_or, recursion_from_All}
+use Rattle.std.proofs.lemmas.List.Elements.{recursion_from_All}
 use Rattle.std.proofs.lemmas.List.Sums.{AllPass-from_list_all, list_all-from_AllPass}
 use Rattle.cpn_definitions.specs.Colour.{PlainShape, PlainShapes, Constructors, unit_shape, boolean_shape, int_shape, text_shape, constant_shape, tuple_shape, union_shape, list_shape, no_shapes, more_shapes, no_constructors, without, taking}
 use Rattle.cpn_definitions.specs.Named.{constructors_of, count_of, has_names, have_names, arguments_have_names, is_named, IsNamed}
-use Rattle.cpn_definitions.specs.Net.{PlainTransition, Coloured, nothing}
-use Rattle.cpn_definitions.proofs.RisingLists.{each_mapped, passes_at, all_pass}
+use Rattle.cpn_definitions.specs.Net.{PlainTransition, Coloured}
+use Rattle.cpn_definitions.proofs.RisingLists.{passes_at, all_pass}
 use Rattle.cpn_typing.specs.Names.{Declared}
-use Rattle.cpn_classes.specs.Numbering.{Numbering, first_of}
+use Rattle.cpn_classes.specs.Numbering.{Numbering}
 use Rattle.cpn_module_nets.specs.Nets.{PlainModuleNet, PlainAccepted, module_net_at, net_from, IsWellAccepted}
-use Rattle.cpn_fuse.specs.Instances.{PlainInstance, instance_at}
+use Rattle.cpn_fuse.specs.Instances.{PlainInstance}
 use Rattle.cpn_fuse.specs.Compound.{AreCompound}
-use Rattle.cpn_fuse.specs.Unfolded.{IsUnfolded, AreInModules}
-use Rattle.cpn_flat.specs.Names.{name_at}
-use Rattle.cpn_flat.specs.FlatNet.{joined_place, places_at, all_places, compound_places, flat_net}
-use Rattle.cpn_flat.proofs.InstanceLookups.{of_each}
-use Rattle.cpn_flat.proofs.PlaceLookups.{net_well, module_in, length-all_places}
+use Rattle.cpn_fuse.specs.Unfolded.{IsUnfolded}
+use Rattle.cpn_flat.specs.FlatNet.{compound_places, flat_net}
+use Rattle.cpn_flat.proofs.CompoundColours.{of_compound}
+use Rattle.cpn_flat.proofs.PlaceLookups.{net_well}
 use Rattle.cpn_flat.proofs.PlacedInstances.{placed}
 
 -- ---- nets of what is declared have the same names
@@ -53,36 +50,23 @@ module _ (ds : Declared) (ps qs : List Coloured) (ts us : List PlainTransition) 
 -- ---- the flat net
 
 module _ (accepted : PlainAccepted) (well : IsWellAccepted accepted) (is : List PlainInstance) (names : List (List ℕ)) (classes : Numbering) (compound : AreCompound accepted.hierarchy is classes) where
-  module _ (within : AreInModules accepted.hierarchy is) where
-    instance_named : (i : ℕ) → i < length is → AllByRecursion (λ c. is_named (flat_net accepted is names classes) c ≡ true) (places_at accepted.modules names i (instance_at is i))
-    instance_named i lt =
-        each_mapped (λ c. is_named (flat_net accepted is names classes) c ≡ true) (joined_place (name_at names i)) net.places
-        (recursion_from_All (λ c. is_named (flat_net accepted is names classes) c ≡ true) net.places
-        (AllPass-from_list_all (is_named (flat_net accepted is names classes)) net.places
-        (all_named_there accepted.declared net.places (flat_net accepted is names classes).places net.transitions (flat_net accepted is names classes).transitions net.places
-        (net_well accepted well (instance_at is i).of_module (module_in accepted well is within i lt)).named.places_named)))
-      where
-        net : PlainModuleNet
-        net = module_net_at accepted (instance_at is i).of_module
+  abbrev IsNamedThere : Coloured → Type 0
+  IsNamedThere c = is_named (flat_net accepted is names classes) c ≡ true
 
-    places_named : AllByRecursion (λ c. is_named (flat_net accepted is names classes) c ≡ true) (all_places accepted.modules is names)
-    places_named = of_each (places_at accepted.modules names) (λ c. is_named (flat_net accepted is names classes) c ≡ true) 0 is
-        (λ i lt. subst (λ k. AllByRecursion (λ c. is_named (flat_net accepted is names classes) c ≡ true) (places_at accepted.modules names k (instance_at is i))) (let e : i ≡ 0 + i = omega arith in e) (instance_named i lt))
-
-    compound_named : (k : ℕ) (d : Coloured) → k < length (compound_places accepted.modules is names classes) → is_named (flat_net accepted is names classes) (slice_index_or (compound_places accepted.modules is names classes) k d) ≡ true
-    compound_named k d lt =
-        subst (λ c. is_named (flat_net accepted is names classes) c ≡ true) (sym (get_or-map (λ (first : ℕ). slice_index_or (all_places accepted.modules is names) first nothing) classes.firsts k 0 d is_class))
-        (All-get_or (λ c. is_named (flat_net accepted is names classes) c ≡ true) (all_places accepted.modules is names) (first_of classes k) nothing
-        (let item = compound.in_order.is_item k is_class in let every = compound.each in let many = length-all_places accepted well is within names in omega (arith, item, every, many))
-        (All-from_recursion (λ c. is_named (flat_net accepted is names classes) c ≡ true) (all_places accepted.modules is names) places_named))
-      where
-        is_class : k < length classes.firsts
-        is_class = let e = length-map classes.firsts (λ (first : ℕ). slice_index_or (all_places accepted.modules is names) first nothing) in omega (arith, lt, e)
+  module_named : (m : ℕ) → m < length accepted.hierarchy.modules → AllByRecursion IsNamedThere (module_net_at accepted m).places
+  module_named m lt =
+      recursion_from_All IsNamedThere net.places
+      (AllPass-from_list_all (is_named (flat_net accepted is names classes)) net.places
+      (all_named_there accepted.declared net.places (flat_net accepted is names classes).places net.transitions (flat_net accepted is names classes).transitions net.places (net_well accepted well m lt).named.places_named))
+    where
+      net : PlainModuleNet
+      net = module_net_at accepted m
 
   -- The flat net is named.
   pub flat_named : IsUnfolded accepted.hierarchy is → IsNamed (flat_net accepted is names classes)
   flat_named unfolded = record {
-    places_named = list_all-from_AllPass (is_named (flat_net accepted is names classes)) (compound_places accepted.modules is names classes) (compound_named (placed accepted.hierarchy is well.numbers unfolded.instances).1);
+    places_named = list_all-from_AllPass (is_named (flat_net accepted is names classes)) (compound_places accepted.modules is names classes)
+        (of_compound accepted well is names classes compound (placed accepted.hierarchy is well.numbers unfolded.instances).1 IsNamedThere (λ whole c h. h) module_named);
     variables_named = all_named_there accepted.declared top.places (flat_net accepted is names classes).places top.transitions (flat_net accepted is names classes).transitions accepted.declared.variables
         (net_well accepted well accepted.hierarchy.top well.numbers.top).named.variables_named;
   }

@@ -1,9 +1,9 @@
--- A text has at most as many tokens as bytes, and each token that is a name is spelled as one.
+-- A text has at most as many tokens as bytes; each token that is a name is spelled as one, and each that is a number has 64 bits.
 use Rattle.std.proofs.Common.{ℕ, ◌+◌, ◌<◌, ◌≤◌, List, [], ◌∷◌, length, arith}
 use Rattle.std.specs.List.{AllByRecursion}
 use Rattle.std.proofs.lemmas.List.{length-append}
 use Rattle.cpn_lex.specs.Token.{PlainKind, PlainToken, name, number, text, symbol}
-use Rattle.cpn_lex.specs.Lexis.{IsName, Spells, a_name, a_number, a_string, a_symbol}
+use Rattle.cpn_lex.specs.Lexis.{IsName, Spells, a_name, a_number, a_string, a_symbol, Fits}
 use Rattle.cpn_lex.specs.Tokens.{Goes, stops, blank, token, Lexes}
 use Rattle.cpn_lex.proofs.FirstBytes.{not_empty}
 
@@ -45,3 +45,12 @@ spelled_up_to at bytes tokens end rest (token at' front later kind tokens' end' 
 -- Each name among the tokens of a text is spelled as one.
 pub names_spelled : (bytes : List ℕ) (tokens : List PlainToken) → Lexes bytes tokens → AllByRecursion (λ t. IsSpelled t.kind) tokens
 names_spelled bytes tokens h = spelled_up_to 0 bytes tokens (length bytes) [] h
+
+fitting_up_to : (at : ℕ) (bytes : List ℕ) (tokens : List PlainToken) (end : ℕ) (rest : List ℕ) → Goes at bytes tokens end rest → AllByRecursion (λ t. Fits t.kind) tokens
+fitting_up_to at bytes tokens end rest (stops at' bytes') = tt
+fitting_up_to at bytes tokens end rest (blank at' byte later tokens' end' rest' is goes) = fitting_up_to (at' + 1) later tokens' end' rest' goes
+fitting_up_to at bytes tokens end rest (token at' front later kind tokens' end' rest' is fits goes) = (fits, fitting_up_to (at' + length front) later tokens' end' rest' goes)
+
+-- Each number among the tokens of a text has 64 bits.
+pub numbers_fit : (bytes : List ℕ) (tokens : List PlainToken) → Lexes bytes tokens → AllByRecursion (λ t. Fits t.kind) tokens
+numbers_fit bytes tokens h = fitting_up_to 0 bytes tokens (length bytes) [] h

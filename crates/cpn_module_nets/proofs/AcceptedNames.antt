@@ -1,6 +1,7 @@
--- What is accepted has the names that the document writes.
+-- What is accepted has the names that the document writes, and its integers have 64 bits.
 use Rattle.std.proofs.Common.{◌≡◌, ℕ, suc, ◌<◌, ◌≤◌, ◌*◌, List, [], ◌∷◌, length, map, slice_index_or, refl, sym, ap, ap₂, ◌∙◌, subst}
 use Rattle.std.proofs.Math.Nat.{zero-add}
+use Rattle.std.specs.List.{AllByRecursion}
 use Rattle.cpn_definitions.specs.Net.{PlainTransition, Coloured}
 use Rattle.cpn_document.specs.Document.{RawPlace, RawTransition, RawModule, RawDocument}
 use Rattle.cpn_module.specs.Checked.{IsChecked}
@@ -15,6 +16,7 @@ use Rattle.cpn_readings.proofs.RelatedReadings.{step_parts, such_holds}
 use Rattle.cpn_typing.specs.Names.{Declared, nothing_declared}
 use Rattle.cpn_typing.specs.Declarations.{colour_of}
 use Rattle.cpn_typing.proofs.DistinctDeclared.{AreNamed}
+use Rattle.cpn_typing.proofs.ShortDeclared.{IsShortColoured, DeclaresShort, colour_short}
 use Rattle.cpn_module_nets.specs.Reading.{Reading, read, of_modules, each_from}
 use Rattle.cpn_module_nets.specs.Nets.{PlainModuleNet, PlainAccepted, places_at, no_module_net}
 use Rattle.cpn_module_nets.specs.Accepted.{accepted_at, guard_at, delay_at, declared_from, net_place, places_of, bare_transition, Sides, joined_from}
@@ -22,8 +24,9 @@ use Rattle.cpn_module_nets.specs.Transitions.{IsCompleted}
 use Rattle.cpn_module_nets.specs.Documents.{net_so, nets_so, accepted_in}
 use Rattle.cpn_module_nets.specs.Fitting.{no_trees, trees_at}
 use Rattle.cpn_module_nets.specs.Pointers.{colour_pointer, guard_pointer, delay_pointer}
+use Rattle.cpn_module_nets.proofs.AcceptedTexts.{each_from_all, accepted_is}
 use Rattle.cpn_module_nets.proofs.CheckedModules.{kept}
-use Rattle.cpn_module_nets.proofs.DeclaredNames.{IsWord, all_named}
+use Rattle.cpn_module_nets.proofs.DeclaredNames.{IsWord, IsDeclaredWell, all_well}
 use Rattle.cpn_module_nets.proofs.ModuleParts.{raw_at, as_many_trees, trees_are, places_read}
 use Rattle.cpn_module_nets.proofs.WellAccepted.{so_long, so_at, checked_read}
 use Rattle.cpn_module_nets.proofs.WellNets.{net_parts}
@@ -44,6 +47,11 @@ pub record HasItsNames (d : RawDocument) (a : PlainAccepted) : Type 0 where
   pub transitions : (m : ℕ) → m < length d.modules → names_of_transitions (slice_index_or a.modules m no_module_net).transitions ≡ transition_names (raw_at d m)
   pub declared : AreNamed IsWord a.declared
   pub few_variables : length a.declared.variables ≤ most_bytes * length d.declarations
+
+-- The integers of what is accepted have 64 bits: those of what is declared, and of the colour sets of the places of each module.
+pub record HasShortParts (a : PlainAccepted) : Type 0 where
+  pub declared : DeclaresShort a.declared
+  pub places : (m : ℕ) → m < length a.modules → AllByRecursion IsShortColoured (slice_index_or a.modules m no_module_net).places
 
 -- ---- lists
 
@@ -75,6 +83,12 @@ places_have : (ds : Declared) (m : ℕ) (raw : RawModule) (trees : ModuleTrees) 
 places_have ds m raw trees places are h =
     names_read (net_place ds m) (λ (t : PlaceTrees). t.name) (λ (c : Coloured). c.name) (place_name ds m) 0 trees.places places h
     ∙ names_correspond ArePlaceTrees (λ (p : RawPlace). p.name) (λ (t : PlaceTrees). t.name) (λ p t is. is.name) raw.places trees.places are.places
+
+place_short : (ds : Declared) → DeclaresShort ds → (m i : ℕ) (place : PlaceTrees) (made : Coloured) → net_place ds m i place ≡ read made → IsShortColoured made
+unfolding net_place
+place_short ds short m i place made h =
+    let colour = steps _ (accepted_at (colour_pointer m i) (colour_of ds place.colour)) made h in
+    subst IsShortColoured (same_read _ made colour.2) (colour_short ds short place.colour colour.0 (accepted_is (colour_pointer m i) (colour_of ds place.colour) colour.0 colour.1))
 
 -- ---- transitions
 
@@ -109,6 +123,9 @@ net_places ds places m s trees net h = let parts = net_parts ds places m s trees
 -- ---- the document
 
 module _ (ds : Declared) (d : RawDocument) (trees : DocumentTrees) (are : AreTrees d trees) (ds_is : declared_from 0 nothing_declared trees.declarations ≡ read ds) (places : List (List Coloured)) (places_are : each_from (places_of ds) 0 trees.modules ≡ read places) where
+  declared_well : IsDeclaredWell (most_bytes * length d.declarations) ds
+  declared_well = all_well d.declarations trees.declarations ds are.declarations ds_is
+
   module _ (h : PlainHierarchy) (is : h ≡ hierarchy_in d) (nets : List PlainModuleNet) (nets_are : nets_so ds places h trees.modules (read nets)) where
     below : (m : ℕ) → m < length d.modules → m < length trees.modules
     below m lt = subst (λ (k : ℕ). m < k) (sym (as_many_trees ds d trees are)) lt
@@ -119,6 +136,9 @@ module _ (ds : Declared) (d : RawDocument) (trees : DocumentTrees) (are : AreTre
         let at = so_at (λ m. net_so ds (places_at places m) m (structure_at h m)) 0 trees.modules nets m no_trees no_module_net nets_are lt in
         subst (λ k. net_so ds (places_at places k) k (structure_at h k) (trees_at trees.modules m) (read (slice_index_or nets m no_module_net))) (zero-add m) at
 
+    own_places : (m : ℕ) → m < length trees.modules → (slice_index_or nets m no_module_net).places ≡ places_at places m
+    own_places m lt = net_places ds (places_at places m) m (structure_at h m) (trees_at trees.modules m) (slice_index_or nets m no_module_net) (net_read m lt)
+
     many_nets : length nets ≡ length trees.modules
     unfolding nets_so
     many_nets = so_long (λ m. net_so ds (places_at places m) m (structure_at h m)) 0 trees.modules nets nets_are
@@ -127,17 +147,27 @@ module _ (ds : Declared) (d : RawDocument) (trees : DocumentTrees) (are : AreTre
     all_have = record {
       hierarchy = is;
       many = many_nets ∙ as_many_trees ds d trees are;
-      places = λ m lt. ap names_of_places (net_places ds (places_at places m) m (structure_at h m) (trees_at trees.modules m) (slice_index_or nets m no_module_net) (net_read m (below m lt)))
+      places = λ m lt. ap names_of_places (own_places m (below m lt))
           ∙ places_have ds m (raw_at d m) (trees_at trees.modules m) (places_at places m) (trees_are ds d trees are m lt) (places_read ds d trees are places places_are m (below m lt));
       transitions = λ m lt. transitions_have ds (places_at places m) m (structure_at h m) (raw_at d m) (trees_at trees.modules m) (slice_index_or nets m no_module_net) (trees_are ds d trees are m lt) (net_read m (below m lt));
-      declared = (all_named d.declarations trees.declarations ds are.declarations ds_is).0;
-      few_variables = (all_named d.declarations trees.declarations ds are.declarations ds_is).1;
+      declared = declared_well.named;
+      few_variables = declared_well.few;
     }
 
--- What is accepted of a document has the names that the document writes.
-pub accepted_names : (d : RawDocument) (a : PlainAccepted) → accepted_in d (read a) → HasItsNames d a
+    places_short : (m : ℕ) → m < length trees.modules → AllByRecursion IsShortColoured (slice_index_or nets m no_module_net).places
+    places_short m lt = subst (AllByRecursion IsShortColoured) (sym (own_places m lt))
+        (each_from_all (net_place ds m) IsShortColoured (place_short ds declared_well.short m) 0 (trees_at trees.modules m).places (places_at places m) (places_read ds d trees are places places_are m lt))
+
+    all_short : HasShortParts (record { declared = ds; hierarchy = h; modules = nets })
+    all_short = record {
+      declared = declared_well.short;
+      places = λ m lt. places_short m (subst (λ (k : ℕ). m < k) many_nets lt);
+    }
+
+-- What is accepted of a document has the names that the document writes, and its integers have 64 bits.
+pub accepted_as_written : (d : RawDocument) (a : PlainAccepted) → accepted_in d (read a) → HasItsNames d a × HasShortParts a
 unfolding accepted_in
-accepted_names d a h =
+accepted_as_written d a h =
     let trees = step_parts (such_that (AreTrees d)) _ a h in
     let ds = step_parts (just (declared_from 0 nothing_declared trees.0.declarations)) _ a trees.2 in
     let places = step_parts (just (each_from (places_of ds.0) 0 trees.0.modules)) _ a ds.2 in
@@ -145,5 +175,5 @@ accepted_names d a h =
     let nets = step_parts (nets_so ds.0 places.0 hierarchy.0 trees.0.modules) _ a hierarchy.2 in
     let are = such_holds (AreTrees d) trees.0 trees.1 in
     let checked = kept ds.0 d hierarchy.0 (checked_read of_modules (IsChecked ds.0 d) hierarchy.0 hierarchy.1) in
-    subst (HasItsNames d) (sym (same_read a (record { declared = ds.0; hierarchy = hierarchy.0; modules = nets.0 }) nets.2))
-    (all_have ds.0 d trees.0 are (sym ds.1) places.0 (sym places.1) hierarchy.0 checked.is nets.0 nets.1)
+    subst (λ (x : PlainAccepted). HasItsNames d x × HasShortParts x) (sym (same_read a (record { declared = ds.0; hierarchy = hierarchy.0; modules = nets.0 }) nets.2))
+    (all_have ds.0 d trees.0 are (sym ds.1) places.0 (sym places.1) hierarchy.0 checked.is nets.0 nets.1, all_short ds.0 d trees.0 are (sym ds.1) places.0 (sym places.1) hierarchy.0 checked.is nets.0 nets.1)

@@ -1,9 +1,8 @@
 -- The names that a declaration brings are tokens of its text: there are no more of them than tokens, and what holds of each name
 -- among the tokens holds of each of them.
-use Rattle.std.proofs.Common.{ℕ, ◌+◌, ◌<◌, ◌≤◌, List, [], ◌∷◌, ◌++◌, length, map, arith}
+use Rattle.std.proofs.Common.{ℕ, ◌<◌, ◌≤◌, List, [], ◌∷◌, ◌++◌, length, map, arith}
 use Rattle.std.specs.List.{AllByRecursion}
 use Rattle.std.proofs.lemmas.List.{length-append, length-map}
-use Rattle.cpn_lex.specs.Token as token
 use Rattle.cpn_lex.specs.Token.{PlainToken}
 use Rattle.cpn_lex.specs.declared.symbols.Symbol.{Symbol}
 use Rattle.cpn_trees.specs.DeclTrees.{PlainAlternative, PlainBody, PlainDecl}
@@ -64,24 +63,25 @@ names_few d u (decl_line t v h is) =
 
 -- ---- what holds of each
 
+-- what holds of each of these tokens holds of those in front, and of those after them
+pub front : (Q : PlainToken → Type 0) (u v : Text) → AllByRecursion Q (u ++ v) → AllByRecursion Q u
+front Q [] v h = tt
+front Q (t ∷ u) v h = (h.0, front Q u v h.1)
+
+later : (Q : PlainToken → Type 0) (u v : Text) → AllByRecursion Q (u ++ v) → AllByRecursion Q v
+later Q [] v h = h
+later Q (t ∷ u) v h = later Q u v h.1
+
 module _ (P : List ℕ → Type 0) where
   -- of a token, where it is a name
   abbrev Holds : PlainToken → Type 0
   Holds t = (n : List ℕ) → IsName n t → P n
 
-  front : (u v : Text) → AllByRecursion Holds (u ++ v) → AllByRecursion Holds u
-  front [] v h = tt
-  front (t ∷ u) v h = (h.0, front u v h.1)
-
-  later : (u v : Text) → AllByRecursion Holds (u ++ v) → AllByRecursion Holds v
-  later [] v h = h
-  later (t ∷ u) v h = later u v h.1
-
   each_holds : {A : Type 0} (Part : A → Text → Type 0) (s : Symbol) (name : A → List ℕ) → ((a : A) (u : Text) → Part a u → AllByRecursion Holds u → P (name a))
       → (xs : List A) (u : Text) → Each Part s xs u → AllByRecursion Holds u → AllByRecursion P (map name xs)
   each_holds Part s name of_part xs u (last_one {a} u' part) h = (of_part a u' part h, tt)
   each_holds Part s name of_part xs u (next_one t {a} {rest} u' v part is others) h =
-      (of_part a u' part (front u' (t ∷ v) h), each_holds Part s name of_part rest v others (later u' (t ∷ v) h).1)
+      (of_part a u' part (front Holds u' (t ∷ v) h), each_holds Part s name of_part rest v others (later Holds u' (t ∷ v) h).1)
 
   name_holds : (n : List ℕ) (u : Text) → One IsName n u → AllByRecursion Holds u → P n
   name_holds n u (one t is) h = h.0 n is
@@ -110,11 +110,11 @@ module _ (P : List ℕ → Type 0) where
   body_holds body u (named_line n is) h = tt
 
   form_holds : (d : PlainDecl) (u : Text) → SpellsForm d u → AllByRecursion Holds u → AllByRecursion P (declared_names d)
-  form_holds d u (colour_set_line t1 n t2 {name} {body} {timed} v w is1 is2 is3 spelled timed_is) h = body_holds body v spelled (front v w h.1.1.1)
-  form_holds d u (variables_line t1 t2 n {names} {colour} v is1 spelled is2 is3) h = names_hold _ names v spelled (front v (t2 ∷ n ∷ []) h.1)
+  form_holds d u (colour_set_line t1 n t2 {name} {body} {timed} v w is1 is2 is3 spelled timed_is) h = body_holds body v spelled (front Holds v w h.1.1.1)
+  form_holds d u (variables_line t1 t2 n {names} {colour} v is1 spelled is2 is3) h = names_hold _ names v spelled (front Holds v (t2 ∷ n ∷ []) h.1)
   form_holds d u (value_line t1 n t2 {name} v is1 is2 is3 spelled) h = (h.1.0 name is2, tt)
   form_holds d u (function_line t1 n t2 t3 t4 m t5 {name} v w is1 is2 is3 spelled is4 is5 is6 is7 spelled2) h = (h.1.0 name is2, tt)
 
   -- What holds of each name among the tokens holds of each name that the declaration brings.
   pub names_all : (d : PlainDecl) (u : Text) → SpellsDecl d u → AllByRecursion Holds u → AllByRecursion P (declared_names d)
-  names_all d u (decl_line t v spelled is) h = form_holds d v spelled (front v (t ∷ []) h)
+  names_all d u (decl_line t v spelled is) h = form_holds d v spelled (front Holds v (t ∷ []) h)

@@ -26,3 +26,4 @@ mod Parses
 mod Guards
 mod Delays
 pub mod DeclaredNames
+pub mod DeclaredBounds

@@ -2,6 +2,7 @@
 pub mod Trees
 pub mod DeclTrees
 pub mod DeclaredNames
+pub mod DeclaredBounds
 pub mod Depth
 pub mod Shapes
 -- the trees of the program as plain ones

@@ -17,6 +17,7 @@ mod NamesDeclared
 mod SetsDeclared
 pub mod Consistent
 pub mod DistinctDeclared
+pub mod ShortDeclared
 pub mod MeaningsInNets
 mod DeclarationRows
 mod FunctionRows

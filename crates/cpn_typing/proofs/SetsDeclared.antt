@@ -43,12 +43,12 @@ last_constructors sets es us cs k h =
 
 -- ---- components
 
-component_of : (sets : Sets) (o : Option PlainColour) (r : Refusal) → ((c : PlainColour) → o ≡ Some c → HasSetsOf sets c.shape) → Accepts (HasSetsOf sets) (required (option_map (λ colour. colour.shape) o) r)
-component_of sets None r p = tt
-component_of sets (Some c) r p = p c refl
+pub component_of : (P : PlainShape → Type 0) (o : Option PlainColour) (r : Refusal) → ((c : PlainColour) → o ≡ Some c → P c.shape) → Accepts P (required (option_map (λ colour. colour.shape) o) r)
+component_of P None r p = tt
+component_of P (Some c) r p = p c refl
 
 component_has : (sets : Sets) (ds : Declared) (n : Name) → ColoursOf sets ds → Accepts (HasSetsOf sets) (component ds n)
-component_has sets ds n p = component_of sets (colour_named n ds) (unknown n) (p n)
+component_has sets ds n p = component_of (HasSetsOf sets) (colour_named n ds) (unknown n) (p n)
 
 components_have : (sets : Sets) (ds : Declared) (ns : List Name) → ColoursOf sets ds → Accepts (HasSetsOfEach sets) (components ds ns)
 components_have sets ds [] p = tt

@@ -5,7 +5,7 @@ use Rattle.cpn_module_nets.specs.Answers.{net_refusal_of}
 use Rattle.cpn_module_nets.specs.Views.{accepted_view}
 use Rattle.cpn_flat.specs.Answers.{refusal_of}
 use Rattle.cpn_flat.specs.Views.{loaded_view}
-use Rattle.cpn_file.proofs.LoadedDocuments.{few_declared, names_loaded, not_accepted, not_flat, is_loaded}
+use Rattle.cpn_file.proofs.LoadedDocuments.{few_declared, loaded_well, not_accepted, not_flat, is_loaded}
 use Rattle.cpn_file.proofs.reading.loaded_of.Goals as goal
 
 pub returns-in_err-accepted-clause-reads : goal.returns-in_err-accepted-clause-reads
@@ -27,8 +27,12 @@ returns-clause-reads c =
 
 pub returns-clause-distinct : goal.returns-clause-distinct
 returns-clause-distinct c =
-    (names_loaded (document_view c.args.document) (accepted_view c.in_ok-accepted.accepted) (loaded_view c.in_ok-loaded.loaded) c.requires.well_named c.in_ok-accepted.ensures.well c.in_ok-accepted.ensures.reads c.in_ok-loaded.ensures.reads).0
+    (loaded_well (document_view c.args.document) (accepted_view c.in_ok-accepted.accepted) (loaded_view c.in_ok-loaded.loaded) c.requires.well_named c.in_ok-accepted.ensures.well c.in_ok-accepted.ensures.reads c.in_ok-loaded.ensures.reads).distinct
 
 pub returns-clause-well_spelled : goal.returns-clause-well_spelled
 returns-clause-well_spelled c =
-    (names_loaded (document_view c.args.document) (accepted_view c.in_ok-accepted.accepted) (loaded_view c.in_ok-loaded.loaded) c.requires.well_named c.in_ok-accepted.ensures.well c.in_ok-accepted.ensures.reads c.in_ok-loaded.ensures.reads).1
+    (loaded_well (document_view c.args.document) (accepted_view c.in_ok-accepted.accepted) (loaded_view c.in_ok-loaded.loaded) c.requires.well_named c.in_ok-accepted.ensures.well c.in_ok-accepted.ensures.reads c.in_ok-loaded.ensures.reads).spelled
+
+pub returns-clause-short : goal.returns-clause-short
+returns-clause-short c =
+    (loaded_well (document_view c.args.document) (accepted_view c.in_ok-accepted.accepted) (loaded_view c.in_ok-loaded.loaded) c.requires.well_named c.in_ok-accepted.ensures.well c.in_ok-accepted.ensures.reads c.in_ok-loaded.ensures.reads).short
