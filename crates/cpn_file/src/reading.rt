@@ -7,6 +7,7 @@ ghost use Rattle.cpn_document.specs.FewArcs.{HaveFewArcs};
 ghost use Rattle.cpn_document.specs.Views.{document_view};
 ghost use Rattle.cpn_document.specs.WellNamed.{AreWellNamed, HasFewDeclarations};
 ghost use Rattle.cpn_flat.specs.Flat.{PlainLoaded};
+ghost use Rattle.cpn_flat.specs.FlatNames.{HasFlatNames};
 ghost use Rattle.cpn_flat.specs.Views.{loaded_view};
 ghost use Rattle.cpn_flat.specs.WellLoaded.{IsWellLoaded};
 ghost use Rattle.cpn_file.specs.Reading.{Reading, read, refused};
@@ -28,6 +29,7 @@ fn loaded_of(alloc: Global, document: Document) -> Result<Loaded, LoadError>
     ensures well_loaded { IfOk result (λ loaded. IsWellLoaded (loaded_view loaded)) }
     ensures distinct { IfOk result (λ loaded. HasDistinctNames (loaded_view loaded).net) }
     ensures well_spelled { IfOk result (λ loaded. HasWellSpelledNames (loaded_view loaded).net) }
+    ensures flat_names { IfOk result (λ loaded. HasFlatNames (loaded_view loaded).net) }
     ensures short { IfOk result (λ loaded. HasShortIntegers (loaded_view loaded).net) }
 {
     let accepted = accept(alloc, &document)?;
@@ -56,6 +58,8 @@ pub fn load(alloc: Global, bytes: &[u8]) -> Result<Loaded, LoadError>
     ensures distinct { IfOk result (λ loaded. HasDistinctNames (loaded_view loaded).net) }
     // Its names are paths and words.
     ensures well_spelled { IfOk result (λ loaded. HasWellSpelledNames (loaded_view loaded).net) }
+    // Those of places and transitions are of the form in which monitors and edits give them.
+    ensures flat_names { IfOk result (λ loaded. HasFlatNames (loaded_view loaded).net) }
     // The integers of the colour sets of its places and variables have 64 bits.
     ensures short { IfOk result (λ loaded. HasShortIntegers (loaded_view loaded).net) }
     ensures refuses { IfErr result (λ e. IfSome (load_refusal_of e) (λ refusal. IsReadAs bytes.now (refused refusal))) }

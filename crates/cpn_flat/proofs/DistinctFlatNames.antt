@@ -1,7 +1,7 @@
 -- The flat net of a document has distinct names: no two places and no two transitions have one name, nor have two variables, two
--- constants of an enumeration or two constructors of a union. All its names are well spelled. And its
--- integers have 64 bits.
-use Rattle.std.proofs.Common.{◌≡◌, ℕ, suc, ◌+◌, ◌<◌, true, List, [], ◌∷◌, ◌++◌, length, take, map, sum, refl, sym, ap, ap₂, ◌∙◌, subst, inl, inr, arith}
+-- constants of an enumeration or two constructors of a union. All its names are well spelled, and those of places and transitions are
+-- flat names. And its integers have 64 bits.
+use Rattle.std.proofs.Common.{◌≡◌, ℕ, suc, ◌+◌, ◌<◌, Bool, true, List, [], ◌∷◌, ◌++◌, length, take, map, sum, refl, sym, ap, ap₂, ◌∙◌, subst, inl, inr, arith}
 use Rattle.std.specs.Prelude.{slice_index_or}
 use Rattle.std.specs.List.{AllByRecursion, list_all}
 use Rattle.std.proofs.lemmas.Bool.{and_from, cases_order}
@@ -13,6 +13,7 @@ use Rattle.cpn_definitions.specs.Net.{PlainTransition, Coloured, PlainNet, nothi
 use Rattle.cpn_definitions.proofs.DistinctLists.{TellsPositions, distinct_from_positions, positions_from_distinct}
 use Rattle.cpn_classes.specs.Numbering.{Numbering, first_of}
 use Rattle.cpn_document.specs.Document.{RawDocument}
+use Rattle.cpn_document.specs.Texts.{is_name, is_flat_name}
 use Rattle.cpn_document.specs.WellNamed.{AreNames, AreWellNamed}
 use Rattle.cpn_fuse.specs.Instances.{PlainInstance, instance_at}
 use Rattle.cpn_fuse.specs.Compound.{AreCompound}
@@ -25,6 +26,7 @@ use Rattle.cpn_readings.proofs.Readings.{same_read}
 use Rattle.cpn_readings.proofs.RelatedReadings.{step_parts, such_holds}
 use Rattle.cpn_flat.specs.Refusals.{Reading, read}
 use Rattle.cpn_flat.specs.Names.{joined_name, name_at, AreNames as AreInstanceNames}
+use Rattle.cpn_flat.specs.FlatNames.{HasFlatNames}
 use Rattle.cpn_flat.specs.FlatNet.{each_instance, module_net_among, joined_place, places_at, all_places, compound_places, flat_transition, transitions_at, all_transitions, flat_net}
 use Rattle.cpn_flat.specs.Flat.{PlainLoaded, IsUnfoldedAs, unfolded, not_unfolded, all_written, flat_in}
 use Rattle.cpn_flat.specs.InitialMarking.{started}
@@ -54,8 +56,11 @@ module _ (names : List (List ℕ)) (own : PlainInstance → List (List ℕ)) whe
       ∙ ap (λ (k : ℕ). joined_name (name_at names k) (slice_index_or (own (instance_at is i)) p [])) (let e : 0 + i ≡ i = omega arith in e)
 
   module _ (is : List PlainInstance) (plain : (i : ℕ) → i < length is → AreNames (own (instance_at is i))) where
+    named_at : (i p : ℕ) → i < length is → p < length (own (instance_at is i)) → is_name (slice_index_or (own (instance_at is i)) p []) ≡ true
+    named_at i p lt in_x = name_in (own (instance_at is i)) p (plain i lt) in_x
+
     plain_at : (i p : ℕ) → i < length is → p < length (own (instance_at is i)) → IsPlain (slice_index_or (own (instance_at is i)) p [])
-    plain_at i p lt in_x = plain_name (slice_index_or (own (instance_at is i)) p []) (name_in (own (instance_at is i)) p (plain i lt) in_x)
+    plain_at i p lt in_x = plain_name (slice_index_or (own (instance_at is i)) p []) (named_at i p lt in_x)
 
     -- where no two instances have one name, no two of all these are one
     names_told : ((i j : ℕ) → i < length is → j < length is → name_at names i ≡ name_at names j → i ≡ j) → TellsPositions (each_instance names_at 0 is)
@@ -84,7 +89,7 @@ module _ (names : List (List ℕ)) (own : PlainInstance → List (List ℕ)) whe
         let found = instance_with (λ x. length (own x)) is k (omega (arith, in_k, long)) in
         subst (λ (m : ℕ). IsPath (slice_index_or (each_instance names_at 0 is) m [])) (sym found.4)
         (subst IsPath (sym (name_of_number is found.0 found.1 found.2 found.3))
-        (path_joined (name_at names found.0) (slice_index_or (own (instance_at is found.0)) found.1 []) (paths found.0 found.2) (plain_at found.0 found.1 found.2 found.3)))
+        (path_joined (name_at names found.0) (slice_index_or (own (instance_at is found.0)) found.1 []) (paths found.0 found.2) (named_at found.0 found.1 found.2 found.3)))
 
   -- they are the names of things that instances have
   names_are : {A : Type 0} (has : ℕ → PlainInstance → List A) (name : A → List ℕ) → ((i : ℕ) (x : PlainInstance) → map name (has i x) ≡ names_at i x) → (i : ℕ) (xs : List PlainInstance)
@@ -93,9 +98,17 @@ module _ (names : List (List ℕ)) (own : PlainInstance → List (List ℕ)) whe
   names_are has name same i [] = refl
   names_are has name same i (x ∷ xs) = map-append name (has i x) (each_instance has (suc i) xs) ∙ ap₂ (λ (ns ms : List (List ℕ)). ns ++ ms) (same i x) (names_are has name same (suc i) xs)
 
-paths_all : (xs : List (List ℕ)) → ((k : ℕ) → k < length xs → IsPath (slice_index_or xs k [])) → list_all is_path xs ≡ true
-paths_all [] each = refl
-paths_all (x ∷ xs) each = and_from (is_path x) (list_all is_path xs) (each 0 (omega arith)) (paths_all xs (λ k lt. each (suc k) (omega arith)))
+passes_all : (p : List ℕ → Bool) (xs : List (List ℕ)) → ((k : ℕ) → k < length xs → p (slice_index_or xs k []) ≡ true) → list_all p xs ≡ true
+passes_all p [] each = refl
+passes_all p (x ∷ xs) each = and_from (p x) (list_all p xs) (each 0 (omega arith)) (passes_all p xs (λ k lt. each (suc k) (omega arith)))
+
+-- all of these are paths
+record ArePaths (xs : List (List ℕ)) : Type 0 where
+  pub spelled : list_all is_path xs ≡ true
+  pub flat : list_all is_flat_name xs ≡ true
+
+paths_all : (xs : List (List ℕ)) → ((k : ℕ) → k < length xs → IsPath (slice_index_or xs k [])) → ArePaths xs
+paths_all xs each = record { spelled = passes_all is_path xs (λ k lt. (each k lt).spelled); flat = passes_all is_flat_name xs (λ k lt. (each k lt).flat) }
 
 -- ---- places and transitions of a module
 
@@ -155,8 +168,8 @@ module _ (d : RawDocument) (a : PlainAccepted) (well_named : AreWellNamed d) (ha
     transitions_distinct : AreDistinct (names_of_transitions (all_transitions a.hierarchy a.modules is names classes))
     transitions_distinct = distinct_from_positions (names_of_transitions (all_transitions a.hierarchy a.modules is names classes)) (subst TellsPositions (sym transitions_are) (names_told names own_transitions is transitions_plain told))
 
-    transitions_spelled : list_all is_path (names_of_transitions (all_transitions a.hierarchy a.modules is names classes)) ≡ true
-    transitions_spelled = subst (λ (ns : List (List ℕ)). list_all is_path ns ≡ true) (sym transitions_are) (paths_all (each_instance (names_at names own_transitions) 0 is) (names_paths names own_transitions is transitions_plain paths))
+    transitions_paths : ArePaths (names_of_transitions (all_transitions a.hierarchy a.modules is names classes))
+    transitions_paths = subst ArePaths (sym transitions_are) (paths_all (each_instance (names_at names own_transitions) 0 is) (names_paths names own_transitions is transitions_plain paths))
 
     -- ---- compound places
 
@@ -218,8 +231,8 @@ module _ (d : RawDocument) (a : PlainAccepted) (well_named : AreWellNamed d) (ha
 
     flat_spelled : HasWellSpelledNames (flat_net a is names classes)
     flat_spelled = record {
-      places = paths_all (names_of_places flat_places) class_path;
-      transitions = transitions_spelled;
+      places = (paths_all (names_of_places flat_places) class_path).spelled;
+      transitions = transitions_paths.spelled;
       variables = words_all (names_of_variables a.declared.variables) has.declared.of_variables;
       constants = lists_all a.declared.enumerations has.declared.of_constants;
       constructors = lists_all (map names_of_constructors a.declared.unions) has.declared.of_constructors;
@@ -233,12 +246,16 @@ module _ (d : RawDocument) (a : PlainAccepted) (well_named : AreWellNamed d) (ha
         lists_all [] all = refl
         lists_all (x ∷ xs) all = and_from (list_all is_word x) (list_all (list_all is_word) xs) (words_all x all.0) (lists_all xs all.1)
 
+    flat_flat : HasFlatNames (flat_net a is names classes)
+    flat_flat = record { places = (paths_all (names_of_places flat_places) class_path).flat; transitions = transitions_paths.flat }
+
 -- ---- what is meant
 
--- A net whose names are distinct and well spelled, and whose integers have 64 bits.
+-- A net whose names are distinct, well spelled and flat, and whose integers have 64 bits.
 pub record IsWellWritten (n : PlainNet) : Type 0 where
   pub distinct : HasDistinctNames n
   pub spelled : HasWellSpelledNames n
+  pub flat : HasFlatNames n
   pub short : HasShortIntegers n
 
 unfolded_is : (a : PlainAccepted) (reading : Reading (List PlainInstance)) (is : List PlainInstance) → IsUnfoldedAs a.hierarchy reading → reading ≡ read is → IsUnfolded a.hierarchy is
@@ -260,5 +277,6 @@ well_written d a loaded well_named has short well h =
     (record {
       distinct = flat_distinct d a well_named has well is.0 made names.0 are classes.0 compound;
       spelled = flat_spelled d a well_named has well is.0 made names.0 are classes.0 compound;
+      flat = flat_flat d a well_named has well is.0 made names.0 are classes.0 compound;
       short = flat_short a short well is.0 names.0 classes.0 compound made;
     })

@@ -70,9 +70,11 @@ module _ (d : RawDocument) (well : AreWellNamed d) where
         let all = length-map (raw_module_at d (instance_at is i).of_module).subs (λ (sub : RawSub). sub.name) in
         omega (arith, many, all)
 
+    sub_named : (i k : ℕ) → i < length is → k < length (structure_at h (instance_at is i).of_module).substitutions → is_name (sub_name_at d (instance_at is i).of_module k) ≡ true
+    sub_named i k lt in_k = subst (λ name. is_name name ≡ true) (sym (sub_name i k lt in_k)) (name_in (subs_of i) k (module_named (instance_at is i).of_module (in_document i lt)).subs (in_subs i k lt in_k))
+
     sub_plain : (i k : ℕ) → i < length is → k < length (structure_at h (instance_at is i).of_module).substitutions → IsPlain (sub_name_at d (instance_at is i).of_module k)
-    sub_plain i k lt in_k =
-        subst IsPlain (sym (sub_name i k lt in_k)) (plain_name (slice_index_or (subs_of i) k []) (name_in (subs_of i) k (module_named (instance_at is i).of_module (in_document i lt)).subs (in_subs i k lt in_k)))
+    sub_plain i k lt in_k = plain_name (sub_name_at d (instance_at is i).of_module k) (sub_named i k lt in_k)
 
     -- the name of an instance
     name_is : (i : ℕ) → i < length is → name_at names i ≡ name_by d is names (instance_at is i).of_module (instance_at is i).part_of
@@ -133,7 +135,7 @@ module _ (d : RawDocument) (well : AreWellNamed d) where
         let before = is_placed.behind in
         let in_part : part.instance < length is = omega (arith, before) in
         path_joined (name_at names part.instance) (sub_name_at d (instance_at is part.instance).of_module part.substitution) (paths part.instance (omega (arith, before)) in_part)
-        (sub_plain part.instance part.substitution in_part is_placed.substitution)
+        (sub_named part.instance part.substitution in_part is_placed.substitution)
 
     paths_up_to : (n : ℕ) → ArePathsUpTo n
     paths_up_to zero i few in_i = absurd (omega arith)

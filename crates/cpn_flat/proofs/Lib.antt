@@ -16,6 +16,7 @@ mod NamedFlatNets
 mod ShortFlatNets
 mod ApartInstances
 mod JoinedNames
+mod FlatNameRows
 mod InstancePaths
 pub mod DistinctFlatNames
 mod FlatMeanings

@@ -1,6 +1,7 @@
 pub mod Refusals
 pub mod Names
 pub mod FlatNet
+pub mod FlatNames
 pub mod InitialMarking
 pub mod Flat
 pub mod Placed

@@ -33,6 +33,10 @@ pub returns-clause-well_spelled : goal.returns-clause-well_spelled
 returns-clause-well_spelled c =
     (loaded_well (document_view c.args.document) (accepted_view c.in_ok-accepted.accepted) (loaded_view c.in_ok-loaded.loaded) c.requires.well_named c.in_ok-accepted.ensures.well c.in_ok-accepted.ensures.reads c.in_ok-loaded.ensures.reads).spelled
 
+pub returns-clause-flat_names : goal.returns-clause-flat_names
+returns-clause-flat_names c =
+    (loaded_well (document_view c.args.document) (accepted_view c.in_ok-accepted.accepted) (loaded_view c.in_ok-loaded.loaded) c.requires.well_named c.in_ok-accepted.ensures.well c.in_ok-accepted.ensures.reads c.in_ok-loaded.ensures.reads).flat
+
 pub returns-clause-short : goal.returns-clause-short
 returns-clause-short c =
     (loaded_well (document_view c.args.document) (accepted_view c.in_ok-accepted.accepted) (loaded_view c.in_ok-loaded.loaded) c.requires.well_named c.in_ok-accepted.ensures.well c.in_ok-accepted.ensures.reads c.in_ok-loaded.ensures.reads).short
