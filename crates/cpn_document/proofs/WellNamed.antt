@@ -1,4 +1,5 @@
--- Where the rules of documents are kept, things in one list have names, no two of them the same; and there are few declarations.
+-- Where the rules of documents are kept, things in one list have names, no two of them the same, nor have a transition and a
+-- substitution transition of a module one name; and there are few declarations.
 use Rattle.std.proofs.Common.{◌≡◌, ℕ, suc, ◌≤◌, Bool, true, false, not, ◌||◌, List, [], ◌∷◌, ◌++◌, map, refl, sym, ◌∙◌, subst, leb-true}
 use Rattle.std.specs.Prelude.{None, codes}
 use Rattle.std.specs.List.{AllByRecursion, IsDistinct, list_all, list_any}
@@ -13,7 +14,8 @@ use Rattle.cpn_document.specs.Refusals.{FormRefusal}
 use Rattle.cpn_document.specs.Rules.{Rule, first_broken}
 use Rattle.cpn_document.specs.Texts.{is_name}
 use Rattle.cpn_document.specs.Parts.{is_one_of, text_in, text_at, items_at, name_rules, new_name_rules, names_in, each_named}
-use Rattle.cpn_document.specs.Document.{most_declarations, place_in, transition_in, sub_in, module_in, document_in, place_rules, each_place, places_rules, transition_rules, each_transition, transitions_rules, sub_rules, each_sub, subs_rules, module_rules, each_module, modules_rules, declarations_rules, document_rules}
+use Rattle.cpn_document.specs.Document.{most_declarations, place_in, transition_in, sub_in, module_in, fusion_in, document_in, place_rules, each_place, places_rules, transition_rules, each_transition, transitions_rules, sub_rules, each_sub, subs_rules, module_rules, each_module, modules_rules, fusion_rules, each_fusion, fusions_rules, declarations_rules, document_rules}
+use Rattle.cpn_document.specs.Monitors.{monitor_in, monitor_rules, each_monitor, monitors_rules}
 use Rattle.cpn_document.specs.WellNamed.{AreNames, IsWellNamed, AreWellNamed, HasFewDeclarations}
 use Rattle.cpn_document.specs.declared.pointers.Pointer.{Pointer}
 use Rattle.cpn_document.proofs.BrokenRules.{broken_append}
@@ -127,12 +129,16 @@ transitions_named version m d h =
     are_names transition_in (λ transition. transition.name) (λ e. refl) [] (items_at (codes "transitions") d)
     (each_new (transition_rules version m) (transition_new version m) 0 [] (items_at (codes "transitions") d) (none_parts _ _ k).1)
 
-subs_named : (m : ℕ) (transitions : List (List ℕ)) (d : Data) → first_broken (subs_rules m transitions d) ≡ None → AreNames (map (λ sub. sub.name) (module_in d).subs)
+subs_new : (m : ℕ) (transitions : List (List ℕ)) (d : Data) → first_broken (subs_rules m transitions d) ≡ None → AreNew transitions (names_in (items_at (codes "subs") d))
 unfolding subs_rules each_sub
-subs_named m transitions d h =
+subs_new m transitions d h =
     let k = simp broken_append at h in
-    are_names sub_in (λ sub. sub.name) (λ e. refl) transitions (items_at (codes "subs") d)
-    (each_new (sub_rules m) (sub_new m) 0 transitions (items_at (codes "subs") d) (none_parts _ _ k).1)
+    each_new (sub_rules m) (sub_new m) 0 transitions (items_at (codes "subs") d) (none_parts _ _ k).1
+
+-- none of them has one of these names
+subs_apart : (transitions : List (List ℕ)) (ds : List Data) → AllByRecursion (λ name. is_one_of name transitions ≡ false) (names_in ds) → AllByRecursion (λ sub. is_one_of sub.name transitions ≡ false) (map sub_in ds)
+subs_apart transitions [] h = tt
+subs_apart transitions (d ∷ ds) h = (h.0, subs_apart transitions ds h.1)
 
 -- ---- modules
 
@@ -143,12 +149,20 @@ module_named version m earlier d h =
     let before_arcs = none_parts _ _ before_subs.0 in
     let before_transitions = none_parts _ _ before_arcs.0 in
     let before_places = none_parts _ _ before_transitions.0 in
+    let subs = subs_new m (names_in (items_at (codes "transitions") d)) d before_subs.1 in
     record {
-      name = (new_kept _ _ _ earlier d (none_parts _ _ before_places.0).1).formed;
       places = places_named m d before_places.1;
       transitions = transitions_named version m d before_transitions.1;
-      subs = subs_named m _ d before_subs.1;
+      subs = are_names sub_in (λ sub. sub.name) (λ e. refl) (names_in (items_at (codes "transitions") d)) (items_at (codes "subs") d) subs;
+      apart = subst (λ (names : List (List ℕ)). AllByRecursion (λ sub. is_one_of sub.name names ≡ false) (module_in d).subs) (sym (names_of transition_in (λ transition. transition.name) (λ e. refl) (items_at (codes "transitions") d)))
+          (subs_apart (names_in (items_at (codes "transitions") d)) (items_at (codes "subs") d) subs.new);
     }
+
+module_new : (version m : ℕ) (earlier : List (List ℕ)) (d : Data) → first_broken (module_rules version m earlier d) ≡ None → IsNew earlier (text_at (codes "name") d)
+unfolding module_rules
+module_new version m earlier d h =
+    let k = simp broken_append at h in
+    new_kept _ _ _ earlier d (none_parts _ _ (none_parts _ _ (none_parts _ _ (none_parts _ _ (none_parts _ _ k).0).0).0).0).1
 
 modules_named : (version i : ℕ) (earlier : List (List ℕ)) (ds : List Data) → first_broken (each_named (module_rules version) i earlier ds) ≡ None → AllByRecursion IsWellNamed (map module_in ds)
 unfolding each_named
@@ -157,9 +171,41 @@ modules_named version i earlier (d ∷ ds) h =
     let k = none_parts _ _ (simp broken_append at h) in
     (module_named version i earlier d k.0, modules_named version (suc i) (earlier ++ text_at (codes "name") d ∷ []) ds k.1)
 
-list_named : (version : ℕ) (d : Data) → first_broken (modules_rules version d) ≡ None → AllByRecursion IsWellNamed (map module_in (items_at (codes "modules") d))
+-- the modules of a document, and the things of each
+record HasNamedModules (d : Data) : Type 0 where
+  pub modules : AreNames (map (λ of_document. of_document.name) (document_in d).modules)
+  pub each : AllByRecursion IsWellNamed (document_in d).modules
+
+list_named : (version : ℕ) (d : Data) → first_broken (modules_rules version d) ≡ None → HasNamedModules d
 unfolding modules_rules each_module
-list_named version d h = let k = simp broken_append at h in modules_named version 0 [] (items_at (codes "modules") d) (none_parts _ _ k).1
+list_named version d h =
+    let k = none_parts _ _ (simp broken_append at h) in
+    record {
+      modules = are_names module_in (λ of_document. of_document.name) (λ e. refl) [] (items_at (codes "modules") d) (each_new (module_rules version) (module_new version) 0 [] (items_at (codes "modules") d) k.1);
+      each = modules_named version 0 [] (items_at (codes "modules") d) k.1;
+    }
+
+-- ---- fusion sets, monitors
+
+fusion_new : (i : ℕ) (earlier : List (List ℕ)) (d : Data) → first_broken (fusion_rules i earlier d) ≡ None → IsNew earlier (text_at (codes "name") d)
+unfolding fusion_rules
+fusion_new i earlier d h = let k = simp broken_append at h in new_kept _ _ _ earlier d (none_parts _ _ (none_parts _ _ (none_parts _ _ k).0).0).1
+
+fusions_named : (d : Data) → first_broken (fusions_rules d) ≡ None → AreNames (map (λ fusion. fusion.name) (document_in d).fusions)
+unfolding fusions_rules each_fusion
+fusions_named d h =
+    let k = simp broken_append at h in
+    are_names fusion_in (λ fusion. fusion.name) (λ e. refl) [] (items_at (codes "fusions") d) (each_new fusion_rules fusion_new 0 [] (items_at (codes "fusions") d) (none_parts _ _ k).1)
+
+monitor_new : (i : ℕ) (earlier : List (List ℕ)) (d : Data) → first_broken (monitor_rules i earlier d) ≡ None → IsNew earlier (text_at (codes "name") d)
+unfolding monitor_rules
+monitor_new i earlier d h = let k = simp broken_append at h in new_kept _ _ _ earlier d (none_parts _ _ (none_parts _ _ (none_parts _ _ k).0).0).1
+
+monitors_named : (d : Data) → first_broken (monitors_rules d) ≡ None → AreNames (map (λ monitor. monitor.name) (document_in d).monitors)
+unfolding monitors_rules each_monitor
+monitors_named d h =
+    let k = simp broken_append at h in
+    are_names monitor_in (λ monitor. monitor.name) (λ e. refl) [] (items_at (codes "monitors") d) (each_new monitor_rules monitor_new 0 [] (items_at (codes "monitors") d) (none_parts _ _ (none_parts _ _ k).0).1)
 
 -- ---- the document
 
@@ -167,8 +213,11 @@ list_named version d h = let k = simp broken_append at h in modules_named versio
 pub document_named : (version : ℕ) (d : Data) → first_broken (document_rules version d) ≡ None → AreWellNamed (document_in d)
 unfolding document_rules
 document_named version d h =
-    let k = simp broken_append at h in
-    list_named version d (none_parts _ _ (none_parts _ _ (none_parts _ _ (none_parts _ _ k).0).0).0).1
+    let before_phases = none_parts _ _ (simp broken_append at h) in
+    let before_monitors = none_parts _ _ before_phases.0 in
+    let before_fusions = none_parts _ _ before_monitors.0 in
+    let modules = list_named version d (none_parts _ _ before_fusions.0).1 in
+    record { modules = modules.modules; fusions = fusions_named d before_fusions.1; monitors = monitors_named d before_monitors.1; each = modules.each }
 
 declarations_few : (d : Data) → first_broken (declarations_rules d) ≡ None → HasFewDeclarations (document_in d)
 unfolding declarations_rules

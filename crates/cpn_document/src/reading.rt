@@ -30,7 +30,8 @@ pub fn read_document(alloc: Global, bytes: &[u8]) -> Result<Document, DocError>
     ensures refused { IfErr result (λ e. IfSome (refusal_of e) (λ refusal. IsDocument bytes.now (refused refusal))) }
     // No transition of a document has more than 64 arcs.
     ensures few_arcs { IfOk result (λ document. HaveFewArcs (document_view document)) }
-    // The things of each list of a module have names, no two of them the same.
+    // The modules, the fusion sets, the monitors, and the things of each list of a module have names, no two of them the same; nor
+    // have a transition and a substitution transition of one module.
     ensures well_named { IfOk result (λ document. AreWellNamed (document_view document)) }
     // A document has at most 1,024 declarations.
     ensures few_declarations { IfOk result (λ document. HasFewDeclarations (document_view document)) }

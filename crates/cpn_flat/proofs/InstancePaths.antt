@@ -5,7 +5,7 @@ use Rattle.std.proofs.lemmas.List.{length-map, get_or-map}
 use Rattle.std.proofs.lemmas.List.Elements.{All-from_recursion, All-get_or}
 use Rattle.std.proofs.lemmas.List.Sums.{AllPass-from_list_all}
 use Rattle.cpn_definitions.proofs.DistinctLists.{positions_from_distinct}
-use Rattle.cpn_document.specs.Document.{RawSub, RawDocument}
+use Rattle.cpn_document.specs.Document.{RawSub, RawModule, RawDocument}
 use Rattle.cpn_document.specs.Texts.{is_name}
 use Rattle.cpn_document.specs.WellNamed.{AreNames, IsWellNamed, AreWellNamed}
 use Rattle.cpn_module.specs.Hierarchy.{PlainHierarchy, PlainStructure, no_structure, structure_at}
@@ -39,7 +39,14 @@ named_by d is names m (Some part) = refl
 module _ (d : RawDocument) (well : AreWellNamed d) where
   -- the module of a number is well named
   pub module_named : (m : ℕ) → m < length d.modules → IsWellNamed (raw_module_at d m)
-  module_named m lt = All-get_or IsWellNamed d.modules m no_module lt (All-from_recursion IsWellNamed d.modules well)
+  module_named m lt = All-get_or IsWellNamed d.modules m no_module lt (All-from_recursion IsWellNamed d.modules well.each)
+
+  -- and its name is a name
+  module_name : (m : ℕ) → m < length d.modules → is_name (raw_module_at d m).name ≡ true
+  module_name m lt =
+      let names = map (λ (of_document : RawModule). of_document.name) d.modules in
+      let many = length-map d.modules (λ (of_document : RawModule). of_document.name) in
+      subst (λ name. is_name name ≡ true) (get_or-map (λ (of_document : RawModule). of_document.name) d.modules m no_module [] lt) (name_in names m well.modules (omega (arith, lt, many)))
 
   module _ (h : PlainHierarchy) (h_is : h ≡ hierarchy_in d) (is : List PlainInstance) (within : AreInModules h is) (placed : ArePlaced h is) (names : List (List ℕ)) (are : AreInstanceNames d is names) where
     as_many_modules : length h.modules ≡ length d.modules
@@ -81,7 +88,7 @@ module _ (d : RawDocument) (well : AreWellNamed d) where
     name_is i lt = are.named i lt ∙ named_by d is names (instance_at is i).of_module (instance_at is i).part_of
 
     module_plain : (m : ℕ) → m < length d.modules → IsPlain (raw_module_at d m).name
-    module_plain m lt = plain_name (raw_module_at d m).name (module_named m lt).name
+    module_plain m lt = plain_name (raw_module_at d m).name (module_name m lt)
 
     -- ---- no two have one name
 
@@ -130,7 +137,7 @@ module _ (d : RawDocument) (well : AreWellNamed d) where
     ArePathsUpTo n = (i : ℕ) → i < n → i < length is → IsPath (name_at names i)
 
     path_by : (n i m : ℕ) (part : Option PlainPart) → ArePathsUpTo n → i ≤ n → i < length is → m < length d.modules → IsPlaced h is i m part → IsPath (name_by d is names m part)
-    path_by n i m None paths few in_i in_m is_placed = path_from_name (raw_module_at d m).name (module_named m in_m).name
+    path_by n i m None paths few in_i in_m is_placed = path_from_name (raw_module_at d m).name (module_name m in_m)
     path_by n i m (Some part) paths few in_i in_m is_placed =
         let before = is_placed.behind in
         let in_part : part.instance < length is = omega (arith, before) in
