@@ -1,9 +1,23 @@
 -- Worked cases of names: words, paths, and nets with and without distinct names.
 use Rattle.std.proofs.Common.{◌≡◌, ℕ, true, false, List, [], ◌∷◌, map, refl}
 use Rattle.std.specs.Prelude.{codes, None}
-use Rattle.std.specs.List.{IsDistinct}
-use Rattle.cpn_definitions.specs.DistinctNames.{is_word, is_path, HasDistinctNames, HasWellSpelledNames}
+use Rattle.std.specs.List.{IsDistinct, list_all, list_any}
+use Rattle.cpn_definitions.specs.DistinctNames.{is_letter, is_digit, is_word, is_path, HasDistinctNames, HasWellSpelledNames}
 use Rattle.cpn_definitions.specs.Net.{PlainNet, no_colour}
+
+-- ---- letters and digits, and the bytes next to them
+
+letters : list_all is_letter (codes "AZaz") ≡ true
+letters = refl
+
+no_letters : list_any is_letter (codes "@[`{") ≡ false
+no_letters = refl
+
+digits : list_all is_digit (codes "09") ≡ true
+digits = refl
+
+no_digits : list_any is_digit (codes "/:") ≡ false
+no_digits = refl
 
 -- ---- words and paths
 
@@ -93,11 +107,12 @@ a_place_has_no_path h = let no = h.places in cc
 a_transition_has_no_path : HasWellSpelledNames (net [] (codes "a:" ∷ []) [] [] []) → ⊥
 a_transition_has_no_path h = let no = h.transitions in cc
 
-a_variable_has_no_word : HasWellSpelledNames (net [] [] (codes "x=" ∷ []) [] []) → ⊥
+-- what is a path and no word
+a_variable_has_no_word : HasWellSpelledNames (net [] [] (codes "x-1" ∷ []) [] []) → ⊥
 a_variable_has_no_word h = let no = h.variables in cc
 
 a_constant_has_no_word : HasWellSpelledNames (net [] [] [] ((codes "a b" ∷ []) ∷ []) []) → ⊥
 a_constant_has_no_word h = let no = h.constants in cc
 
-a_constructor_has_no_word : HasWellSpelledNames (net [] [] [] [] ((codes "a(" ∷ []) ∷ [])) → ⊥
+a_constructor_has_no_word : HasWellSpelledNames (net [] [] [] [] ((codes "a/b" ∷ []) ∷ [])) → ⊥
 a_constructor_has_no_word h = let no = h.constructors in cc

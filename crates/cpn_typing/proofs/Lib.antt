@@ -20,6 +20,7 @@ pub mod DistinctDeclared
 pub mod ShortDeclared
 pub mod MeaningsInNets
 mod DeclarationRows
+mod DeclaredNetRows
 mod FunctionRows
 mod ArcRows
 mod WorkedNames
