@@ -1,6 +1,6 @@
 -- The flat net of a document has distinct names: no two places and no two transitions have one name, nor have two variables, two
 -- constants of an enumeration or two constructors of a union. All its names are well spelled, and those of places and transitions are
--- flat names. And its integers have 64 bits.
+-- flattened names. And its integers have 64 bits.
 use Rattle.std.proofs.Common.{◌≡◌, ℕ, suc, ◌+◌, ◌<◌, Bool, true, List, [], ◌∷◌, ◌++◌, length, take, map, sum, refl, sym, ap, ap₂, ◌∙◌, subst, inl, inr, arith}
 use Rattle.std.specs.Prelude.{slice_index_or}
 use Rattle.std.specs.List.{AllByRecursion, list_all}
@@ -251,7 +251,7 @@ module _ (d : RawDocument) (a : PlainAccepted) (well_named : AreWellNamed d) (ha
 
 -- ---- what is meant
 
--- A net whose names are distinct, well spelled and flat, and whose integers have 64 bits.
+-- A net whose names are distinct and well spelled, those of places and transitions flattened names, and whose integers have 64 bits.
 pub record IsWellWritten (n : PlainNet) : Type 0 where
   pub distinct : HasDistinctNames n
   pub spelled : HasWellSpelledNames n

@@ -1,4 +1,4 @@
--- Rows: nets whose places and transitions have flat names, and nets where one has not.
+-- Rows: a net whose places and transitions have flattened names, and nets where one has not.
 use Rattle.std.proofs.Common.{ℕ, List, [], ◌∷◌, map, refl}
 use Rattle.std.specs.Prelude.{codes, None}
 use Rattle.cpn_definitions.specs.Net.{PlainNet, no_colour}
