@@ -102,23 +102,23 @@ are_names made name same earlier ds new = subst AreNames (sym (names_of made nam
 
 -- ---- places, transitions, substitution transitions
 
-place_new : (m i : ℕ) (earlier : List (List ℕ)) (d : Data) → first_broken (place_rules m i earlier d) ≡ None → IsNew earlier (text_at (codes "name") d)
+place_new : (version m i : ℕ) (earlier : List (List ℕ)) (d : Data) → first_broken (place_rules version m i earlier d) ≡ None → IsNew earlier (text_at (codes "name") d)
 unfolding place_rules
-place_new m i earlier d h = let k = simp broken_append at h in new_kept _ _ _ earlier d (none_parts _ _ (none_parts _ _ (none_parts _ _ (none_parts _ _ k).0).0).0).1
+place_new version m i earlier d h = let k = simp broken_append at h in new_kept _ _ _ earlier d (none_parts _ _ (none_parts _ _ (none_parts _ _ (none_parts _ _ k).0).0).0).1
 
 transition_new : (version m i : ℕ) (earlier : List (List ℕ)) (d : Data) → first_broken (transition_rules version m i earlier d) ≡ None → IsNew earlier (text_at (codes "name") d)
 unfolding transition_rules
 transition_new version m i earlier d h = let k = simp broken_append at h in new_kept _ _ _ earlier d (none_parts _ _ (none_parts _ _ (none_parts _ _ k).0).0).1
 
-sub_new : (m i : ℕ) (earlier : List (List ℕ)) (d : Data) → first_broken (sub_rules m i earlier d) ≡ None → IsNew earlier (text_at (codes "name") d)
+sub_new : (version m i : ℕ) (earlier : List (List ℕ)) (d : Data) → first_broken (sub_rules version m i earlier d) ≡ None → IsNew earlier (text_at (codes "name") d)
 unfolding sub_rules
-sub_new m i earlier d h = let k = simp broken_append at h in new_kept _ _ _ earlier d (none_parts _ _ (none_parts _ _ (none_parts _ _ (none_parts _ _ k).0).0).0).1
+sub_new version m i earlier d h = let k = simp broken_append at h in new_kept _ _ _ earlier d (none_parts _ _ (none_parts _ _ (none_parts _ _ (none_parts _ _ k).0).0).0).1
 
-places_named : (m : ℕ) (d : Data) → first_broken (places_rules m d) ≡ None → AreNames (map (λ place. place.name) (module_in d).places)
+places_named : (version m : ℕ) (d : Data) → first_broken (places_rules version m d) ≡ None → AreNames (map (λ place. place.name) (module_in d).places)
 unfolding places_rules each_place
-places_named m d h =
+places_named version m d h =
     let k = simp broken_append at h in
-    are_names place_in (λ place. place.name) (λ e. refl) [] (items_at (codes "places") d) (each_new (place_rules m) (place_new m) 0 [] (items_at (codes "places") d) (none_parts _ _ k).1)
+    are_names place_in (λ place. place.name) (λ e. refl) [] (items_at (codes "places") d) (each_new (place_rules version m) (place_new version m) 0 [] (items_at (codes "places") d) (none_parts _ _ k).1)
 
 transitions_named : (version m : ℕ) (d : Data) → first_broken (transitions_rules version m d) ≡ None → AreNames (map (λ transition. transition.name) (module_in d).transitions)
 unfolding transitions_rules each_transition
@@ -127,12 +127,12 @@ transitions_named version m d h =
     are_names transition_in (λ transition. transition.name) (λ e. refl) [] (items_at (codes "transitions") d)
     (each_new (transition_rules version m) (transition_new version m) 0 [] (items_at (codes "transitions") d) (none_parts _ _ k).1)
 
-subs_named : (m : ℕ) (transitions : List (List ℕ)) (d : Data) → first_broken (subs_rules m transitions d) ≡ None → AreNames (map (λ sub. sub.name) (module_in d).subs)
+subs_named : (version m : ℕ) (transitions : List (List ℕ)) (d : Data) → first_broken (subs_rules version m transitions d) ≡ None → AreNames (map (λ sub. sub.name) (module_in d).subs)
 unfolding subs_rules each_sub
-subs_named m transitions d h =
+subs_named version m transitions d h =
     let k = simp broken_append at h in
     are_names sub_in (λ sub. sub.name) (λ e. refl) transitions (items_at (codes "subs") d)
-    (each_new (sub_rules m) (sub_new m) 0 transitions (items_at (codes "subs") d) (none_parts _ _ k).1)
+    (each_new (sub_rules version m) (sub_new version m) 0 transitions (items_at (codes "subs") d) (none_parts _ _ k).1)
 
 -- ---- modules
 
@@ -145,9 +145,9 @@ module_named version m earlier d h =
     let before_places = none_parts _ _ before_transitions.0 in
     record {
       name = (new_kept _ _ _ earlier d (none_parts _ _ before_places.0).1).formed;
-      places = places_named m d before_places.1;
+      places = places_named version m d before_places.1;
       transitions = transitions_named version m d before_transitions.1;
-      subs = subs_named m _ d before_subs.1;
+      subs = subs_named version m _ d before_subs.1;
     }
 
 modules_named : (version i : ℕ) (earlier : List (List ℕ)) (ds : List Data) → first_broken (each_named (module_rules version) i earlier ds) ≡ None → AllByRecursion IsWellNamed (map module_in ds)
