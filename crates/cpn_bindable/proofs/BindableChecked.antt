@@ -1,10 +1,13 @@
 -- What is found from what is known at first is bindable, and the first that is not found is the answer.
-use Rattle.std.proofs.Common.{◌≡◌, ◌↔◌, ℕ, Bool, true, false, cond, List, [], ◌∷◌, ◌++◌, length, slice_index_or, Option, Some, refl, sym, ap, ◌∙◌, subst, inl, inr, ⊎_elim}
+use Rattle.std.proofs.Common.{◌≡◌, ◌↔◌, ℕ, ◌<◌, Bool, true, false, cond, List, [], ◌∷◌, ◌++◌, length, map, slice_index_or, Option, Some, None, refl, sym, ap, ◌∙◌, subst, inl, inr, ⊎_elim}
+use Rattle.std.specs.Prelude.{IfSome}
 use Rattle.std.specs.List.{flat_map, AllByRecursion}
 use Rattle.std.proofs.lemmas.List.{length-map}
 use Rattle.cpn_definitions.specs.Net.{PlainArc, Coloured, PlainTransition, PlainNet, variable_at, nothing}
-use Rattle.cpn_definitions.specs.Bindable.{binding_terms, pattern_variables, IsInTerm, IsSmall, IsBindable}
+use Rattle.cpn_definitions.specs.Bindable.{binding_terms, pattern_variables, IsInTerm, IsSmall, IsBindable, by_size}
 use Rattle.cpn_definitions.proofs.RisingLists.{IsIn, in_from_contains, contains_from_in, in_append_left, in_append_right, in_flat_map, of_one_in, in_flat_from}
+use Rattle.cpn_core.specs.Nets.{variable_view}
+use Rattle.cpn_core.specs.declared.nets.Variable.{Variable}
 use Rattle.cpn_typing.specs.BindableRule.{FirstIs}
 use Rattle.cpn_typing.specs.Closure.{equations_of, found_in}
 use Rattle.cpn_typing.proofs.LeastBindable.{IsStart, listed_in, in_listed, found_from_start}
@@ -13,6 +16,7 @@ use Rattle.cpn_bindable.specs.declared.equations.Equation.{Equation as Pair}
 use Rattle.cpn_bindable.specs.Equations.{equation_view, equations_view}
 use Rattle.cpn_bindable.specs.Transitions.{CarriesItsTerms}
 use Rattle.cpn_bindable.specs.Known.{unlisted, is_listed, carried_variables, sources_of, AddsSmall, first_not}
+use Rattle.cpn_bindable.proofs.SmallAdded.{there_or_small}
 
 -- ---- what is known at first
 
@@ -64,6 +68,14 @@ first_is n t known (x ∷ xs) told = split (known x) refl (first_is n t known xs
     split : (b : Bool) → known x ≡ b → FirstIs n t xs (first_not known xs) → FirstIs n t (x ∷ xs) (cond b (first_not known xs) (Some x))
     split true e rest = one_more n t x xs (first_not known xs) ((told x (inl refl)).0 e) rest
     split false e rest = record { before = []; behind = xs; stands = refl; bindable_before = tt; not_bindable = λ h. let there : known x ≡ true = (told x (inl refl)).1 h in cc }
+
+-- The first that is not bindable is there.
+abbrev net_of : List Variable → PlainNet
+net_of vs = record { places = []; transitions = []; variables = map variable_view vs; constants = []; constructors = []; functions = [] }
+
+pub first_there : (vs : List Variable) (t : PlainTransition) (xs : List ℕ) (o : Option ℕ) → ((n : PlainNet) → n.variables ≡ map variable_view vs → FirstIs n t xs o) → IfSome o (λ x. x < length vs)
+first_there vs t xs None first = tt
+first_there vs t xs (Some x) first = ⊎_elim (λ (lt : x < length vs). lt) (λ small. absurd ((first (net_of vs) refl).not_bindable (by_size x small))) (there_or_small vs x)
 
 -- ---- the answer
 

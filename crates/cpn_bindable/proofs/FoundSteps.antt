@@ -7,7 +7,7 @@ use Rattle.std.proofs.lemmas.List.Edits.{length-remove}
 use Rattle.cpn_typing.specs.Closure.{Equation, with_other, ready_among, stepped, found_in}
 use Rattle.cpn_bindable.specs.declared.equations.Equation.{Equation as Pair}
 use Rattle.cpn_bindable.specs.Equations.{equation_view, equations_view}
-use Rattle.cpn_bindable.specs.Known.{unlisted, is_listed, IsReadyPlace}
+use Rattle.cpn_bindable.specs.Known.{unlisted, is_listed, IsReadyIndex}
 
 -- ---- the same is known
 
@@ -37,7 +37,7 @@ pub found_ends : (k : ℕ) (known : List ℕ) (qs : List Equation) → ready_amo
 found_ends zero known qs is = refl
 found_ends (suc k) known qs is = ap (λ o. stepped o known (λ now rest. found_in k unlisted now rest)) is
 
--- ---- the place of the first that is ready
+-- ---- the index of the first that is ready
 
 abbrev pub with_others : List Equation → Option (Equation × List Equation) → Option (Equation × List Equation)
 with_others [] o = o
@@ -55,25 +55,25 @@ one_later : (qs : List Equation) (q : Equation) (o : Option (Equation × List Eq
 one_later [] q o = refl
 one_later (p ∷ qs) q o = ap (with_other p) (one_later qs q o)
 
--- the equations from a place on, in the program's data
-from_place : (es : List Pair) (i : ℕ) (e : Pair) → i < length es → e ≡ get_or es i e → drop i es ≡ e ∷ drop (i + 1) es
-from_place es i e lt at = rw (add-one, drop-cons es i e lt, ← at) refl
+-- the equations from an index on, in the program's data
+from_index : (es : List Pair) (i : ℕ) (e : Pair) → i < length es → e ≡ get_or es i e → drop i es ≡ e ∷ drop (i + 1) es
+from_index es i e lt at = rw (add-one, drop-cons es i e lt, ← at) refl
 
-up_to_place : (es : List Pair) (i : ℕ) (e : Pair) → i < length es → e ≡ get_or es i e → take (i + 1) es ≡ take i es ++ e ∷ []
-up_to_place es i e lt at = rw (take_more es i e lt, ← at) refl
+up_to_index : (es : List Pair) (i : ℕ) (e : Pair) → i < length es → e ≡ get_or es i e → take (i + 1) es ≡ take i es ++ e ∷ []
+up_to_index es i e lt at = rw (take_more es i e lt, ← at) refl
 
-pub not_at_place : (known : ℕ → Bool) (es : List Pair) (i : ℕ) (e : Pair) → i < length es → e ≡ get_or es i e → list_all known e.sources.items ≡ false
+pub not_at_index : (known : ℕ → Bool) (es : List Pair) (i : ℕ) (e : Pair) → i < length es → e ≡ get_or es i e → list_all known e.sources.items ≡ false
     → with_others (equations_view (take i es)) (ready_among known (equations_view (drop i es))) ≡ with_others (equations_view (take (i + 1) es)) (ready_among known (equations_view (drop (i + 1) es)))
-not_at_place known es i e lt at unfit =
-    ap (λ xs. with_others (equations_view (take i es)) (ready_among known (equations_view xs))) (from_place es i e lt at)
+not_at_index known es i e lt at unfit =
+    ap (λ xs. with_others (equations_view (take i es)) (ready_among known (equations_view xs))) (from_index es i e lt at)
     ∙ ap (λ b. with_others (equations_view (take i es)) (cond b (Some (equation_view e, equations_view (drop (i + 1) es))) (with_other (equation_view e) (ready_among known (equations_view (drop (i + 1) es)))))) unfit
     ∙ sym (one_later (equations_view (take i es)) (equation_view e) (ready_among known (equations_view (drop (i + 1) es))))
-    ∙ ap (λ xs. with_others xs (ready_among known (equations_view (drop (i + 1) es)))) (sym (ap equations_view (up_to_place es i e lt at) ∙ map-append equation_view (take i es) (e ∷ [])))
+    ∙ ap (λ xs. with_others xs (ready_among known (equations_view (drop (i + 1) es)))) (sym (ap equations_view (up_to_index es i e lt at) ∙ map-append equation_view (take i es) (e ∷ [])))
 
-pub at_place : (known : ℕ → Bool) (es : List Pair) (i : ℕ) (e : Pair) → i < length es → e ≡ get_or es i e → list_all known e.sources.items ≡ true
+pub at_index : (known : ℕ → Bool) (es : List Pair) (i : ℕ) (e : Pair) → i < length es → e ≡ get_or es i e → list_all known e.sources.items ≡ true
     → with_others (equations_view (take i es)) (ready_among known (equations_view (drop i es))) ≡ Some (equation_view e, remove (equations_view es) i)
-at_place known es i e lt at fit =
-    ap (λ xs. with_others (equations_view (take i es)) (ready_among known (equations_view xs))) (from_place es i e lt at)
+at_index known es i e lt at fit =
+    ap (λ xs. with_others (equations_view (take i es)) (ready_among known (equations_view xs))) (from_index es i e lt at)
     ∙ ap (λ b. with_others (equations_view (take i es)) (cond b (Some (equation_view e, equations_view (drop (i + 1) es))) (with_other (equation_view e) (ready_among known (equations_view (drop (i + 1) es)))))) fit
     ∙ one_behind (equations_view (take i es)) (equations_view (drop (i + 1) es)) (equation_view e)
     ∙ ap (λ xs. Some (equation_view e, xs)) rest
@@ -81,10 +81,10 @@ at_place known es i e lt at fit =
     rest : equations_view (take i es) ++ equations_view (drop (i + 1) es) ≡ remove (equations_view es) i
     rest = rw (take-map equation_view i es, drop-map equation_view (suc i) es, add-one) refl
 
-pub past_places : (known : ℕ → Bool) (es : List Pair) (i : ℕ) → length es ≤ i → with_others (equations_view (take i es)) (ready_among known (equations_view (drop i es))) ≡ None
-past_places known es i le = ap (λ xs. with_others (equations_view (take i es)) (ready_among known (equations_view xs))) (drop_of_length-le es le) ∙ none_behind (equations_view (take i es))
+pub past_all : (known : ℕ → Bool) (es : List Pair) (i : ℕ) → length es ≤ i → with_others (equations_view (take i es)) (ready_among known (equations_view (drop i es))) ≡ None
+past_all known es i le = ap (λ xs. with_others (equations_view (take i es)) (ready_among known (equations_view xs))) (drop_of_length-le es le) ∙ none_behind (equations_view (take i es))
 
--- ---- the equation at a place
+-- ---- the equation at an index
 
 pub seen_at : (es : List Pair) (i : ℕ) (e : Pair) → i < length es → e ≡ get_or es i e → equation_view e ≡ get_or (equations_view es) i (equation_view e)
 seen_at [] i e lt at = absurd (omega arith)
@@ -100,10 +100,10 @@ removed : (es : List Pair) (i : ℕ) → remove (equations_view es) i ≡ equati
 removed es i = rw (take-map equation_view i es, drop-map equation_view (suc i) es) (sym (map-append equation_view (take i es) (drop (suc i) es)))
 
 -- a turn: the equation that is ready is done with, and its variable is known
-pub found_on : (ks known now : List ℕ) (xs es rest : List Pair) (i : ℕ) (e : Pair) → ks ≡ known → xs ≡ es → IsReadyPlace (is_listed ks) (equations_view xs) (Some i) → e ≡ get_or es i e → rest ≡ remove es i
+pub found_on : (ks known now : List ℕ) (xs es rest : List Pair) (i : ℕ) (e : Pair) → ks ≡ known → xs ≡ es → IsReadyIndex (is_listed ks) (equations_view xs) (Some i) → e ≡ get_or es i e → rest ≡ remove es i
     → ((x : ℕ) → is_listed now x ≡ is_listed (e.variable ∷ known) x) → (x : ℕ) → is_listed (found_in (length rest) unlisted now (equations_view rest)) x ≡ is_listed (found_in (length es) unlisted known (equations_view es)) x
 found_on ks known now xs es rest i e ks_are xs_are ready at left learnt x =
-    let here : IsReadyPlace (is_listed known) (equations_view es) (Some i) = subst (λ zs. IsReadyPlace (is_listed zs) (equations_view es) (Some i)) ks_are (subst (λ zs. IsReadyPlace (is_listed ks) (equations_view zs) (Some i)) xs_are ready) in
+    let here : IsReadyIndex (is_listed known) (equations_view es) (Some i) = subst (λ zs. IsReadyIndex (is_listed zs) (equations_view es) (Some i)) ks_are (subst (λ zs. IsReadyIndex (is_listed ks) (equations_view zs) (Some i)) xs_are ready) in
     let lt : i < length es = rw (length-map es equation_view) at here.0 in
     let is : ready_among (is_listed known) (equations_view es) ≡ Some (equation_view e, equations_view rest) = here.1 (equation_view e) (seen_at es i e lt at) ∙ ap (λ zs. Some (equation_view e, zs)) (removed es i ∙ ap equations_view (sym left)) in
     let few : suc (length rest) ≡ length es = rw left (omega (arith, length-remove es i lt)) in

@@ -1,5 +1,5 @@
 -- What is known once the variables of small colour sets are known too.
-use Rattle.std.proofs.Common.{◌≡◌, ℕ, zero, suc, ◌+◌, ◌<◌, ◌≤◌, ◌==◌, Bool, true, false, ◌||◌, List, [], ◌∷◌, ◌++◌, map, length, get_or, take, slice_index_or, refl, sym, ap, ◌∙◌, subst, inr, ⊎_elim, arith, eqb-true}
+use Rattle.std.proofs.Common.{◌≡◌, ℕ, zero, suc, ◌+◌, ◌<◌, ◌≤◌, ◌==◌, Bool, true, false, ◌||◌, List, [], ◌∷◌, ◌++◌, map, length, get_or, take, slice_index_or, refl, sym, ap, ◌∙◌, subst, inl, inr, ◌⊎◌, ⊎_elim, arith, eqb-true}
 use Rattle.std.proofs.lemmas.Bool.{or_cases}
 use Rattle.std.proofs.lemmas.List.{take_more, map-append, append-nil}
 use Rattle.std.proofs.lemmas.Grind.{flat_map-append}
@@ -50,6 +50,12 @@ adds_sources vs es i e a b c lt at first second = subst (λ ys. AddsSmall vs ys 
     sources = ap (λ xs. sources_of (equations_view xs)) longer ∙ ap sources_of (map-append equation_view (take i es) (e ∷ [])) ∙ flat_map-append (λ q. q.sources) (equations_view (take i es)) (equation_view e ∷ []) ∙ ap (λ xs. sources_of (equations_view (take i es)) ++ xs) (append-nil e.sources.items)
 
 -- ---- the variable of a number
+
+-- it is there, or its colour set counts as small
+pub there_or_small : (vs : List Variable) (k : ℕ) → (k < length vs) ⊎ IsSmall (slice_index_or (map variable_view vs) k nothing).colour
+there_or_small [] k = inr unit_is_small
+there_or_small (v ∷ vs) zero = inl (omega arith)
+there_or_small (v ∷ vs) (suc k) = ⊎_elim (λ (lt : k < length vs). inl (omega (arith, lt))) (λ small. inr small) (there_or_small vs k)
 
 pub past_is_small : (vs : List Variable) (k : ℕ) → length vs ≤ k → IsSmall (slice_index_or (map variable_view vs) k nothing).colour
 past_is_small [] k le = unit_is_small

@@ -26,10 +26,10 @@ pub record AddsSmall (variables : List Coloured) (asked old new : List ℕ) : Ty
   pub added : (x : ℕ) → is_listed new x ≡ true → (is_listed old x ≡ true) ⊎ IsSmall (slice_index_or variables x nothing).colour
   pub small : (x : ℕ) → is_listed asked x ≡ true → IsSmall (slice_index_or variables x nothing).colour → is_listed new x ≡ true
 
--- the place of the first equation that is ready, or none
-abbrev pub IsReadyPlace : (ℕ → Bool) → List Equation → Option ℕ → Type 0
-IsReadyPlace known qs None = ready_among known qs ≡ None
-IsReadyPlace known qs (Some k) = (k < length qs) × ((q : Equation) → q ≡ slice_index_or qs k q → ready_among known qs ≡ Some (q, remove qs k))
+-- the index of the first equation that is ready, or none
+abbrev pub IsReadyIndex : (ℕ → Bool) → List Equation → Option ℕ → Type 0
+IsReadyIndex known qs None = ready_among known qs ≡ None
+IsReadyIndex known qs (Some k) = (k < length qs) × ((q : Equation) → q ≡ slice_index_or qs k q → ready_among known qs ≡ Some (q, remove qs k))
 
 -- the first number that is not known
 abbrev pub first_not : (ℕ → Bool) → List ℕ → Option ℕ

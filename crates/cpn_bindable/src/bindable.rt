@@ -1,6 +1,6 @@
 //! The first variable of a transition that is not bindable.
 
-ghost use Rattle.std.specs.Prelude.{◌≡◌, ◌++◌, map, IfOk};
+ghost use Rattle.std.specs.Prelude.{◌≡◌, ◌<◌, ◌++◌, length, map, IfOk, IfSome};
 ghost use Rattle.std.specs.List.{AllByRecursion};
 ghost use Rattle.cpn_definitions.specs.Net.{PlainNet};
 ghost use Rattle.cpn_core.specs.Nets.{arcs_view, variable_view, transition_view};
@@ -34,7 +34,8 @@ fn known_at_first(
 }
 
 /// The first variable of a transition, in declaration order, that is not bindable: no binding term has it, its colour set is
-/// not small, and no equation of the guard determines it. None where each is bindable.
+/// not small, and no equation of the guard determines it. None where each is bindable. A number that is none of a variable counts as one of the
+/// unit colour set, which is small, so what is answered is the number of a variable.
 ///
 /// # Errors
 ///
@@ -46,6 +47,7 @@ pub fn first_unbindable(
 ) -> Result<Option<u32>, Memory>
     requires terms { AllByRecursion CarriesItsTerms (transition_view transition.now).inputs }
     ensures exact { (n : PlainNet) → n.variables ≡ map variable_view variables.now → IfOk result (λ found. FirstIs n (transition_view transition.now) (transition_view transition.now).vars found) }
+    ensures there { IfOk result (λ found. IfSome found (λ number. number < length variables.now)) }
 {
     let equations = equations_of(alloc, &transition.guard)?;
     let known = known_at_first(alloc, variables, transition, &equations)?;

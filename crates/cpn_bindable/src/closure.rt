@@ -4,7 +4,7 @@ ghost use Rattle.std.specs.Prelude.{◌≡◌, ◌∷◌, ℕ, length, IfOk};
 ghost use Rattle.std.specs.List.{list_all};
 ghost use Rattle.cpn_typing.specs.Closure.{found_in};
 ghost use Rattle.cpn_bindable.specs.Equations.{equations_view};
-ghost use Rattle.cpn_bindable.specs.Known.{unlisted, is_listed, IsReadyPlace, first_not};
+ghost use Rattle.cpn_bindable.specs.Known.{unlisted, is_listed, IsReadyIndex, first_not};
 
 use crate::equations::Equation;
 use cpn_core::Memory;
@@ -52,13 +52,13 @@ pub(crate) fn learn(known: &mut Vec<u32>, number: u32) -> Result<(), Memory>
     Ok(())
 }
 
-/// The place of the first equation whose sources are all known.
-fn ready_place(equations: &[Equation], known: &[u32]) -> Option<usize>
-    ensures place { IsReadyPlace (is_listed known.now) (equations_view equations.now) result }
+/// The index of the first equation whose sources are all known.
+fn ready_index(equations: &[Equation], known: &[u32]) -> Option<usize>
+    ensures index { IsReadyIndex (is_listed known.now) (equations_view equations.now) result }
 {
-    for place in 0..equations.len() {
-        if are_known(known, &equations[place].sources) {
-            return Some(place);
+    for index in 0..equations.len() {
+        if are_known(known, &equations[index].sources) {
+            return Some(index);
         }
     }
     None
@@ -72,8 +72,8 @@ pub(crate) fn all_found(
 ) -> Result<Vec<u32>, Memory>
     ensures found { IfOk result (λ all. (x : ℕ) → is_listed all.items x ≡ is_listed (found_in (length equations.entry.items) unlisted known.items (equations_view equations.entry.items)) x) }
 {
-    while let Some(place) = ready_place(&equations, &known) {
-        let equation = equations.remove(place);
+    while let Some(index) = ready_index(&equations, &known) {
+        let equation = equations.remove(index);
         learn(&mut known, equation.variable)?;
     }
     Ok(known)

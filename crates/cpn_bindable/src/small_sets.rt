@@ -17,11 +17,11 @@ fn is_small(alloc: Global, variables: &[Variable], number: u32) -> Result<bool, 
     ensures small { IfOk result (λ small. small ≡ true → IsSmall (slice_index_or (map variable_view variables.now) number nothing).colour) }
     ensures large { IfOk result (λ small. small ≡ false → IsSmall (slice_index_or (map variable_view variables.now) number nothing).colour → ⊥) }
 {
-    let place = number as usize;
-    if place >= variables.len() {
+    let index = number as usize;
+    if index >= variables.len() {
         return Ok(true);
     }
-    match variables[place].colour.small(alloc)? {
+    match variables[index].colour.small(alloc)? {
         None => Ok(false),
         Some(_) => Ok(true),
     }

@@ -1,17 +1,17 @@
 -- Several names, one after another, each of which is new beside those before it.
-use Rattle.std.proofs.Common.{◌≡◌, ◌∙◌, ℕ, suc, ◌+◌, ◌<◌, Bool, true, false, ◌||◌, List, [], ◌∷◌, ◌++◌, length, map, take, drop, get_or, Some, refl, sym, ap, append_assoc, String, string_bytes, if◌then◌else◌, arith, add-zero}
+use Rattle.std.proofs.Common.{◌≡◌, ◌∙◌, ℕ, suc, ◌+◌, ◌<◌, Bool, true, false, ◌||◌, List, [], ◌∷◌, ◌++◌, length, map, take, drop, get_or, Some, None, refl, sym, ap, append_assoc, String, string_bytes, if◌then◌else◌, arith, add-zero}
 use Rattle.std.specs.List.{list_any}
 use Rattle.std.specs.Str.{bytes_eq}
 use Rattle.std.specs.declared.alloc.Global.{Global}
 use Rattle.std.proofs.lemmas.List.{drop_more, take_more, map-append, length-map, length-take-le}
 use Rattle.std.proofs.lemmas.List.Folds.{list_any-append}
 use Rattle.cpn_typing.specs.ColourSets.{is_there, is_new, with_new, with_all_new, constants_from, other_names}
-use Rattle.cpn_typing.specs.Declarations.{variables_from, colour_of, coloured_as, with_variables, declared_form}
-use Rattle.cpn_typing.proofs.Consistent.{required_is}
+use Rattle.cpn_typing.specs.Declarations.{variables_from, coloured_as, with_variables, declared_form}
 use Rattle.cpn_trees.specs.DeclTrees.{variables}
 use Rattle.cpn_definitions.specs.Colour.{PlainColour}
-use Rattle.cpn_typing.specs.Names.{Name, Meant, a_variable, a_constant, NamedMeaning, Declared, colour_named, predeclared_named, unknown, duplicate, Refusal, Checked, ok, refused, ◌>>=◌, accepted_if}
+use Rattle.cpn_typing.specs.Names.{Name, Meant, a_variable, a_constant, NamedMeaning, Declared, colour_named, predeclared_named, unknown, duplicate, Refusal, Checked, ok, refused, ◌>>=◌, accepted_if, required}
 use Rattle.cpn_typing.specs.Types.{PlainTy, type_of_shape}
+use Rattle.cpn_colour_sets.specs.ColouredNames.{declared_with}
 use Rattle.cpn_declared.specs.Additions.{named_from, all_before, with_names, with_more_variables}
 
 -- ---- the same names, in any order
@@ -36,6 +36,17 @@ pub new_behind : (n : Name) (ns taken : List Name) → is_new n (taken ++ ns) �
 new_behind n ns taken =
     ap (λ b. if is_there (predeclared_named n) || b then false else true)
     (list_any-append (bytes_eq n) taken ns ∙ either (list_any (bytes_eq n) taken) (list_any (bytes_eq n) ns) ∙ sym (any_before (bytes_eq n) ns taken))
+
+-- a name among others is not new beside them, and another one is new beside them where it is new without them
+pub old_beside : (n : Name) (ns taken : List Name) → list_any (bytes_eq n) ns ≡ true → is_new n (all_before ns taken) ≡ false
+old_beside n ns taken h = ap (λ b. if is_there (predeclared_named n) || b then false else true) (any_before (bytes_eq n) ns taken ∙ ap (λ b. b || list_any (bytes_eq n) taken) h) ∙ none_new (is_there (predeclared_named n))
+  where
+    none_new : (p : Bool) → (if p || true then false else true) ≡ false
+    none_new true = refl
+    none_new false = refl
+
+pub new_beside : (n : Name) (ns taken : List Name) → list_any (bytes_eq n) ns ≡ false → is_new n taken ≡ is_new n (all_before ns taken)
+new_beside n ns taken h = sym (ap (λ b. if is_there (predeclared_named n) || b then false else true) (any_before (bytes_eq n) ns taken ∙ ap (λ b. b || list_any (bytes_eq n) taken) h))
 
 pub names_of_named : (kind : ℕ → Meant) (k : ℕ) (ns : List Name) → map (λ d. d.name) (named_from kind k ns) ≡ ns
 names_of_named kind k [] = refl
@@ -134,21 +145,32 @@ variables_are first t ns = variables_behind first 0 t ns ∙ ap (λ j. variables
 
 -- ---- variables of a colour set
 
-pub variables_declared : (ds d1 d2 : Declared) (ns : List Name) (n : Name) (colour : PlainColour) (t : PlainTy) (first : ℕ) (taken : List Name)
+pub variables_declared : (ds d1 d2 : Declared) (ns : List Name) (colour : PlainColour) (t : PlainTy) (first : ℕ) (taken : List Name)
     → with_all_new ns (other_names ds) ≡ ok taken
     → d1 ≡ with_names ds (named_from (λ k. a_variable (first + k) t) 0 ns)
-    → colour_of d1 n ≡ ok colour
     → d2 ≡ with_more_variables d1 (map (coloured_as colour) ns)
-    → ((other : PlainColour) → colour_named n ds ≡ Some other → t ≡ type_of_shape other.shape)
+    → t ≡ type_of_shape colour.shape
     → first ≡ length ds.variables
-    → declared_form ds (variables ns n) ≡ ok d2
-variables_declared ds d1 d2 ns n colour t first taken new named found coloured typed counted =
-    let there : colour_of ds n ≡ ok colour = ap (λ d. colour_of d n) (sym named) ∙ found in
-    let type_is : t ≡ type_of_shape colour.shape = typed colour (required_is (colour_named n ds) (unknown n) colour there) in
-    ap (λ c. c >>= λ names. colour_of ds n >>= λ found_colour. ok (with_variables ds ns found_colour)) new
-    ∙ ap (λ c. c >>= λ found_colour. ok (with_variables ds ns found_colour)) there
+    → declared_with ds ns colour ≡ ok d2
+variables_declared ds d1 d2 ns colour t first taken new named coloured type_is counted =
+    ap (λ c. c >>= λ names. ok (with_variables ds ns colour)) new
     ∙ ap (λ x. ok (with_more_variables (with_names ds (variables_from x (type_of_shape colour.shape) ns)) (map (coloured_as colour) ns))) (sym counted)
     ∙ ap (λ x. ok (with_more_variables (with_names ds (variables_from first x ns)) (map (coloured_as colour) ns))) (sym type_is)
     ∙ ap (λ names. ok (with_more_variables (with_names ds names) (map (coloured_as colour) ns))) (sym (variables_are first t ns))
     ∙ ap (λ d. ok (with_more_variables d (map (coloured_as colour) ns))) (sym named)
     ∙ ap ok (sym coloured)
+
+module _ (ds : Declared) (ns : List Name) (n : Name) where
+  -- where the colour set is there, its variables are declared
+  pub form_coloured : (colour : PlainColour) → colour_named n ds ≡ Some colour → declared_form ds (variables ns n) ≡ declared_with ds ns colour
+  form_coloured colour there = ap (λ o. with_all_new ns (other_names ds) >>= λ taken. required o (unknown n) >>= λ found. ok (with_variables ds ns found)) there
+
+  -- where it is not, a name that is not new is told before it
+  form_uncoloured : colour_named n ds ≡ None → declared_form ds (variables ns n) ≡ (with_all_new ns (other_names ds) >>= λ taken. refused (unknown n))
+  form_uncoloured none = ap (λ o. with_all_new ns (other_names ds) >>= λ taken. required o (unknown n) >>= λ found. ok (with_variables ds ns found)) none
+
+  pub old_told : colour_named n ds ≡ None → (r : Refusal) → with_all_new ns (other_names ds) ≡ refused r → declared_form ds (variables ns n) ≡ refused r
+  old_told none r h = form_uncoloured none ∙ ap (λ c. c >>= λ taken. refused (unknown n)) h
+
+  pub unknown_told : colour_named n ds ≡ None → (taken : List Name) → with_all_new ns (other_names ds) ≡ ok taken → declared_form ds (variables ns n) ≡ refused (unknown n)
+  unknown_told none taken h = form_uncoloured none ∙ ap (λ c. c >>= λ names. refused (unknown n)) h

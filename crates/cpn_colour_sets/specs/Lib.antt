@@ -3,3 +3,4 @@ pub mod Kinds
 -- what an answer says of a body, and of the alternatives of a union
 pub mod Bodies
 pub mod Alternatives
+pub mod ColouredNames

@@ -1,23 +1,22 @@
 //! Colour sets and variables that are declared.
 
 ghost use Rattle.std.specs.Prelude.{◌≡◌, ◌∷◌, [], map, string_bytes, option_map, Some, IfOk, OnOk, OnErr};
-ghost use Rattle.cpn_definitions.specs.Colour.{PlainColour};
 ghost use Rattle.cpn_core.specs.Colours.{shape_view, colour_view};
 ghost use Rattle.cpn_trees.specs.DeclTrees.{alternative_view, body_view, colour_set, variables, union as union_body, enumeration as enumeration_body};
 ghost use Rattle.cpn_typing.specs.ColourSets.{alternatives_of as alternatives_of_rules, constructors_from, other_names};
-ghost use Rattle.cpn_typing.specs.Declarations.{declared_form, colour_of, coloured_as};
-ghost use Rattle.cpn_typing.specs.Names.{colour_named as colour_named_in};
+ghost use Rattle.cpn_typing.specs.Declarations.{declared_form, coloured_as};
 ghost use Rattle.cpn_typing.specs.Types.{type_of_shape};
 ghost use Rattle.cpn_declared.specs.Additions.{with_names, with_more_variables, Grows};
 ghost use Rattle.cpn_colour_sets.specs.Alternatives.{argument_in, alternative_in, constructor_with, alternatives_seen};
 ghost use Rattle.cpn_declared.specs.Answers.{Answers};
 ghost use Rattle.cpn_colour_sets.specs.Bodies.{AnswersBody};
+ghost use Rattle.cpn_colour_sets.specs.ColouredNames.{declared_with};
 ghost use Rattle.cpn_declared.specs.DeclsViews.{decls_view, constructor_view};
 ghost use Rattle.cpn_declared.specs.TypeViews.{ty_view};
 
 use crate::kinds::Kind;
 use crate::limits::check_limits;
-use crate::naming::{add_names, colour_named, component, components};
+use crate::naming::{add_names, check_new, component, components};
 use cpn_core::{Colour, Memory, Shape};
 use cpn_declared::{Constructor, Decls, Meaning, Ty, TypeError, number_of};
 use cpn_trees::{Alternative, Body};
@@ -31,16 +30,6 @@ fn copies_of(alloc: Global, names: &[String]) -> Result<Vec<String>, Memory>
         copies.push(String::from_str(alloc, name.as_str())?)?;
     }
     Ok(copies)
-}
-
-// The type of the colour set of a name; any type where there is none.
-fn type_or_unit(alloc: Global, decls: &Decls, colour_name: &str) -> Result<Ty, Memory>
-    ensures exact { IfOk result (λ ty. (colour : PlainColour) → colour_named_in colour_name.now (decls_view decls.now) ≡ Some colour → ty_view ty ≡ type_of_shape colour.shape) }
-{
-    match decls.colour(colour_name) {
-        Some(colour) => Ty::of_shape(alloc, &colour.shape),
-        None => Ok(Ty::Unit),
-    }
 }
 
 // Adds variables of a colour set.
@@ -60,13 +49,30 @@ fn add_coloured(
     Ok(())
 }
 
+// Declares variables of this colour set.
+fn declare_coloured(
+    alloc: Global,
+    decls: &mut Decls,
+    names: &[String],
+    colour: &Colour,
+) -> Result<(), TypeError>
+    ensures exact { Answers (λ _. decls_view decls.new) result (declared_with (decls_view decls.old) (map string_bytes names.now) (colour_view colour.now)) }
+    ensures grown { Grows (decls_view decls.old) (decls_view decls.new) }
+{
+    let first = decls.next_variable()?;
+    let ty = Ty::of_shape(alloc, &colour.shape)?;
+    add_names(alloc, decls, names, &Kind::Variables { first, ty: &ty })?;
+    add_coloured(alloc, decls, names, colour)?;
+    Ok(())
+}
+
 /// Declares variables of a colour set. Their names come first: where one is not new, this is told before that the colour
 /// set is not there.
 ///
 /// # Errors
 ///
 /// The first reason from left to right: [`TypeError::Duplicate`] at a name that is not new, [`TypeError::Unknown`] where no colour set
-/// has the name, or [`TypeError::Memory`]. The names in front of a refused one stay declared: who wants none of them cuts them
+/// has the name, or [`TypeError::Memory`]. The names in front of a refused one may stay declared: who wants none of them cuts them
 /// off ([`Decls::cut`]).
 pub fn declare_variables(
     alloc: Global,
@@ -77,21 +83,16 @@ pub fn declare_variables(
     ensures exact { Answers (λ _. decls_view decls.new) result (declared_form (decls_view decls.old) (variables (map string_bytes names.now) colour_name.now)) }
     ensures grown { Grows (decls_view decls.old) (decls_view decls.new) }
 {
-    let first = decls.next_variable()?;
-    let ty = type_or_unit(alloc, decls, colour_name)?;
-    add_names(alloc, decls, names, &Kind::Variables { first, ty: &ty })?;
-    let colour = copy_named(alloc, decls, colour_name)?;
-    add_coloured(alloc, decls, names, &colour)?;
-    Ok(())
-}
-
-// A copy of the colour set of a name.
-fn copy_named(alloc: Global, decls: &Decls, colour_name: &str) -> Result<Colour, TypeError>
-    ensures exact { Answers colour_view result (colour_of (decls_view decls.now) colour_name.now) }
-{
-    match colour_named(alloc, decls, colour_name) {
-        Ok(colour) => Ok(colour.copy()?),
-        Err(error) => Err(error),
+    match decls.colour(colour_name) {
+        Some(colour) => {
+            let colour = colour.copy()?;
+            declare_coloured(alloc, decls, names, &colour)
+        }
+        None => {
+            check_new(alloc, decls, names)?;
+            let name = String::from_str(alloc, colour_name)?;
+            Err(TypeError::Unknown(name))
+        }
     }
 }
 

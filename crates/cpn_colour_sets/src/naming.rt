@@ -1,12 +1,16 @@
 //! Several names at a time, and colour sets by their names.
 
 ghost use Rattle.std.specs.Prelude.{◌≡◌, map, string_bytes, OnOk};
+ghost use Rattle.std.specs.List.{list_any};
+ghost use Rattle.std.specs.Str.{bytes_eq};
 ghost use Rattle.cpn_core.specs.Colours.{colour_view, shape_view, shapes_view};
-ghost use Rattle.cpn_typing.specs.ColourSets.{with_new, with_all_new, other_names, component as component_of_rules, components as components_of_rules};
+ghost use Rattle.cpn_typing.specs.ColourSets.{is_new, with_new, with_all_new, other_names, component as component_of_rules, components as components_of_rules};
 ghost use Rattle.cpn_typing.specs.Declarations.{colour_of, type_named as type_of_rules};
 ghost use Rattle.cpn_declared.specs.Additions.{with_names, named_from, all_before, Grows};
-ghost use Rattle.cpn_declared.specs.Answers.{Answers};
+ghost use Rattle.cpn_typing.specs.Answers.{Refuses};
+ghost use Rattle.cpn_declared.specs.Answers.{Answers, refusal_of};
 ghost use Rattle.cpn_declared.specs.DeclsViews.{decls_view};
+ghost use Rattle.cpn_colour_sets.specs.ColouredNames.{old_name};
 ghost use Rattle.cpn_colour_sets.specs.Kinds.{kind_view};
 ghost use Rattle.cpn_declared.specs.TypeViews.{ty_view};
 
@@ -29,6 +33,51 @@ pub(crate) fn add_names(
     for (position, name) in names.iter().enumerate() {
         let meaning = kind.meaning_at(position)?;
         decls.add_name(alloc, name.as_str(), meaning)?;
+    }
+    Ok(())
+}
+
+/// Whether a name is among these.
+fn is_among(name: &str, names: &[String]) -> bool
+    ensures exact { result ≡ list_any (bytes_eq name.now) (map string_bytes names.now) }
+{
+    for other in names {
+        if name == other.as_str() {
+            return true;
+        }
+    }
+    false
+}
+
+/// Whether a name is new beside what is declared and these names.
+fn is_new_beside(decls: &Decls, names: &[String], name: &str) -> bool
+    ensures exact { result ≡ is_new name.now (all_before (map string_bytes names.now) (other_names (decls_view decls.now))) }
+{
+    if is_among(name, names) {
+        return false;
+    }
+    decls.is_new_name(name)
+}
+
+/// The refusal of a name that is not new.
+fn not_new(alloc: Global, name: &str) -> TypeError
+    ensures exact { Refuses (refusal_of result) (old_name name.now) }
+{
+    match String::from_str(alloc, name) {
+        Ok(name) => TypeError::Duplicate(name),
+        Err(_) => TypeError::Memory,
+    }
+}
+
+/// That the names are new, from left to right: each beside what is declared and the names before it.
+pub(crate) fn check_new(alloc: Global, decls: &Decls, names: &[String]) -> Result<(), TypeError>
+    ensures exact { Answers (λ _. all_before (map string_bytes names.now) (other_names (decls_view decls.now))) result (with_all_new (map string_bytes names.now) (other_names (decls_view decls.now))) }
+{
+    for (position, name) in names.iter().enumerate() {
+        let name = name.as_str();
+        if !is_new_beside(decls, &names[..position], name) {
+            return Err(not_new(alloc, name));
+        }
     }
     Ok(())
 }

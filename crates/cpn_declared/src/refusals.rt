@@ -18,21 +18,21 @@ pub enum Limit {
     Variables,
 }
 
-/// Why a declaration or an inscription is not accepted: the first reason from left to right. A place is the offset of a
+/// Why a declaration or an inscription is not accepted: the first reason from left to right. A position is the offset of a
 /// token in the text.
 #[derive(Debug, Drop, Error)]
 pub enum TypeError {
     /// Memory ran out.
     #[error("out of memory")]
     Memory,
-    /// A name that is not there, or of another kind than its place needs.
+    /// A name that is not there, or of another kind than its context needs.
     #[error("{0} is not known here")]
     Unknown(String),
     /// A name that its space or its pattern has already.
     #[error("{0} is there already")]
     Duplicate(String),
     /// The first form whose type is not the wanted one, by its first token.
-    #[error("the form at {0} has not the type that its place wants")]
+    #[error("the form at {0} has not the type that its context wants")]
     Mismatch(usize),
     /// A variable in a text that uses none: that of a `val`, a `fun` or an initial marking.
     #[error("the variable {0} may not stand here")]

@@ -51,81 +51,81 @@ with_n n = member (codes "n") (number (unsigned n)) no_members
 abbrev with_op : List ℕ → Members → Members
 with_op op more = member (codes "op") (string op) more
 
-it_counts : first_broken (monitor_rules 0 [] (monitor_of (codes "count") (at_t no_members))) ≡ None
+it_counts : first_broken (monitor_rules 1 0 [] (monitor_of (codes "count") (at_t no_members))) ≡ None
 unfolding text_at number_at is_name is_flat_name object_rules text_rules name_rules new_name_rules flat_name_rules number_rules word_rules form_of form_rules transition_name_rules place_name_rules kind_rules monitor_rules first_broken
 it_counts = refl
 
-a_second_name : first_broken (monitor_rules 0 (codes "k" ∷ codes "m" ∷ []) (monitor_of (codes "count") (at_t no_members))) ≡ Some (bad_name (at.Monitor 0 of_monitor.Name))
+a_second_name : first_broken (monitor_rules 1 0 (codes "k" ∷ codes "m" ∷ []) (monitor_of (codes "count") (at_t no_members))) ≡ Some (bad_name (at.Monitor 0 of_monitor.Name))
 unfolding text_at number_at is_name is_flat_name object_rules text_rules name_rules new_name_rules flat_name_rules number_rules word_rules form_of form_rules transition_name_rules place_name_rules kind_rules monitor_rules first_broken
 a_second_name = refl
 
 -- its keys come before its name
-a_key_of_another_kind : first_broken (monitor_rules 0 (codes "m" ∷ []) (monitor_of (codes "count") (at_t (with_n 1)))) ≡ Some (shape (at.Monitor 0 of_monitor.Whole))
+a_key_of_another_kind : first_broken (monitor_rules 1 0 (codes "m" ∷ []) (monitor_of (codes "count") (at_t (with_n 1)))) ≡ Some (shape (at.Monitor 0 of_monitor.Whole))
 unfolding text_at number_at is_name is_flat_name object_rules text_rules name_rules new_name_rules flat_name_rules number_rules word_rules form_of form_rules transition_name_rules place_name_rules kind_rules monitor_rules first_broken
 a_key_of_another_kind = refl
 
 -- the keys of all kinds may stand beside a kind that is none
-another_kind : first_broken (monitor_rules 0 [] (monitor_of (codes "counts") (at_t (at_A (with_op (codes "most") (with_n 0)))))) ≡ Some (shape (at.Monitor 0 of_monitor.Kind))
+another_kind : first_broken (monitor_rules 1 0 [] (monitor_of (codes "counts") (at_t (at_A (with_op (codes "most") (with_n 0)))))) ≡ Some (shape (at.Monitor 0 of_monitor.Kind))
 unfolding text_at number_at is_name is_flat_name object_rules text_rules name_rules new_name_rules flat_name_rules number_rules word_rules form_of form_rules transition_name_rules place_name_rules kind_rules monitor_rules first_broken
 another_kind = refl
 
-another_kind_and_key : first_broken (monitor_rules 0 [] (monitor_of (codes "counts") (member (codes "text") (string []) no_members))) ≡ Some (shape (at.Monitor 0 of_monitor.Whole))
+another_kind_and_key : first_broken (monitor_rules 1 0 [] (monitor_of (codes "counts") (member (codes "text") (string []) no_members))) ≡ Some (shape (at.Monitor 0 of_monitor.Whole))
 unfolding text_at number_at is_name is_flat_name object_rules text_rules name_rules new_name_rules flat_name_rules number_rules word_rules form_of form_rules transition_name_rules place_name_rules kind_rules monitor_rules first_broken
 another_kind_and_key = refl
 
-no_kind : first_broken (monitor_rules 0 [] (object (member (codes "name") (string (codes "m")) no_members))) ≡ Some (shape (at.Monitor 0 of_monitor.Whole))
+no_kind : first_broken (monitor_rules 1 0 [] (object (member (codes "name") (string (codes "m")) no_members))) ≡ Some (shape (at.Monitor 0 of_monitor.Whole))
 unfolding text_at number_at is_name is_flat_name object_rules text_rules name_rules new_name_rules flat_name_rules number_rules word_rules form_of form_rules transition_name_rules place_name_rules kind_rules monitor_rules first_broken
 no_kind = refl
 
-no_place : first_broken (monitor_rules 0 [] (monitor_of (codes "size") no_members)) ≡ Some (shape (at.Monitor 0 of_monitor.Whole))
+no_place : first_broken (monitor_rules 1 0 [] (monitor_of (codes "size") no_members)) ≡ Some (shape (at.Monitor 0 of_monitor.Whole))
 unfolding text_at number_at is_name is_flat_name object_rules text_rules name_rules new_name_rules flat_name_rules number_rules word_rules form_of form_rules transition_name_rules place_name_rules kind_rules monitor_rules first_broken
 no_place = refl
 
-no_name_of_a_place : first_broken (monitor_rules 0 [] (monitor_of (codes "size") (member (codes "place") (string (codes "Top/")) no_members))) ≡ Some (bad_name (at.Monitor 0 of_monitor.Place))
+no_name_of_a_place : first_broken (monitor_rules 1 0 [] (monitor_of (codes "size") (member (codes "place") (string (codes "Top/")) no_members))) ≡ Some (bad_name (at.Monitor 0 of_monitor.Place))
 unfolding text_at number_at is_name is_flat_name object_rules text_rules name_rules new_name_rules flat_name_rules number_rules word_rules form_of form_rules transition_name_rules place_name_rules kind_rules monitor_rules first_broken
 no_name_of_a_place = refl
 
-an_inscription_that_is_a_number : first_broken (monitor_rules 0 [] (monitor_of (codes "value") (at_t (member (codes "expr") (number (unsigned 7)) no_members)))) ≡ Some (shape (at.Monitor 0 of_monitor.Expr))
+an_inscription_that_is_a_number : first_broken (monitor_rules 1 0 [] (monitor_of (codes "value") (at_t (member (codes "expr") (number (unsigned 7)) no_members)))) ≡ Some (shape (at.Monitor 0 of_monitor.Expr))
 unfolding text_at number_at is_name is_flat_name object_rules text_rules name_rules new_name_rules flat_name_rules number_rules word_rules form_of form_rules transition_name_rules place_name_rules kind_rules monitor_rules first_broken
 an_inscription_that_is_a_number = refl
 
-no_occurrence : first_broken (monitor_rules 0 [] (monitor_of (codes "stop_count") (at_t (with_n 0)))) ≡ Some (bad_number (at.Monitor 0 of_monitor.N))
+no_occurrence : first_broken (monitor_rules 1 0 [] (monitor_of (codes "stop_count") (at_t (with_n 0)))) ≡ Some (bad_number (at.Monitor 0 of_monitor.N))
 unfolding text_at number_at is_name is_flat_name object_rules text_rules name_rules new_name_rules flat_name_rules number_rules word_rules form_of form_rules transition_name_rules place_name_rules kind_rules monitor_rules first_broken
 no_occurrence = refl
 
-one_occurrence : first_broken (monitor_rules 0 [] (monitor_of (codes "stop_count") (at_t (with_n 1)))) ≡ None
+one_occurrence : first_broken (monitor_rules 1 0 [] (monitor_of (codes "stop_count") (at_t (with_n 1)))) ≡ None
 unfolding text_at number_at is_name is_flat_name object_rules text_rules name_rules new_name_rules flat_name_rules number_rules word_rules form_of form_rules transition_name_rules place_name_rules kind_rules monitor_rules first_broken
 one_occurrence = refl
 
-a_million_occurrences : first_broken (monitor_rules 0 [] (monitor_of (codes "stop_count") (at_t (with_n 1000000)))) ≡ None
+a_million_occurrences : first_broken (monitor_rules 1 0 [] (monitor_of (codes "stop_count") (at_t (with_n 1000000)))) ≡ None
 unfolding text_at number_at is_name is_flat_name object_rules text_rules name_rules new_name_rules flat_name_rules number_rules word_rules form_of form_rules transition_name_rules place_name_rules kind_rules monitor_rules first_broken
 a_million_occurrences = refl
 
-more_occurrences : first_broken (monitor_rules 0 [] (monitor_of (codes "stop_count") (at_t (with_n 1000001)))) ≡ Some (bad_number (at.Monitor 0 of_monitor.N))
+more_occurrences : first_broken (monitor_rules 1 0 [] (monitor_of (codes "stop_count") (at_t (with_n 1000001)))) ≡ Some (bad_number (at.Monitor 0 of_monitor.N))
 unfolding text_at number_at is_name is_flat_name object_rules text_rules name_rules new_name_rules flat_name_rules number_rules word_rules form_of form_rules transition_name_rules place_name_rules kind_rules monitor_rules first_broken
 more_occurrences = refl
 
-a_number_of_another_kind : first_broken (monitor_rules 0 [] (monitor_of (codes "stop_count") (at_t (member (codes "n") (string (codes "1")) no_members)))) ≡ Some (bad_number (at.Monitor 0 of_monitor.N))
+a_number_of_another_kind : first_broken (monitor_rules 1 0 [] (monitor_of (codes "stop_count") (at_t (member (codes "n") (string (codes "1")) no_members)))) ≡ Some (bad_number (at.Monitor 0 of_monitor.N))
 unfolding text_at number_at is_name is_flat_name object_rules text_rules name_rules new_name_rules flat_name_rules number_rules word_rules form_of form_rules transition_name_rules place_name_rules kind_rules monitor_rules first_broken
 a_number_of_another_kind = refl
 
-another_bound_before_the_number : first_broken (monitor_rules 0 [] (monitor_of (codes "stop_size") (at_A (with_op (codes "most") (member (codes "n") (string []) no_members))))) ≡ Some (shape (at.Monitor 0 of_monitor.Op))
+another_bound_before_the_number : first_broken (monitor_rules 1 0 [] (monitor_of (codes "stop_size") (at_A (with_op (codes "most") (member (codes "n") (string []) no_members))))) ≡ Some (shape (at.Monitor 0 of_monitor.Op))
 unfolding text_at number_at is_name is_flat_name object_rules text_rules name_rules new_name_rules flat_name_rules number_rules word_rules form_of form_rules transition_name_rules place_name_rules kind_rules monitor_rules first_broken
 another_bound_before_the_number = refl
 
-no_token : first_broken (monitor_rules 0 [] (monitor_of (codes "stop_size") (at_A (with_op (codes "at_most") (with_n 0))))) ≡ None
+no_token : first_broken (monitor_rules 1 0 [] (monitor_of (codes "stop_size") (at_A (with_op (codes "at_most") (with_n 0))))) ≡ None
 unfolding text_at number_at is_name is_flat_name object_rules text_rules name_rules new_name_rules flat_name_rules number_rules word_rules form_of form_rules transition_name_rules place_name_rules kind_rules monitor_rules first_broken
 no_token = refl
 
-fewer_tokens : first_broken (monitor_rules 0 [] (monitor_of (codes "stop_size") (at_A (with_op (codes "at_most") (member (codes "n") (number (negative (negsuc 0))) no_members))))) ≡ Some (bad_number (at.Monitor 0 of_monitor.N))
+fewer_tokens : first_broken (monitor_rules 1 0 [] (monitor_of (codes "stop_size") (at_A (with_op (codes "at_most") (member (codes "n") (number (negative (negsuc 0))) no_members))))) ≡ Some (bad_number (at.Monitor 0 of_monitor.N))
 unfolding text_at number_at is_name is_flat_name object_rules text_rules name_rules new_name_rules flat_name_rules number_rules word_rules form_of form_rules transition_name_rules place_name_rules kind_rules monitor_rules first_broken
 fewer_tokens = refl
 
-the_most_tokens : first_broken (monitor_rules 0 [] (monitor_of (codes "stop_size") (at_A (with_op (codes "at_least") (with_n (2 ^ 62)))))) ≡ None
+the_most_tokens : first_broken (monitor_rules 1 0 [] (monitor_of (codes "stop_size") (at_A (with_op (codes "at_least") (with_n (2 ^ 62)))))) ≡ None
 unfolding text_at number_at is_name is_flat_name object_rules text_rules name_rules new_name_rules flat_name_rules number_rules word_rules form_of form_rules transition_name_rules place_name_rules kind_rules monitor_rules first_broken
 the_most_tokens = refl
 
-more_tokens : first_broken (monitor_rules 0 [] (monitor_of (codes "stop_size") (at_A (with_op (codes "at_least") (with_n (2 ^ 62 + 1)))))) ≡ Some (bad_number (at.Monitor 0 of_monitor.N))
+more_tokens : first_broken (monitor_rules 1 0 [] (monitor_of (codes "stop_size") (at_A (with_op (codes "at_least") (with_n (2 ^ 62 + 1)))))) ≡ Some (bad_number (at.Monitor 0 of_monitor.N))
 unfolding text_at number_at is_name is_flat_name object_rules text_rules name_rules new_name_rules flat_name_rules number_rules word_rules form_of form_rules transition_name_rules place_name_rules kind_rules monitor_rules first_broken
 more_tokens = refl
 

@@ -37,48 +37,48 @@ phase_with start edits = object (member (codes "start") (string start) (member (
 abbrev starting : List ℕ → Data
 starting start = object (member (codes "start") (string start) no_members)
 
-the_first_from_the_initial_marking : first_broken (phase_rules 0 (starting (codes "initial"))) ≡ None
+the_first_from_the_initial_marking : first_broken (phase_rules 1 0 (starting (codes "initial"))) ≡ None
 unfolding text_at items_at is_name is_flat_name object_rules text_rules flat_name_rules word_rules list_rules where_there form_of start_of form_rules change_rules edit_rules each_edit each_item phase_rules first_broken
 the_first_from_the_initial_marking = refl
 
-the_first_from_here : first_broken (phase_rules 0 (starting (codes "here"))) ≡ Some (shape (at.Phase 0 of_phase.Start))
+the_first_from_here : first_broken (phase_rules 1 0 (starting (codes "here"))) ≡ Some (shape (at.Phase 0 of_phase.Start))
 unfolding text_at items_at is_name is_flat_name object_rules text_rules flat_name_rules word_rules list_rules where_there form_of start_of form_rules change_rules edit_rules each_edit each_item phase_rules first_broken
 the_first_from_here = refl
 
-the_second_from_here : first_broken (phase_rules 1 (starting (codes "here"))) ≡ None
+the_second_from_here : first_broken (phase_rules 1 1 (starting (codes "here"))) ≡ None
 unfolding text_at items_at is_name is_flat_name object_rules text_rules flat_name_rules word_rules list_rules where_there form_of start_of form_rules change_rules edit_rules each_edit each_item phase_rules first_broken
 the_second_from_here = refl
 
-the_second_from_there : first_broken (phase_rules 1 (starting (codes "there"))) ≡ Some (shape (at.Phase 1 of_phase.Start))
+the_second_from_there : first_broken (phase_rules 1 1 (starting (codes "there"))) ≡ Some (shape (at.Phase 1 of_phase.Start))
 unfolding text_at items_at is_name is_flat_name object_rules text_rules flat_name_rules word_rules list_rules where_there form_of start_of form_rules change_rules edit_rules each_edit each_item phase_rules first_broken
 the_second_from_there = refl
 
-no_start : first_broken (phase_rules 0 (object no_members)) ≡ Some (shape (at.Phase 0 of_phase.Whole))
+no_start : first_broken (phase_rules 1 0 (object no_members)) ≡ Some (shape (at.Phase 0 of_phase.Whole))
 unfolding text_at items_at is_name is_flat_name object_rules text_rules flat_name_rules word_rules list_rules where_there form_of start_of form_rules change_rules edit_rules each_edit each_item phase_rules first_broken
 no_start = refl
 
-edits_that_are_a_number : first_broken (phase_rules 0 (object (member (codes "start") (string (codes "initial")) (member (codes "edits") (number (unsigned 7)) no_members)))) ≡ Some (shape (at.Phase 0 of_phase.Edits))
+edits_that_are_a_number : first_broken (phase_rules 1 0 (object (member (codes "start") (string (codes "initial")) (member (codes "edits") (number (unsigned 7)) no_members)))) ≡ Some (shape (at.Phase 0 of_phase.Edits))
 unfolding text_at items_at is_name is_flat_name object_rules text_rules flat_name_rules word_rules list_rules where_there form_of start_of form_rules change_rules edit_rules each_edit each_item phase_rules first_broken
 edits_that_are_a_number = refl
 
-both_edits : first_broken (phase_rules 0 (phase_with (codes "initial") (guard_of_t ∷ marking_of (codes "Top/A") ∷ []))) ≡ None
+both_edits : first_broken (phase_rules 1 0 (phase_with (codes "initial") (guard_of_t ∷ marking_of (codes "Top/A") ∷ []))) ≡ None
 unfolding text_at items_at is_name is_flat_name object_rules text_rules flat_name_rules word_rules list_rules where_there form_of start_of form_rules change_rules edit_rules each_edit each_item phase_rules first_broken
 both_edits = refl
 
-no_name_in_the_second_edit : first_broken (phase_rules 0 (phase_with (codes "initial") (guard_of_t ∷ marking_of (codes "Top/") ∷ []))) ≡ Some (bad_name (at.Phase 0 (of_phase.Edit 1 of_edit.Place)))
+no_name_in_the_second_edit : first_broken (phase_rules 1 0 (phase_with (codes "initial") (guard_of_t ∷ marking_of (codes "Top/") ∷ []))) ≡ Some (bad_name (at.Phase 0 (of_phase.Edit 1 of_edit.Place)))
 unfolding text_at items_at is_name is_flat_name object_rules text_rules flat_name_rules word_rules list_rules where_there form_of start_of form_rules change_rules edit_rules each_edit each_item phase_rules first_broken
 no_name_in_the_second_edit = refl
 
-a_key_of_another_edit : first_broken (phase_rules 0 (phase_with (codes "initial") (edit_of (codes "guard") (member (codes "place") (string (codes "Top/A")) with_text) ∷ []))) ≡ Some (shape (at.Phase 0 (of_phase.Edit 0 of_edit.Whole)))
+a_key_of_another_edit : first_broken (phase_rules 1 0 (phase_with (codes "initial") (edit_of (codes "guard") (member (codes "place") (string (codes "Top/A")) with_text) ∷ []))) ≡ Some (shape (at.Phase 0 (of_phase.Edit 0 of_edit.Whole)))
 unfolding text_at items_at is_name is_flat_name object_rules text_rules flat_name_rules word_rules list_rules where_there form_of start_of form_rules change_rules edit_rules each_edit each_item phase_rules first_broken
 a_key_of_another_edit = refl
 
 -- the keys of both kinds may stand beside a kind that is none
-another_edit : first_broken (phase_rules 0 (phase_with (codes "initial") (edit_of (codes "delay") (member (codes "place") (string (codes "Top/A")) with_text) ∷ []))) ≡ Some (shape (at.Phase 0 (of_phase.Edit 0 of_edit.Kind)))
+another_edit : first_broken (phase_rules 1 0 (phase_with (codes "initial") (edit_of (codes "delay") (member (codes "place") (string (codes "Top/A")) with_text) ∷ []))) ≡ Some (shape (at.Phase 0 (of_phase.Edit 0 of_edit.Kind)))
 unfolding text_at items_at is_name is_flat_name object_rules text_rules flat_name_rules word_rules list_rules where_there form_of start_of form_rules change_rules edit_rules each_edit each_item phase_rules first_broken
 another_edit = refl
 
-no_text : first_broken (phase_rules 0 (phase_with (codes "initial") (edit_of (codes "guard") (member (codes "transition") (string (codes "Top/t")) no_members) ∷ []))) ≡ Some (shape (at.Phase 0 (of_phase.Edit 0 of_edit.Whole)))
+no_text : first_broken (phase_rules 1 0 (phase_with (codes "initial") (edit_of (codes "guard") (member (codes "transition") (string (codes "Top/t")) no_members) ∷ []))) ≡ Some (shape (at.Phase 0 (of_phase.Edit 0 of_edit.Whole)))
 unfolding text_at items_at is_name is_flat_name object_rules text_rules flat_name_rules word_rules list_rules where_there form_of start_of form_rules change_rules edit_rules each_edit each_item phase_rules first_broken
 no_text = refl
 

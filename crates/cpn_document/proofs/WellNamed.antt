@@ -104,23 +104,23 @@ are_names made name same earlier ds new = subst AreNames (sym (names_of made nam
 
 -- ---- places, transitions, substitution transitions
 
-place_new : (m i : ℕ) (earlier : List (List ℕ)) (d : Data) → first_broken (place_rules m i earlier d) ≡ None → IsNew earlier (text_at (codes "name") d)
+place_new : (version m i : ℕ) (earlier : List (List ℕ)) (d : Data) → first_broken (place_rules version m i earlier d) ≡ None → IsNew earlier (text_at (codes "name") d)
 unfolding place_rules
-place_new m i earlier d h = let k = simp broken_append at h in new_kept _ _ _ earlier d (none_parts _ _ (none_parts _ _ (none_parts _ _ (none_parts _ _ k).0).0).0).1
+place_new version m i earlier d h = let k = simp broken_append at h in new_kept _ _ _ earlier d (none_parts _ _ (none_parts _ _ (none_parts _ _ (none_parts _ _ k).0).0).0).1
 
 transition_new : (version m i : ℕ) (earlier : List (List ℕ)) (d : Data) → first_broken (transition_rules version m i earlier d) ≡ None → IsNew earlier (text_at (codes "name") d)
 unfolding transition_rules
 transition_new version m i earlier d h = let k = simp broken_append at h in new_kept _ _ _ earlier d (none_parts _ _ (none_parts _ _ (none_parts _ _ k).0).0).1
 
-sub_new : (m i : ℕ) (earlier : List (List ℕ)) (d : Data) → first_broken (sub_rules m i earlier d) ≡ None → IsNew earlier (text_at (codes "name") d)
+sub_new : (version m i : ℕ) (earlier : List (List ℕ)) (d : Data) → first_broken (sub_rules version m i earlier d) ≡ None → IsNew earlier (text_at (codes "name") d)
 unfolding sub_rules
-sub_new m i earlier d h = let k = simp broken_append at h in new_kept _ _ _ earlier d (none_parts _ _ (none_parts _ _ (none_parts _ _ (none_parts _ _ k).0).0).0).1
+sub_new version m i earlier d h = let k = simp broken_append at h in new_kept _ _ _ earlier d (none_parts _ _ (none_parts _ _ (none_parts _ _ (none_parts _ _ k).0).0).0).1
 
-places_named : (m : ℕ) (d : Data) → first_broken (places_rules m d) ≡ None → AreNames (map (λ place. place.name) (module_in d).places)
+places_named : (version m : ℕ) (d : Data) → first_broken (places_rules version m d) ≡ None → AreNames (map (λ place. place.name) (module_in d).places)
 unfolding places_rules each_place
-places_named m d h =
+places_named version m d h =
     let k = simp broken_append at h in
-    are_names place_in (λ place. place.name) (λ e. refl) [] (items_at (codes "places") d) (each_new (place_rules m) (place_new m) 0 [] (items_at (codes "places") d) (none_parts _ _ k).1)
+    are_names place_in (λ place. place.name) (λ e. refl) [] (items_at (codes "places") d) (each_new (place_rules version m) (place_new version m) 0 [] (items_at (codes "places") d) (none_parts _ _ k).1)
 
 transitions_named : (version m : ℕ) (d : Data) → first_broken (transitions_rules version m d) ≡ None → AreNames (map (λ transition. transition.name) (module_in d).transitions)
 unfolding transitions_rules each_transition
@@ -129,11 +129,11 @@ transitions_named version m d h =
     are_names transition_in (λ transition. transition.name) (λ e. refl) [] (items_at (codes "transitions") d)
     (each_new (transition_rules version m) (transition_new version m) 0 [] (items_at (codes "transitions") d) (none_parts _ _ k).1)
 
-subs_new : (m : ℕ) (transitions : List (List ℕ)) (d : Data) → first_broken (subs_rules m transitions d) ≡ None → AreNew transitions (names_in (items_at (codes "subs") d))
+subs_new : (version m : ℕ) (transitions : List (List ℕ)) (d : Data) → first_broken (subs_rules version m transitions d) ≡ None → AreNew transitions (names_in (items_at (codes "subs") d))
 unfolding subs_rules each_sub
-subs_new m transitions d h =
+subs_new version m transitions d h =
     let k = simp broken_append at h in
-    each_new (sub_rules m) (sub_new m) 0 transitions (items_at (codes "subs") d) (none_parts _ _ k).1
+    each_new (sub_rules version m) (sub_new version m) 0 transitions (items_at (codes "subs") d) (none_parts _ _ k).1
 
 -- none of them has one of these names
 subs_apart : (transitions : List (List ℕ)) (ds : List Data) → AllByRecursion (λ name. is_one_of name transitions ≡ false) (names_in ds) → AllByRecursion (λ sub. is_one_of sub.name transitions ≡ false) (map sub_in ds)
@@ -149,9 +149,9 @@ module_named version m earlier d h =
     let before_arcs = none_parts _ _ before_subs.0 in
     let before_transitions = none_parts _ _ before_arcs.0 in
     let before_places = none_parts _ _ before_transitions.0 in
-    let subs = subs_new m (names_in (items_at (codes "transitions") d)) d before_subs.1 in
+    let subs = subs_new version m (names_in (items_at (codes "transitions") d)) d before_subs.1 in
     record {
-      places = places_named m d before_places.1;
+      places = places_named version m d before_places.1;
       transitions = transitions_named version m d before_transitions.1;
       subs = are_names sub_in (λ sub. sub.name) (λ e. refl) (names_in (items_at (codes "transitions") d)) (items_at (codes "subs") d) subs;
       apart = subst (λ (names : List (List ℕ)). AllByRecursion (λ sub. is_one_of sub.name names ≡ false) (module_in d).subs) (sym (names_of transition_in (λ transition. transition.name) (λ e. refl) (items_at (codes "transitions") d)))
@@ -187,25 +187,25 @@ list_named version d h =
 
 -- ---- fusion sets, monitors
 
-fusion_new : (i : ℕ) (earlier : List (List ℕ)) (d : Data) → first_broken (fusion_rules i earlier d) ≡ None → IsNew earlier (text_at (codes "name") d)
+fusion_new : (version i : ℕ) (earlier : List (List ℕ)) (d : Data) → first_broken (fusion_rules version i earlier d) ≡ None → IsNew earlier (text_at (codes "name") d)
 unfolding fusion_rules
-fusion_new i earlier d h = let k = simp broken_append at h in new_kept _ _ _ earlier d (none_parts _ _ (none_parts _ _ (none_parts _ _ k).0).0).1
+fusion_new version i earlier d h = let k = simp broken_append at h in new_kept _ _ _ earlier d (none_parts _ _ (none_parts _ _ (none_parts _ _ k).0).0).1
 
-fusions_named : (d : Data) → first_broken (fusions_rules d) ≡ None → AreNames (map (λ fusion. fusion.name) (document_in d).fusions)
+fusions_named : (version : ℕ) (d : Data) → first_broken (fusions_rules version d) ≡ None → AreNames (map (λ fusion. fusion.name) (document_in d).fusions)
 unfolding fusions_rules each_fusion
-fusions_named d h =
+fusions_named version d h =
     let k = simp broken_append at h in
-    are_names fusion_in (λ fusion. fusion.name) (λ e. refl) [] (items_at (codes "fusions") d) (each_new fusion_rules fusion_new 0 [] (items_at (codes "fusions") d) (none_parts _ _ k).1)
+    are_names fusion_in (λ fusion. fusion.name) (λ e. refl) [] (items_at (codes "fusions") d) (each_new (fusion_rules version) (fusion_new version) 0 [] (items_at (codes "fusions") d) (none_parts _ _ k).1)
 
-monitor_new : (i : ℕ) (earlier : List (List ℕ)) (d : Data) → first_broken (monitor_rules i earlier d) ≡ None → IsNew earlier (text_at (codes "name") d)
+monitor_new : (version i : ℕ) (earlier : List (List ℕ)) (d : Data) → first_broken (monitor_rules version i earlier d) ≡ None → IsNew earlier (text_at (codes "name") d)
 unfolding monitor_rules
-monitor_new i earlier d h = let k = simp broken_append at h in new_kept _ _ _ earlier d (none_parts _ _ (none_parts _ _ (none_parts _ _ k).0).0).1
+monitor_new version i earlier d h = let k = simp broken_append at h in new_kept _ _ _ earlier d (none_parts _ _ (none_parts _ _ (none_parts _ _ k).0).0).1
 
-monitors_named : (d : Data) → first_broken (monitors_rules d) ≡ None → AreNames (map (λ monitor. monitor.name) (document_in d).monitors)
+monitors_named : (version : ℕ) (d : Data) → first_broken (monitors_rules version d) ≡ None → AreNames (map (λ monitor. monitor.name) (document_in d).monitors)
 unfolding monitors_rules each_monitor
-monitors_named d h =
+monitors_named version d h =
     let k = simp broken_append at h in
-    are_names monitor_in (λ monitor. monitor.name) (λ e. refl) [] (items_at (codes "monitors") d) (each_new monitor_rules monitor_new 0 [] (items_at (codes "monitors") d) (none_parts _ _ (none_parts _ _ k).0).1)
+    are_names monitor_in (λ monitor. monitor.name) (λ e. refl) [] (items_at (codes "monitors") d) (each_new (monitor_rules version) (monitor_new version) 0 [] (items_at (codes "monitors") d) (none_parts _ _ (none_parts _ _ k).0).1)
 
 -- ---- the document
 
@@ -217,7 +217,7 @@ document_named version d h =
     let before_monitors = none_parts _ _ before_phases.0 in
     let before_fusions = none_parts _ _ before_monitors.0 in
     let modules = list_named version d (none_parts _ _ before_fusions.0).1 in
-    record { modules = modules.modules; fusions = fusions_named d before_fusions.1; monitors = monitors_named d before_monitors.1; each = modules.each }
+    record { modules = modules.modules; fusions = fusions_named version d before_fusions.1; monitors = monitors_named version d before_monitors.1; each = modules.each }
 
 declarations_few : (d : Data) → first_broken (declarations_rules d) ≡ None → HasFewDeclarations (document_in d)
 unfolding declarations_rules

@@ -108,10 +108,14 @@ place_in d = record { name = text_at (codes "name") d; colour = text_at (codes "
 abbrev pub at_place : ℕ → ℕ → PlacePart → Pointer
 at_place m i part = at.Module m (of_module.Place i part)
 
+-- the keys of a place, in a document of a version
+abbrev pub place_keys : ℕ → List (List ℕ)
+place_keys version = codes "name" ∷ codes "colour" ∷ codes "initial" ∷ codes "port" ∷ []
+
 -- A place has a new name and a colour set, and maybe an initial marking and a port type.
-unfoldable pub place_rules : ℕ → ℕ → List (List ℕ) → Data → List Rule
-place_rules m i earlier d =
-    object_rules (codes "name" ∷ codes "colour" ∷ codes "initial" ∷ codes "port" ∷ []) (at_place m i of_place.Whole) d
+unfoldable pub place_rules : ℕ → ℕ → ℕ → List (List ℕ) → Data → List Rule
+place_rules version m i earlier d =
+    object_rules (place_keys version) (at_place m i of_place.Whole) d
     ++ new_name_rules (codes "name") (at_place m i of_place.Whole) (at_place m i of_place.Name) earlier d
     ++ text_rules (codes "colour") (at_place m i of_place.Whole) (at_place m i of_place.Colour) d
     ++ where_there (codes "initial") d (text_rules (codes "initial") (at_place m i of_place.Whole) (at_place m i of_place.Initial) d)
@@ -194,28 +198,36 @@ at_sub m i part = at.Module m (of_module.Sub i part)
 abbrev pub at_assignment : ℕ → ℕ → ℕ → AssignmentPart → Pointer
 at_assignment m i k part = at_sub m i (of_sub.Assignment k part)
 
+-- the keys of an assignment, in a document of a version
+abbrev pub assignment_keys : ℕ → List (List ℕ)
+assignment_keys version = codes "port" ∷ codes "socket" ∷ []
+
 -- An assignment has the names of a port and a socket.
-unfoldable pub assignment_rules : ℕ → ℕ → ℕ → Data → List Rule
-assignment_rules m i k d =
-    object_rules (codes "port" ∷ codes "socket" ∷ []) (at_assignment m i k of_assignment.Whole) d
+unfoldable pub assignment_rules : ℕ → ℕ → ℕ → ℕ → Data → List Rule
+assignment_rules version m i k d =
+    object_rules (assignment_keys version) (at_assignment m i k of_assignment.Whole) d
     ++ name_rules (codes "port") (at_assignment m i k of_assignment.Whole) (at_assignment m i k of_assignment.Port) d
     ++ name_rules (codes "socket") (at_assignment m i k of_assignment.Whole) (at_assignment m i k of_assignment.Socket) d
 
 -- each of the assignments of a substitution transition
-unfoldable pub each_assignment : ℕ → ℕ → List Data → List Rule
-each_assignment m i ds = each_item (assignment_rules m i) 0 ds
+unfoldable pub each_assignment : ℕ → ℕ → ℕ → List Data → List Rule
+each_assignment version m i ds = each_item (assignment_rules version m i) 0 ds
 
 abbrev pub sub_in : Data → RawSub
 sub_in d = record { name = text_at (codes "name") d; submodule = text_at (codes "module") d; assign = map assignment_in (items_at (codes "assign") d) }
 
+-- the keys of a substitution transition, in a document of a version
+abbrev pub sub_keys : ℕ → List (List ℕ)
+sub_keys version = codes "name" ∷ codes "module" ∷ codes "assign" ∷ []
+
 -- A substitution transition has a new name, the name of a module, and a list of assignments.
-unfoldable pub sub_rules : ℕ → ℕ → List (List ℕ) → Data → List Rule
-sub_rules m i earlier d =
-    object_rules (codes "name" ∷ codes "module" ∷ codes "assign" ∷ []) (at_sub m i of_sub.Whole) d
+unfoldable pub sub_rules : ℕ → ℕ → ℕ → List (List ℕ) → Data → List Rule
+sub_rules version m i earlier d =
+    object_rules (sub_keys version) (at_sub m i of_sub.Whole) d
     ++ new_name_rules (codes "name") (at_sub m i of_sub.Whole) (at_sub m i of_sub.Name) earlier d
     ++ name_rules (codes "module") (at_sub m i of_sub.Whole) (at_sub m i of_sub.Module) d
     ++ list_rules (codes "assign") (at_sub m i of_sub.Whole) (at_sub m i of_sub.Assign) d
-    ++ each_assignment m i (items_at (codes "assign") d)
+    ++ each_assignment version m i (items_at (codes "assign") d)
 
 -- ---- modules
 
@@ -229,14 +241,14 @@ module_in d = record {
 }
 
 -- each of the places of a module, no two of one name
-unfoldable pub each_place : ℕ → List Data → List Rule
-each_place m ds = each_named (place_rules m) 0 [] ds
+unfoldable pub each_place : ℕ → ℕ → List Data → List Rule
+each_place version m ds = each_named (place_rules version m) 0 [] ds
 
 -- The places of a module: a list of places.
-unfoldable pub places_rules : ℕ → Data → List Rule
-places_rules m d =
+unfoldable pub places_rules : ℕ → ℕ → Data → List Rule
+places_rules version m d =
     list_rules (codes "places") (at.Module m of_module.Whole) (at.Module m of_module.Places) d
-    ++ each_place m (items_at (codes "places") d)
+    ++ each_place version m (items_at (codes "places") d)
 
 -- each of its transitions, no two of one name
 unfoldable pub each_transition : ℕ → ℕ → List Data → List Rule
@@ -260,24 +272,28 @@ arcs_rules version m transitions d =
     ++ limit_rules (have_few_arcs transitions (map arc_in (items_at (codes "arcs") d))) limits.Arcs
 
 -- each of its substitution transitions, none with the name of another or of one of these transitions
-unfoldable pub each_sub : ℕ → List (List ℕ) → List Data → List Rule
-each_sub m transitions ds = each_named (sub_rules m) 0 transitions ds
+unfoldable pub each_sub : ℕ → ℕ → List (List ℕ) → List Data → List Rule
+each_sub version m transitions ds = each_named (sub_rules version m) 0 transitions ds
 
 -- Its substitution transitions: maybe a list of them.
-unfoldable pub subs_rules : ℕ → List (List ℕ) → Data → List Rule
-subs_rules m transitions d =
+unfoldable pub subs_rules : ℕ → ℕ → List (List ℕ) → Data → List Rule
+subs_rules version m transitions d =
     where_there (codes "subs") d (list_rules (codes "subs") (at.Module m of_module.Whole) (at.Module m of_module.Subs) d)
-    ++ each_sub m transitions (items_at (codes "subs") d)
+    ++ each_sub version m transitions (items_at (codes "subs") d)
+
+-- the keys of a module, in a document of a version
+abbrev pub module_keys : ℕ → List (List ℕ)
+module_keys version = codes "name" ∷ codes "places" ∷ codes "transitions" ∷ codes "arcs" ∷ codes "subs" ∷ []
 
 -- A module has a new name, places, transitions, arcs, and maybe substitution transitions.
 unfoldable pub module_rules : ℕ → ℕ → List (List ℕ) → Data → List Rule
 module_rules version m earlier d =
-    object_rules (codes "name" ∷ codes "places" ∷ codes "transitions" ∷ codes "arcs" ∷ codes "subs" ∷ []) (at.Module m of_module.Whole) d
+    object_rules (module_keys version) (at.Module m of_module.Whole) d
     ++ new_name_rules (codes "name") (at.Module m of_module.Whole) (at.Module m of_module.Name) earlier d
-    ++ places_rules m d
+    ++ places_rules version m d
     ++ transitions_rules version m d
     ++ arcs_rules version m (names_in (items_at (codes "transitions") d)) d
-    ++ subs_rules m (names_in (items_at (codes "transitions") d)) d
+    ++ subs_rules version m (names_in (items_at (codes "transitions") d)) d
 
 -- ---- fusion sets
 
@@ -288,27 +304,35 @@ member_in d = record { of_module = text_at (codes "module") d; place = text_at (
 abbrev pub at_member : ℕ → ℕ → MemberPart → Pointer
 at_member i k part = at.Fusion i (of_fusion.Member k part)
 
+-- the keys of a member, in a document of a version
+abbrev pub member_keys : ℕ → List (List ℕ)
+member_keys version = codes "module" ∷ codes "place" ∷ []
+
 -- A member has the names of a module and a place.
-unfoldable pub member_rules : ℕ → ℕ → Data → List Rule
-member_rules i k d =
-    object_rules (codes "module" ∷ codes "place" ∷ []) (at_member i k of_member.Whole) d
+unfoldable pub member_rules : ℕ → ℕ → ℕ → Data → List Rule
+member_rules version i k d =
+    object_rules (member_keys version) (at_member i k of_member.Whole) d
     ++ name_rules (codes "module") (at_member i k of_member.Whole) (at_member i k of_member.Module) d
     ++ name_rules (codes "place") (at_member i k of_member.Whole) (at_member i k of_member.Place) d
 
 -- each of the members of a fusion set
-unfoldable pub each_member : ℕ → List Data → List Rule
-each_member i ds = each_item (member_rules i) 0 ds
+unfoldable pub each_member : ℕ → ℕ → List Data → List Rule
+each_member version i ds = each_item (member_rules version i) 0 ds
 
 abbrev pub fusion_in : Data → RawFusion
 fusion_in d = record { name = text_at (codes "name") d; members = map member_in (items_at (codes "members") d) }
 
+-- the keys of a fusion set, in a document of a version
+abbrev pub fusion_keys : ℕ → List (List ℕ)
+fusion_keys version = codes "name" ∷ codes "members" ∷ []
+
 -- A fusion set has a new name and a list of members.
-unfoldable pub fusion_rules : ℕ → List (List ℕ) → Data → List Rule
-fusion_rules i earlier d =
-    object_rules (codes "name" ∷ codes "members" ∷ []) (at.Fusion i of_fusion.Whole) d
+unfoldable pub fusion_rules : ℕ → ℕ → List (List ℕ) → Data → List Rule
+fusion_rules version i earlier d =
+    object_rules (fusion_keys version) (at.Fusion i of_fusion.Whole) d
     ++ new_name_rules (codes "name") (at.Fusion i of_fusion.Whole) (at.Fusion i of_fusion.Name) earlier d
     ++ list_rules (codes "members") (at.Fusion i of_fusion.Whole) (at.Fusion i of_fusion.Members) d
-    ++ each_member i (items_at (codes "members") d)
+    ++ each_member version i (items_at (codes "members") d)
 
 -- ---- the document
 
@@ -358,14 +382,14 @@ modules_rules version d =
     ++ each_module version (items_at (codes "modules") d)
 
 -- each of the fusion sets, no two of one name
-unfoldable pub each_fusion : List Data → List Rule
-each_fusion ds = each_named fusion_rules 0 [] ds
+unfoldable pub each_fusion : ℕ → List Data → List Rule
+each_fusion version ds = each_named (fusion_rules version) 0 [] ds
 
 -- The fusion sets: maybe a list of them.
-unfoldable pub fusions_rules : Data → List Rule
-fusions_rules d =
+unfoldable pub fusions_rules : ℕ → Data → List Rule
+fusions_rules version d =
     where_there (codes "fusions") d (list_rules (codes "fusions") at.Root at.Fusions d)
-    ++ each_fusion (items_at (codes "fusions") d)
+    ++ each_fusion version (items_at (codes "fusions") d)
 
 abbrev pub document_in : Data → RawDocument
 document_in d = record {
@@ -390,6 +414,6 @@ document_rules version d =
     ++ declarations_rules d
     ++ name_rules (codes "top") at.Root at.Top d
     ++ modules_rules version d
-    ++ fusions_rules d
-    ++ monitors_rules d
-    ++ phases_rules d
+    ++ fusions_rules version d
+    ++ monitors_rules version d
+    ++ phases_rules version d

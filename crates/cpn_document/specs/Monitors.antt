@@ -47,14 +47,14 @@ form_of word =
 abbrev pub form_in : Data → Option MonitorForm
 form_in d = form_of (text_at (codes "kind") d)
 
--- the keys of a monitor of a form; where it has none, those of all forms
-abbrev pub monitor_keys : Option MonitorForm → List (List ℕ)
-monitor_keys (Some forms.Count) = codes "name" ∷ codes "kind" ∷ codes "transition" ∷ []
-monitor_keys (Some forms.Size) = codes "name" ∷ codes "kind" ∷ codes "place" ∷ []
-monitor_keys (Some forms.Value) = codes "name" ∷ codes "kind" ∷ codes "transition" ∷ codes "expr" ∷ []
-monitor_keys (Some forms.StopCount) = codes "name" ∷ codes "kind" ∷ codes "transition" ∷ codes "n" ∷ []
-monitor_keys (Some forms.StopSize) = codes "name" ∷ codes "kind" ∷ codes "place" ∷ codes "op" ∷ codes "n" ∷ []
-monitor_keys None = codes "name" ∷ codes "kind" ∷ codes "transition" ∷ codes "place" ∷ codes "expr" ∷ codes "op" ∷ codes "n" ∷ []
+-- the keys of a monitor of a form, in a document of a version; where it has none, those of all forms
+abbrev pub monitor_keys : ℕ → Option MonitorForm → List (List ℕ)
+monitor_keys version (Some forms.Count) = codes "name" ∷ codes "kind" ∷ codes "transition" ∷ []
+monitor_keys version (Some forms.Size) = codes "name" ∷ codes "kind" ∷ codes "place" ∷ []
+monitor_keys version (Some forms.Value) = codes "name" ∷ codes "kind" ∷ codes "transition" ∷ codes "expr" ∷ []
+monitor_keys version (Some forms.StopCount) = codes "name" ∷ codes "kind" ∷ codes "transition" ∷ codes "n" ∷ []
+monitor_keys version (Some forms.StopSize) = codes "name" ∷ codes "kind" ∷ codes "place" ∷ codes "op" ∷ codes "n" ∷ []
+monitor_keys version None = codes "name" ∷ codes "kind" ∷ codes "transition" ∷ codes "place" ∷ codes "expr" ∷ codes "op" ∷ codes "n" ∷ []
 
 -- ---- what stands at the keys
 
@@ -111,20 +111,20 @@ kind_rules i forms.StopSize d =
     ++ number_rules 0 most_tokens (codes "n") (at.Monitor i of_monitor.Whole) (at.Monitor i of_monitor.N) d
 
 -- A monitor has a new name, a kind, and what that wants.
-unfoldable pub monitor_rules : ℕ → List (List ℕ) → Data → List Rule
-monitor_rules i earlier d =
-    object_rules (monitor_keys (form_in d)) (at.Monitor i of_monitor.Whole) d
+unfoldable pub monitor_rules : ℕ → ℕ → List (List ℕ) → Data → List Rule
+monitor_rules version i earlier d =
+    object_rules (monitor_keys version (form_in d)) (at.Monitor i of_monitor.Whole) d
     ++ new_name_rules (codes "name") (at.Monitor i of_monitor.Whole) (at.Monitor i of_monitor.Name) earlier d
     ++ form_rules i d
     ++ kind_rules i (unwrap_or (form_in d) forms.Count) d
 
 -- each of the monitors, no two of one name
-unfoldable pub each_monitor : List Data → List Rule
-each_monitor ds = each_named monitor_rules 0 [] ds
+unfoldable pub each_monitor : ℕ → List Data → List Rule
+each_monitor version ds = each_named (monitor_rules version) 0 [] ds
 
 -- The monitors: maybe a list of them. None is run yet.
-unfoldable pub monitors_rules : Data → List Rule
-monitors_rules d =
+unfoldable pub monitors_rules : ℕ → Data → List Rule
+monitors_rules version d =
     where_there (codes "monitors") d (list_rules (codes "monitors") at.Root at.Monitors d)
-    ++ each_monitor (items_at (codes "monitors") d)
+    ++ each_monitor version (items_at (codes "monitors") d)
     ++ unserved_rules at.Monitors (items_at (codes "monitors") d)

@@ -40,11 +40,11 @@ form_of word = if bytes_eq word (codes "guard") then Some forms.Guard else (if b
 abbrev pub form_in : Data → Option EditForm
 form_in d = form_of (text_at (codes "kind") d)
 
--- the keys of an edit of a form; where it has none, those of both
-abbrev pub edit_keys : Option EditForm → List (List ℕ)
-edit_keys (Some forms.Guard) = codes "kind" ∷ codes "transition" ∷ codes "text" ∷ []
-edit_keys (Some forms.Initial) = codes "kind" ∷ codes "place" ∷ codes "text" ∷ []
-edit_keys None = codes "kind" ∷ codes "transition" ∷ codes "place" ∷ codes "text" ∷ []
+-- the keys of an edit of a form, in a document of a version; where it has none, those of both
+abbrev pub edit_keys : ℕ → Option EditForm → List (List ℕ)
+edit_keys version (Some forms.Guard) = codes "kind" ∷ codes "transition" ∷ codes "text" ∷ []
+edit_keys version (Some forms.Initial) = codes "kind" ∷ codes "place" ∷ codes "text" ∷ []
+edit_keys version None = codes "kind" ∷ codes "transition" ∷ codes "place" ∷ codes "text" ∷ []
 
 -- what an edit of a form changes
 abbrev pub change_in : EditForm → Data → RawEdit
@@ -73,15 +73,15 @@ change_rules p e forms.Initial d =
     ++ text_rules (codes "text") (at_edit p e of_edit.Whole) (at_edit p e of_edit.Text) d
 
 -- An edit has a kind, and what that wants.
-unfoldable pub edit_rules : ℕ → ℕ → Data → List Rule
-edit_rules p e d =
-    object_rules (edit_keys (form_in d)) (at_edit p e of_edit.Whole) d
+unfoldable pub edit_rules : ℕ → ℕ → ℕ → Data → List Rule
+edit_rules version p e d =
+    object_rules (edit_keys version (form_in d)) (at_edit p e of_edit.Whole) d
     ++ form_rules p e d
     ++ change_rules p e (unwrap_or (form_in d) forms.Guard) d
 
 -- each of the edits of a phase
-unfoldable pub each_edit : ℕ → List Data → List Rule
-each_edit p ds = each_item (edit_rules p) 0 ds
+unfoldable pub each_edit : ℕ → ℕ → List Data → List Rule
+each_edit version p ds = each_item (edit_rules version p) 0 ds
 
 -- ---- phases
 
@@ -96,26 +96,30 @@ phase_in d = record { start = start_of (text_at (codes "start") d); edits = map 
 abbrev pub start_words : ℕ → List (List ℕ)
 start_words p = if p == 0 then codes "initial" ∷ [] else codes "initial" ∷ codes "here" ∷ []
 
+-- the keys of a phase, in a document of a version
+abbrev pub phase_keys : ℕ → List (List ℕ)
+phase_keys version = codes "start" ∷ codes "edits" ∷ []
+
 -- A phase has a start, and maybe edits.
-unfoldable pub phase_rules : ℕ → Data → List Rule
-phase_rules p d =
-    object_rules (codes "start" ∷ codes "edits" ∷ []) (at.Phase p of_phase.Whole) d
+unfoldable pub phase_rules : ℕ → ℕ → Data → List Rule
+phase_rules version p d =
+    object_rules (phase_keys version) (at.Phase p of_phase.Whole) d
     ++ word_rules (start_words p) (codes "start") (at.Phase p of_phase.Whole) (at.Phase p of_phase.Start) d
     ++ where_there (codes "edits") d (list_rules (codes "edits") (at.Phase p of_phase.Whole) (at.Phase p of_phase.Edits) d)
-    ++ each_edit p (items_at (codes "edits") d)
+    ++ each_edit version p (items_at (codes "edits") d)
 
 -- the most phases of a document
 abbrev pub most_phases : ℕ
 most_phases = 64
 
 -- each of the phases
-unfoldable pub each_phase : List Data → List Rule
-each_phase ds = each_item phase_rules 0 ds
+unfoldable pub each_phase : ℕ → List Data → List Rule
+each_phase version ds = each_item (phase_rules version) 0 ds
 
 -- The phases: maybe a list of them, not too many. They are counted before they are looked at. None is run yet.
-unfoldable pub phases_rules : Data → List Rule
-phases_rules d =
+unfoldable pub phases_rules : ℕ → Data → List Rule
+phases_rules version d =
     where_there (codes "phases") d (list_rules (codes "phases") at.Root at.Phases d)
     ++ limit_rules (nat_le (length (items_at (codes "phases") d)) most_phases) limits.Phases
-    ++ each_phase (items_at (codes "phases") d)
+    ++ each_phase version (items_at (codes "phases") d)
     ++ unserved_rules at.Phases (items_at (codes "phases") d)

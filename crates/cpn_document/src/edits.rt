@@ -47,8 +47,8 @@ fn form_in(value: &Value) -> Option<EditForm>
 }
 
 /// The keys of an edit of a form; where it has none, those of both.
-fn edit_keys(form: Option<EditForm>) -> &'static [&'static str]
-    ensures exact { bytes_of result.now ≡ keys_of_edit form }
+fn edit_keys(_version: u64, form: Option<EditForm>) -> &'static [&'static str]
+    ensures exact { bytes_of result.now ≡ keys_of_edit _version form }
 {
     match form {
         Some(EditForm::Guard) => &["kind", "transition", "text"],
@@ -133,11 +133,17 @@ fn change_of(
 
 /// The edit of a number.
 #[tactic(auto, using(crate::proofs::BrokenRules::broken_append), unfolding(crate::specs::Phases::edit_rules))]
-fn edit_of(alloc: Global, in_phase: usize, number: usize, value: &Value) -> Result<Edit, DocError>
-    ensures gives { Gives edit_view result (edit_in (view value.now)) (edit_rules in_phase number (view value.now)) }
+fn edit_of(
+    alloc: Global,
+    version: u64,
+    in_phase: usize,
+    number: usize,
+    value: &Value,
+) -> Result<Edit, DocError>
+    ensures gives { Gives edit_view result (edit_in (view value.now)) (edit_rules version in_phase number (view value.now)) }
 {
     let whole = at_edit(in_phase, number, EditPart::Whole);
-    check_keys(value, edit_keys(form_in(value)), whole)?;
+    check_keys(value, edit_keys(version, form_in(value)), whole)?;
     let form = form_at_key(in_phase, number, value)?;
     change_of(alloc, in_phase, number, form, value)
 }
@@ -146,14 +152,15 @@ fn edit_of(alloc: Global, in_phase: usize, number: usize, value: &Value) -> Resu
 #[tactic(auto, unfolding(crate::specs::Phases::each_edit))]
 pub(crate) fn edits_of(
     alloc: Global,
+    version: u64,
     in_phase: usize,
     list: &[Value],
 ) -> Result<Vec<Edit>, DocError>
-    ensures gives { Gives (λ edits. map edit_view edits.items) result (map edit_in (map view list.now)) (each_edit in_phase (map view list.now)) }
+    ensures gives { Gives (λ edits. map edit_view edits.items) result (map edit_in (map view list.now)) (each_edit version in_phase (map view list.now)) }
 {
     let mut edits = Vec::with_capacity(alloc, list.len())?;
     for (number, value) in list.iter().enumerate() {
-        edits.push(edit_of(alloc, in_phase, number, value)?)?;
+        edits.push(edit_of(alloc, version, in_phase, number, value)?)?;
     }
     Ok(edits)
 }

@@ -105,9 +105,9 @@ pub(crate) fn document_of(alloc: Global, value: &Value) -> Result<Document, DocE
     let declarations = declarations_in(alloc, value)?;
     let top = name_at_key(value, "top", Pointer::Root, Pointer::Top)?;
     let modules = modules_in(alloc, version, value)?;
-    let fusions = fusions_in(alloc, value)?;
-    let monitors = monitors_in(alloc, value)?;
-    let phases = phases_in(alloc, value)?;
+    let fusions = fusions_in(alloc, version, value)?;
+    let monitors = monitors_in(alloc, version, value)?;
+    let phases = phases_in(alloc, version, value)?;
     Ok(Document {
         version,
         declarations,

@@ -2,8 +2,9 @@
 
 ghost use Rattle.std.specs.Prelude.{◌≡◌, [], ◌∷◌, ◌++◌, map, codes, OnOk};
 ghost use Rattle.serde_json.specs.View.{view};
+ghost use Rattle.cpn_document.specs.Names.{texts_of as bytes_of};
 ghost use Rattle.cpn_document.specs.Parts.{text_at, items_at};
-ghost use Rattle.cpn_document.specs.Document.{each_module, module_in, module_rules, modules_rules};
+ghost use Rattle.cpn_document.specs.Document.{each_module, module_in, module_rules, modules_rules, module_keys as keys_of_module};
 ghost use Rattle.cpn_document.specs.Views.{module_view};
 ghost use Rattle.cpn_document.specs.Answers.{Gives};
 
@@ -23,6 +24,13 @@ use std::alloc::Global;
 /// The most modules of a document.
 const MOST_MODULES: usize = 256;
 
+/// The keys of a module, in a document of this version.
+fn module_keys(_version: u64) -> [&'static str; 5]
+    ensures exact { bytes_of result ≡ keys_of_module _version }
+{
+    ["name", "places", "transitions", "arcs", "subs"]
+}
+
 /// The module of a number.
 fn module_of<'v>(
     alloc: Global,
@@ -35,18 +43,14 @@ fn module_of<'v>(
     ensures names { OnOk result (names.new ≡ names.old ++ text_at (codes "name") (view value.now) ∷ []) }
 {
     let whole = Pointer::Module(number, ModulePart::Whole);
-    check_keys(
-        value,
-        &["name", "places", "transitions", "arcs", "subs"],
-        whole,
-    )?;
+    check_keys(value, &module_keys(version), whole)?;
     let at_name = Pointer::Module(number, ModulePart::Name);
     let name = new_name_at_key(value, names, "name", whole, at_name)?;
-    let places = places_in(alloc, number, value)?;
+    let places = places_in(alloc, version, number, value)?;
     let mut inner = Names::new(alloc);
     let transitions = transitions_in(alloc, version, number, &mut inner, value)?;
     let arcs = arcs_in(alloc, version, number, &inner, value)?;
-    let subs = subs_in(alloc, number, &mut inner, value)?;
+    let subs = subs_in(alloc, version, number, &mut inner, value)?;
     Ok(Module {
         name: copied(alloc, name)?,
         places,

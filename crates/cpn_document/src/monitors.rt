@@ -71,8 +71,8 @@ fn form_in(value: &Value) -> Option<MonitorForm>
 }
 
 /// The keys of a monitor of a form; where it has none, those of all forms.
-fn monitor_keys(form: Option<MonitorForm>) -> &'static [&'static str]
-    ensures exact { bytes_of result.now ≡ keys_of_monitor form }
+fn monitor_keys(_version: u64, form: Option<MonitorForm>) -> &'static [&'static str]
+    ensures exact { bytes_of result.now ≡ keys_of_monitor _version form }
 {
     match form {
         Some(MonitorForm::Count) => &["name", "kind", "transition"],
@@ -226,15 +226,16 @@ fn kind_of(
 #[tactic(auto, using(crate::proofs::BrokenRules::broken_append), unfolding(crate::specs::Monitors::monitor_rules))]
 fn monitor_of<'v>(
     alloc: Global,
+    version: u64,
     number: usize,
     names: &mut Names<'v>,
     value: &'v Value,
 ) -> Result<Monitor, DocError>
-    ensures gives { Gives monitor_view result (monitor_in (view value.now)) (monitor_rules number names.old (view value.now)) }
+    ensures gives { Gives monitor_view result (monitor_in (view value.now)) (monitor_rules version number names.old (view value.now)) }
     ensures names { OnOk result (names.new ≡ names.old ++ text_at (codes "name") (view value.now) ∷ []) }
 {
     let whole = Pointer::Monitor(number, MonitorPart::Whole);
-    check_keys(value, monitor_keys(form_in(value)), whole)?;
+    check_keys(value, monitor_keys(version, form_in(value)), whole)?;
     let at_name = Pointer::Monitor(number, MonitorPart::Name);
     let name = new_name_at_key(value, names, "name", whole, at_name)?;
     let form = form_at_key(number, value)?;
@@ -247,24 +248,28 @@ fn monitor_of<'v>(
 
 /// The monitors of a list, in order.
 #[tactic(auto, unfolding(crate::specs::Monitors::each_monitor))]
-fn monitors_of(alloc: Global, list: &[Value]) -> Result<Vec<Monitor>, DocError>
-    ensures gives { Gives (λ monitors. map monitor_view monitors.items) result (map monitor_in (map view list.now)) (each_monitor (map view list.now)) }
+fn monitors_of(alloc: Global, version: u64, list: &[Value]) -> Result<Vec<Monitor>, DocError>
+    ensures gives { Gives (λ monitors. map monitor_view monitors.items) result (map monitor_in (map view list.now)) (each_monitor version (map view list.now)) }
 {
     let mut names = Names::new(alloc);
     let mut monitors = Vec::with_capacity(alloc, list.len())?;
     for (number, value) in list.iter().enumerate() {
-        monitors.push(monitor_of(alloc, number, &mut names, value)?)?;
+        monitors.push(monitor_of(alloc, version, number, &mut names, value)?)?;
     }
     Ok(monitors)
 }
 
 /// The monitors of a document. None is run yet.
 #[tactic(auto, using(crate::proofs::BrokenRules::broken_append), unfolding(crate::specs::Monitors::monitors_rules))]
-pub(crate) fn monitors_in(alloc: Global, value: &Value) -> Result<Vec<Monitor>, DocError>
-    ensures gives { Gives (λ monitors. map monitor_view monitors.items) result (map monitor_in (items_at (codes "monitors") (view value.now))) (monitors_rules (view value.now)) }
+pub(crate) fn monitors_in(
+    alloc: Global,
+    version: u64,
+    value: &Value,
+) -> Result<Vec<Monitor>, DocError>
+    ensures gives { Gives (λ monitors. map monitor_view monitors.items) result (map monitor_in (items_at (codes "monitors") (view value.now))) (monitors_rules version (view value.now)) }
 {
     let list = optional_list_at_key(value, "monitors", Pointer::Root, Pointer::Monitors)?;
-    let monitors = monitors_of(alloc, list)?;
+    let monitors = monitors_of(alloc, version, list)?;
     check_unserved(list, Pointer::Monitors)?;
     Ok(monitors)
 }

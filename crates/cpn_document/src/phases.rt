@@ -4,7 +4,7 @@ ghost use Rattle.std.specs.Prelude.{◌≡◌, map, codes};
 ghost use Rattle.serde_json.specs.View.{view};
 ghost use Rattle.cpn_document.specs.Names.{texts_of as bytes_of};
 ghost use Rattle.cpn_document.specs.Parts.{items_at};
-ghost use Rattle.cpn_document.specs.Phases.{start_of as start_of_word, start_words as words_of_start, phase_in, phase_rules, each_phase, phases_rules};
+ghost use Rattle.cpn_document.specs.Phases.{start_of as start_of_word, start_words as words_of_start, phase_in, phase_rules, each_phase, phases_rules, phase_keys as keys_of_phase};
 ghost use Rattle.cpn_document.specs.Views.{phase_view};
 ghost use Rattle.cpn_document.specs.Answers.{Gives};
 
@@ -42,18 +42,25 @@ fn start_words(number: usize) -> &'static [&'static str]
     }
 }
 
+/// The keys of a phase, in a document of this version.
+fn phase_keys(_version: u64) -> [&'static str; 2]
+    ensures exact { bytes_of result ≡ keys_of_phase _version }
+{
+    ["start", "edits"]
+}
+
 /// The phase of a number.
 #[tactic(auto, using(crate::proofs::BrokenRules::broken_append), unfolding(crate::specs::Phases::phase_rules))]
-fn phase_of(alloc: Global, number: usize, value: &Value) -> Result<Phase, DocError>
-    ensures gives { Gives phase_view result (phase_in (view value.now)) (phase_rules number (view value.now)) }
+fn phase_of(alloc: Global, version: u64, number: usize, value: &Value) -> Result<Phase, DocError>
+    ensures gives { Gives phase_view result (phase_in (view value.now)) (phase_rules version number (view value.now)) }
 {
     let whole = Pointer::Phase(number, PhasePart::Whole);
-    check_keys(value, &["start", "edits"], whole)?;
+    check_keys(value, &phase_keys(version), whole)?;
     let at_start = Pointer::Phase(number, PhasePart::Start);
     let start = word_at_key(value, start_words(number), "start", whole, at_start)?;
     let at_edits = Pointer::Phase(number, PhasePart::Edits);
     let list = optional_list_at_key(value, "edits", whole, at_edits)?;
-    let edits = edits_of(alloc, number, list)?;
+    let edits = edits_of(alloc, version, number, list)?;
     Ok(Phase {
         start: start_of(start),
         edits,
@@ -62,24 +69,24 @@ fn phase_of(alloc: Global, number: usize, value: &Value) -> Result<Phase, DocErr
 
 /// The phases of a list, in order.
 #[tactic(auto, unfolding(crate::specs::Phases::each_phase))]
-fn phases_of(alloc: Global, list: &[Value]) -> Result<Vec<Phase>, DocError>
-    ensures gives { Gives (λ phases. map phase_view phases.items) result (map phase_in (map view list.now)) (each_phase (map view list.now)) }
+fn phases_of(alloc: Global, version: u64, list: &[Value]) -> Result<Vec<Phase>, DocError>
+    ensures gives { Gives (λ phases. map phase_view phases.items) result (map phase_in (map view list.now)) (each_phase version (map view list.now)) }
 {
     let mut phases = Vec::with_capacity(alloc, list.len())?;
     for (number, value) in list.iter().enumerate() {
-        phases.push(phase_of(alloc, number, value)?)?;
+        phases.push(phase_of(alloc, version, number, value)?)?;
     }
     Ok(phases)
 }
 
 /// The phases of a document, not too many. None is run yet.
 #[tactic(auto, using(crate::proofs::BrokenRules::broken_append, crate::proofs::SeenValues::length_seen), unfolding(crate::specs::Phases::phases_rules))]
-pub(crate) fn phases_in(alloc: Global, value: &Value) -> Result<Vec<Phase>, DocError>
-    ensures gives { Gives (λ phases. map phase_view phases.items) result (map phase_in (items_at (codes "phases") (view value.now))) (phases_rules (view value.now)) }
+pub(crate) fn phases_in(alloc: Global, version: u64, value: &Value) -> Result<Vec<Phase>, DocError>
+    ensures gives { Gives (λ phases. map phase_view phases.items) result (map phase_in (items_at (codes "phases") (view value.now))) (phases_rules version (view value.now)) }
 {
     let list = optional_list_at_key(value, "phases", Pointer::Root, Pointer::Phases)?;
     check_limit(list.len() <= MOST_PHASES, Limit::Phases)?;
-    let phases = phases_of(alloc, list)?;
+    let phases = phases_of(alloc, version, list)?;
     check_unserved(list, Pointer::Phases)?;
     Ok(phases)
 }

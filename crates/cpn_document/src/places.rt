@@ -2,8 +2,9 @@
 
 ghost use Rattle.std.specs.Prelude.{◌≡◌, [], ◌∷◌, ◌++◌, map, option_map, codes, OnOk};
 ghost use Rattle.serde_json.specs.View.{view};
+ghost use Rattle.cpn_document.specs.Names.{texts_of as bytes_of};
 ghost use Rattle.cpn_document.specs.Parts.{text_at, optional_text_at, items_at, word_rules, where_there};
-ghost use Rattle.cpn_document.specs.Document.{at_place as part_of_place, each_place, port_of as port_of_word, place_in, place_rules, places_rules};
+ghost use Rattle.cpn_document.specs.Document.{at_place as part_of_place, each_place, port_of as port_of_word, place_in, place_rules, places_rules, place_keys as keys_of_place};
 ghost use Rattle.cpn_document.specs.Views.{place_view};
 ghost use Rattle.cpn_document.specs.Answers.{Finds, Gives};
 
@@ -49,19 +50,27 @@ fn at_place(in_module: usize, number: usize, part: PlacePart) -> Pointer
     Pointer::Module(in_module, ModulePart::Place(number, part))
 }
 
+/// The keys of a place, in a document of this version.
+fn place_keys(_version: u64) -> [&'static str; 4]
+    ensures exact { bytes_of result ≡ keys_of_place _version }
+{
+    ["name", "colour", "initial", "port"]
+}
+
 /// The place of a number.
 fn place_of<'v>(
     alloc: Global,
+    version: u64,
     in_module: usize,
     number: usize,
     names: &mut Names<'v>,
     value: &'v Value,
 ) -> Result<Place, DocError>
-    ensures gives { Gives place_view result (place_in (view value.now)) (place_rules in_module number names.old (view value.now)) }
+    ensures gives { Gives place_view result (place_in (view value.now)) (place_rules version in_module number names.old (view value.now)) }
     ensures names { OnOk result (names.new ≡ names.old ++ text_at (codes "name") (view value.now) ∷ []) }
 {
     let whole = at_place(in_module, number, PlacePart::Whole);
-    check_keys(value, &["name", "colour", "initial", "port"], whole)?;
+    check_keys(value, &place_keys(version), whole)?;
     let at_name = at_place(in_module, number, PlacePart::Name);
     let name = new_name_at_key(value, names, "name", whole, at_name)?;
     let at_colour = at_place(in_module, number, PlacePart::Colour);
@@ -79,13 +88,18 @@ fn place_of<'v>(
 
 /// The places of a list, in order.
 #[tactic(auto, unfolding(crate::specs::Document::each_place))]
-fn places_of(alloc: Global, in_module: usize, list: &[Value]) -> Result<Vec<Place>, DocError>
-    ensures gives { Gives (λ places. map place_view places.items) result (map place_in (map view list.now)) (each_place in_module (map view list.now)) }
+fn places_of(
+    alloc: Global,
+    version: u64,
+    in_module: usize,
+    list: &[Value],
+) -> Result<Vec<Place>, DocError>
+    ensures gives { Gives (λ places. map place_view places.items) result (map place_in (map view list.now)) (each_place version in_module (map view list.now)) }
 {
     let mut names = Names::new(alloc);
     let mut places = Vec::with_capacity(alloc, list.len())?;
     for (number, value) in list.iter().enumerate() {
-        places.push(place_of(alloc, in_module, number, &mut names, value)?)?;
+        places.push(place_of(alloc, version, in_module, number, &mut names, value)?)?;
     }
     Ok(places)
 }
@@ -93,14 +107,15 @@ fn places_of(alloc: Global, in_module: usize, list: &[Value]) -> Result<Vec<Plac
 /// The places of a module.
 pub(crate) fn places_in(
     alloc: Global,
+    version: u64,
     in_module: usize,
     value: &Value,
 ) -> Result<Vec<Place>, DocError>
-    ensures gives { Gives (λ places. map place_view places.items) result (map place_in (items_at (codes "places") (view value.now))) (places_rules in_module (view value.now)) }
+    ensures gives { Gives (λ places. map place_view places.items) result (map place_in (items_at (codes "places") (view value.now))) (places_rules version in_module (view value.now)) }
 {
     let whole = Pointer::Module(in_module, ModulePart::Whole);
     let here = Pointer::Module(in_module, ModulePart::Places);
     let list = list_at_key(value, "places", whole, here)?;
-    let places = places_of(alloc, in_module, list)?;
+    let places = places_of(alloc, version, in_module, list)?;
     Ok(places)
 }

@@ -26,7 +26,7 @@ pub enum Limit {
 pub(crate) enum Refused {
     /// Something has the wrong shape.
     Shape(Pointer),
-    /// Something is no whole number.
+    /// Something is no whole number, or one out of its range.
     BadNumber(Pointer),
     /// Something is no name, or no new one.
     BadName(Pointer),
@@ -51,8 +51,8 @@ pub enum DocError {
     /// lacks one that has to be there.
     #[error("something of the wrong shape")]
     Shape(Pointer),
-    /// What stands at this place is no whole number.
-    #[error("no whole number")]
+    /// What stands at this pointer is no whole number, or one out of its range.
+    #[error("no whole number, or one out of its range")]
     BadNumber(Pointer),
     /// What stands at this place is no name, or the name of something before it.
     #[error("no name, or no new one")]

@@ -2,8 +2,9 @@
 
 ghost use Rattle.std.specs.Prelude.{◌≡◌, [], ◌∷◌, ◌++◌, map, codes, OnOk};
 ghost use Rattle.serde_json.specs.View.{view};
+ghost use Rattle.cpn_document.specs.Names.{texts_of as bytes_of};
 ghost use Rattle.cpn_document.specs.Parts.{text_at, items_at};
-ghost use Rattle.cpn_document.specs.Document.{at_sub as part_of_sub, each_assignment, each_sub, assignment_in, assignment_rules, sub_in, sub_rules, subs_rules};
+ghost use Rattle.cpn_document.specs.Document.{at_sub as part_of_sub, each_assignment, each_sub, assignment_in, assignment_rules, sub_in, sub_rules, subs_rules, assignment_keys as keys_of_assignment, sub_keys as keys_of_sub};
 ghost use Rattle.cpn_document.specs.Views.{assignment_view, sub_view};
 ghost use Rattle.cpn_document.specs.Answers.{Gives};
 
@@ -23,22 +24,30 @@ fn at_sub(in_module: usize, number: usize, part: SubPart) -> Pointer
     Pointer::Module(in_module, ModulePart::Sub(number, part))
 }
 
+/// The keys of an assignment, in a document of this version.
+fn assignment_keys(_version: u64) -> [&'static str; 2]
+    ensures exact { bytes_of result ≡ keys_of_assignment _version }
+{
+    ["port", "socket"]
+}
+
 /// The assignment of a number.
 fn assignment_of(
     alloc: Global,
+    version: u64,
     in_module: usize,
     in_sub: usize,
     number: usize,
     value: &Value,
 ) -> Result<Assignment, DocError>
-    ensures gives { Gives assignment_view result (assignment_in (view value.now)) (assignment_rules in_module in_sub number (view value.now)) }
+    ensures gives { Gives assignment_view result (assignment_in (view value.now)) (assignment_rules version in_module in_sub number (view value.now)) }
 {
     let whole = at_sub(
         in_module,
         in_sub,
         SubPart::Assignment(number, AssignmentPart::Whole),
     );
-    check_keys(value, &["port", "socket"], whole)?;
+    check_keys(value, &assignment_keys(version), whole)?;
     let at_port = at_sub(
         in_module,
         in_sub,
@@ -61,39 +70,48 @@ fn assignment_of(
 #[tactic(auto, unfolding(crate::specs::Document::each_assignment))]
 fn assignments_of(
     alloc: Global,
+    version: u64,
     in_module: usize,
     in_sub: usize,
     list: &[Value],
 ) -> Result<Vec<Assignment>, DocError>
-    ensures gives { Gives (λ assign. map assignment_view assign.items) result (map assignment_in (map view list.now)) (each_assignment in_module in_sub (map view list.now)) }
+    ensures gives { Gives (λ assign. map assignment_view assign.items) result (map assignment_in (map view list.now)) (each_assignment version in_module in_sub (map view list.now)) }
 {
     let mut assign = Vec::with_capacity(alloc, list.len())?;
     for (number, value) in list.iter().enumerate() {
-        assign.push(assignment_of(alloc, in_module, in_sub, number, value)?)?;
+        assign.push(assignment_of(alloc, version, in_module, in_sub, number, value)?)?;
     }
     Ok(assign)
+}
+
+/// The keys of a substitution transition, in a document of this version.
+fn sub_keys(_version: u64) -> [&'static str; 3]
+    ensures exact { bytes_of result ≡ keys_of_sub _version }
+{
+    ["name", "module", "assign"]
 }
 
 /// The substitution transition of a number.
 fn sub_of<'v>(
     alloc: Global,
+    version: u64,
     in_module: usize,
     number: usize,
     names: &mut Names<'v>,
     value: &'v Value,
 ) -> Result<Sub, DocError>
-    ensures gives { Gives sub_view result (sub_in (view value.now)) (sub_rules in_module number names.old (view value.now)) }
+    ensures gives { Gives sub_view result (sub_in (view value.now)) (sub_rules version in_module number names.old (view value.now)) }
     ensures names { OnOk result (names.new ≡ names.old ++ text_at (codes "name") (view value.now) ∷ []) }
 {
     let whole = at_sub(in_module, number, SubPart::Whole);
-    check_keys(value, &["name", "module", "assign"], whole)?;
+    check_keys(value, &sub_keys(version), whole)?;
     let at_name = at_sub(in_module, number, SubPart::Name);
     let name = new_name_at_key(value, names, "name", whole, at_name)?;
     let at_module = at_sub(in_module, number, SubPart::Module);
     let submodule = name_at_key(value, "module", whole, at_module)?;
     let at_assign = at_sub(in_module, number, SubPart::Assign);
     let list = list_at_key(value, "assign", whole, at_assign)?;
-    let assign = assignments_of(alloc, in_module, number, list)?;
+    let assign = assignments_of(alloc, version, in_module, number, list)?;
     Ok(Sub {
         name: copied(alloc, name)?,
         submodule: copied(alloc, submodule)?,
@@ -105,15 +123,16 @@ fn sub_of<'v>(
 #[tactic(auto, unfolding(crate::specs::Document::each_sub))]
 fn subs_of<'v>(
     alloc: Global,
+    version: u64,
     in_module: usize,
     names: &mut Names<'v>,
     list: &'v [Value],
 ) -> Result<Vec<Sub>, DocError>
-    ensures gives { Gives (λ subs. map sub_view subs.items) result (map sub_in (map view list.now)) (each_sub in_module names.old (map view list.now)) }
+    ensures gives { Gives (λ subs. map sub_view subs.items) result (map sub_in (map view list.now)) (each_sub version in_module names.old (map view list.now)) }
 {
     let mut subs = Vec::with_capacity(alloc, list.len())?;
     for (number, value) in list.iter().enumerate() {
-        subs.push(sub_of(alloc, in_module, number, names, value)?)?;
+        subs.push(sub_of(alloc, version, in_module, number, names, value)?)?;
     }
     Ok(subs)
 }
@@ -121,15 +140,16 @@ fn subs_of<'v>(
 /// The substitution transitions of a module. Their names are added to those of its transitions.
 pub(crate) fn subs_in<'v>(
     alloc: Global,
+    version: u64,
     in_module: usize,
     names: &mut Names<'v>,
     value: &'v Value,
 ) -> Result<Vec<Sub>, DocError>
-    ensures gives { Gives (λ subs. map sub_view subs.items) result (map sub_in (items_at (codes "subs") (view value.now))) (subs_rules in_module names.old (view value.now)) }
+    ensures gives { Gives (λ subs. map sub_view subs.items) result (map sub_in (items_at (codes "subs") (view value.now))) (subs_rules version in_module names.old (view value.now)) }
 {
     let whole = Pointer::Module(in_module, ModulePart::Whole);
     let here = Pointer::Module(in_module, ModulePart::Subs);
     let list = optional_list_at_key(value, "subs", whole, here)?;
-    let subs = subs_of(alloc, in_module, names, list)?;
+    let subs = subs_of(alloc, version, in_module, names, list)?;
     Ok(subs)
 }

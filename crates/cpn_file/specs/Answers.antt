@@ -15,7 +15,7 @@ use Rattle.cpn_file.specs.declared.refusals.LoadError.TheVariants as loads
 abbrev pub load_refusal_of : LoadError → Option Refusal
 load_refusal_of loads.Memory = None
 load_refusal_of (loads.Document e) = option_map of_form (refusal_of e)
-load_refusal_of (loads.Inscription place e) = option_map (λ r. of_net (inscription place r)) (text_refusal_of e)
+load_refusal_of (loads.Inscription pointer e) = option_map (λ r. of_net (inscription pointer r)) (text_refusal_of e)
 load_refusal_of (loads.Module e) = option_map (λ r. of_net (of_modules r)) (module_refusal_of e)
 load_refusal_of (loads.Flat e) = option_map of_flat (flat_refusal_of e)
 

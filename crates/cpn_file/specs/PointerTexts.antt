@@ -1,4 +1,4 @@
--- Places in a document as JSON pointers. Source: own choice.
+-- The texts of JSON pointers into a document. Source: own choice.
 use Rattle.std.specs.Prelude.{ℕ, List, [], ◌++◌, codes}
 use Rattle.std.specs.Fmt.{decimal}
 use Rattle.cpn_document.specs.declared.pointers.Pointer.{Pointer}
@@ -109,7 +109,7 @@ phase_text of_phase.Start = codes "/start"
 phase_text of_phase.Edits = codes "/edits"
 phase_text (of_phase.Edit i part) = item_text (codes "/edits/") i (edit_text part)
 
--- A place of a document, as a JSON pointer; that of the whole document is empty.
+-- The text of a pointer into a document; that of the whole document is empty.
 abbrev pub pointer_text : Pointer → List ℕ
 pointer_text at.Root = []
 pointer_text at.Version = codes "/version"

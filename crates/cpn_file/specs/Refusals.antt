@@ -27,34 +27,34 @@ counted_name counts.Modules = codes "modules"
 counted_name counts.Arcs = codes "arcs"
 counted_name counts.Phases = codes "phases"
 
--- the line of a refusal of the form: it carries the place, where that is not the whole document, or what there are too many of
+-- the line of a refusal of the form: it carries the pointer, where that is not the whole document, or what there are too many of
 abbrev pub form_line : FormRefusal → List ℕ
 form_line not_json = numbered_line (codes "document") 1 (codes "not_json") []
-form_line (shape place) = numbered_line (codes "document") 2 (codes "shape") (pointer_text place)
-form_line (bad_number place) = numbered_line (codes "document") 3 (codes "bad_number") (pointer_text place)
-form_line (bad_name place) = numbered_line (codes "document") 4 (codes "bad_name") (pointer_text place)
+form_line (shape pointer) = numbered_line (codes "document") 2 (codes "shape") (pointer_text pointer)
+form_line (bad_number pointer) = numbered_line (codes "document") 3 (codes "bad_number") (pointer_text pointer)
+form_line (bad_name pointer) = numbered_line (codes "document") 4 (codes "bad_name") (pointer_text pointer)
 form_line version = numbered_line (codes "document") 5 (codes "version") []
 form_line (limit kind) = numbered_line (codes "document") 6 (codes "limit") (counted_name kind)
-form_line (not_yet place) = numbered_line (codes "document") 7 (codes "not_yet") (pointer_text place)
+form_line (not_yet pointer) = numbered_line (codes "document") 7 (codes "not_yet") (pointer_text pointer)
 
 -- ---- its modules
 
--- the line of modules that make no hierarchy: it carries the place
+-- the line of modules that make no hierarchy: it carries the pointer
 abbrev pub module_line : ModuleRefusal → List ℕ
-module_line (unknown_module place) = numbered_line (codes "net module") 1 (codes "unknown_module") (pointer_text place)
-module_line (unknown_place place) = numbered_line (codes "net module") 2 (codes "unknown_place") (pointer_text place)
-module_line (unknown_transition place) = numbered_line (codes "net module") 3 (codes "unknown_transition") (pointer_text place)
-module_line (cycle place) = numbered_line (codes "net module") 4 (codes "cycle") (pointer_text place)
-module_line (socket_type place) = numbered_line (codes "net module") 5 (codes "socket_type") (pointer_text place)
-module_line (colour_differs place) = numbered_line (codes "net module") 6 (codes "colour_differs") (pointer_text place)
-module_line (port_twice place) = numbered_line (codes "net module") 7 (codes "port_twice") (pointer_text place)
-module_line (port_in_fusion place) = numbered_line (codes "net module") 8 (codes "port_in_fusion") (pointer_text place)
-module_line (two_fusions place) = numbered_line (codes "net module") 9 (codes "two_fusions") (pointer_text place)
+module_line (unknown_module pointer) = numbered_line (codes "net module") 1 (codes "unknown_module") (pointer_text pointer)
+module_line (unknown_place pointer) = numbered_line (codes "net module") 2 (codes "unknown_place") (pointer_text pointer)
+module_line (unknown_transition pointer) = numbered_line (codes "net module") 3 (codes "unknown_transition") (pointer_text pointer)
+module_line (cycle pointer) = numbered_line (codes "net module") 4 (codes "cycle") (pointer_text pointer)
+module_line (socket_type pointer) = numbered_line (codes "net module") 5 (codes "socket_type") (pointer_text pointer)
+module_line (colour_differs pointer) = numbered_line (codes "net module") 6 (codes "colour_differs") (pointer_text pointer)
+module_line (port_twice pointer) = numbered_line (codes "net module") 7 (codes "port_twice") (pointer_text pointer)
+module_line (port_in_fusion pointer) = numbered_line (codes "net module") 8 (codes "port_in_fusion") (pointer_text pointer)
+module_line (two_fusions pointer) = numbered_line (codes "net module") 9 (codes "two_fusions") (pointer_text pointer)
 
 -- the line of the nets of modules that are refused
 abbrev pub net_line : NetRefusal → List ℕ
 net_line (of_modules r) = module_line r
-net_line (inscription place r) = inscription_line place r
+net_line (inscription pointer r) = inscription_line pointer r
 
 -- ---- its flat net
 

@@ -1,5 +1,5 @@
 -- The error lines of texts that are refused, and of the variables of transitions: the part of the language, the number, the name and
--- the place of each refusal. Source: own choice.
+-- where each refusal is. Source: own choice.
 use Rattle.std.specs.Prelude.{ℕ, List, [], ◌++◌, codes}
 use Rattle.std.specs.Fmt.{decimal}
 use Rattle.cpn_lex.specs.declared.refusals.LexError.{LexError}
@@ -113,12 +113,12 @@ text_detail (no_tree (lexical e)) = lexical_detail e
 text_detail (no_tree (syntactic e)) = syntactic_detail e
 text_detail (typing r) = typing_detail r
 
--- A text that is refused: `error inscription `, its place, the part, the number and the name, a space before each; then a
+-- A text that is refused: `error inscription `, its pointer, the part, the number and the name, a space before each; then a
 -- space and what it carries where it carries something; a line feed.
 unfoldable pub line_with : List ℕ → List ℕ → ℕ → List ℕ → List ℕ → List ℕ
-line_with place part number name detail =
-    codes "error inscription " ++ place ++ codes " " ++ part ++ codes " " ++ decimal number ++ codes " " ++ name ++ with_space detail ++ codes "\n"
+line_with pointer part number name detail =
+    codes "error inscription " ++ pointer ++ codes " " ++ part ++ codes " " ++ decimal number ++ codes " " ++ name ++ with_space detail ++ codes "\n"
 
--- the line of a refusal of the text, or of the transition, at a place
+-- the line of a refusal of the text, or of the transition, at a pointer
 abbrev pub inscription_line : Pointer → TextRefusal → List ℕ
-inscription_line place r = line_with (pointer_text place) (part_name r) (text_number r) (text_name r) (text_detail r)
+inscription_line pointer r = line_with (pointer_text pointer) (part_name r) (text_number r) (text_name r) (text_detail r)

@@ -35,18 +35,18 @@ fn numbered_line(
     Ok(line)
 }
 
-/// The same, where the refusal carries a place in the document.
-fn placed_line(
+/// The same, where the refusal carries a pointer.
+fn pointer_line(
     alloc: Global,
     what: &str,
     number: u64,
     name: &str,
-    place: Pointer,
+    pointer: Pointer,
 ) -> Result<String, Memory>
-    ensures line { IfOk result (λ line. string_bytes line ≡ line_in what.now number name.now (text_of_pointer place)) }
+    ensures line { IfOk result (λ line. string_bytes line ≡ line_in what.now number name.now (text_of_pointer pointer)) }
 {
-    let place = pointer_text(alloc, place)?;
-    numbered_line(alloc, what, number, name, place.as_str())
+    let pointer = pointer_text(alloc, pointer)?;
+    numbered_line(alloc, what, number, name, pointer.as_str())
 }
 
 /// What there are too many of.
@@ -69,12 +69,12 @@ fn form_line_of(alloc: Global, error: &DocError) -> Result<String, Memory>
     match error {
         DocError::Memory => Err(Memory),
         DocError::NotJson => numbered_line(alloc, what, 1, "not_json", ""),
-        DocError::Shape(place) => placed_line(alloc, what, 2, "shape", *place),
-        DocError::BadNumber(place) => placed_line(alloc, what, 3, "bad_number", *place),
-        DocError::BadName(place) => placed_line(alloc, what, 4, "bad_name", *place),
+        DocError::Shape(pointer) => pointer_line(alloc, what, 2, "shape", *pointer),
+        DocError::BadNumber(pointer) => pointer_line(alloc, what, 3, "bad_number", *pointer),
+        DocError::BadName(pointer) => pointer_line(alloc, what, 4, "bad_name", *pointer),
         DocError::Version => numbered_line(alloc, what, 5, "version", ""),
         DocError::Limit(kind) => numbered_line(alloc, what, 6, "limit", counted_name(*kind)),
-        DocError::NotYet(place) => placed_line(alloc, what, 7, "not_yet", *place),
+        DocError::NotYet(pointer) => pointer_line(alloc, what, 7, "not_yet", *pointer),
     }
 }
 
@@ -85,17 +85,41 @@ fn module_line_of(alloc: Global, error: &ModuleError) -> Result<String, Memory>
     let what = "net module";
     match error {
         ModuleError::Memory => Err(Memory),
-        ModuleError::UnknownModule(place) => placed_line(alloc, what, 1, "unknown_module", *place),
-        ModuleError::UnknownPlace(place) => placed_line(alloc, what, 2, "unknown_place", *place),
-        ModuleError::UnknownTransition(place) => {
-            placed_line(alloc, what, 3, "unknown_transition", *place)
+        ModuleError::UnknownModule(pointer) => pointer_line(
+            alloc,
+            what,
+            1,
+            "unknown_module",
+            *pointer,
+        ),
+        ModuleError::UnknownPlace(pointer) => pointer_line(
+            alloc,
+            what,
+            2,
+            "unknown_place",
+            *pointer,
+        ),
+        ModuleError::UnknownTransition(pointer) => {
+            pointer_line(alloc, what, 3, "unknown_transition", *pointer)
         }
-        ModuleError::Cycle(place) => placed_line(alloc, what, 4, "cycle", *place),
-        ModuleError::SocketType(place) => placed_line(alloc, what, 5, "socket_type", *place),
-        ModuleError::ColourDiffers(place) => placed_line(alloc, what, 6, "colour_differs", *place),
-        ModuleError::PortTwice(place) => placed_line(alloc, what, 7, "port_twice", *place),
-        ModuleError::PortInFusion(place) => placed_line(alloc, what, 8, "port_in_fusion", *place),
-        ModuleError::TwoFusions(place) => placed_line(alloc, what, 9, "two_fusions", *place),
+        ModuleError::Cycle(pointer) => pointer_line(alloc, what, 4, "cycle", *pointer),
+        ModuleError::SocketType(pointer) => pointer_line(alloc, what, 5, "socket_type", *pointer),
+        ModuleError::ColourDiffers(pointer) => pointer_line(
+            alloc,
+            what,
+            6,
+            "colour_differs",
+            *pointer,
+        ),
+        ModuleError::PortTwice(pointer) => pointer_line(alloc, what, 7, "port_twice", *pointer),
+        ModuleError::PortInFusion(pointer) => pointer_line(
+            alloc,
+            what,
+            8,
+            "port_in_fusion",
+            *pointer,
+        ),
+        ModuleError::TwoFusions(pointer) => pointer_line(alloc, what, 9, "two_fusions", *pointer),
     }
 }
 
@@ -148,7 +172,7 @@ impl LoadError {
         match self {
             LoadError::Memory => Err(Memory),
             LoadError::Document(error) => form_line_of(alloc, error),
-            LoadError::Inscription(place, error) => inscription_line_of(alloc, *place, error),
+            LoadError::Inscription(pointer, error) => inscription_line_of(alloc, *pointer, error),
             LoadError::Module(error) => module_line_of(alloc, error),
             LoadError::Flat(error) => flat_line_of(alloc, error),
         }

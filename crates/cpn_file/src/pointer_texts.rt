@@ -1,4 +1,4 @@
-//! Places in a document as JSON pointers.
+//! The texts of JSON pointers into a document.
 
 ghost use Rattle.std.specs.Prelude.{◌≡◌, IfOk, string_bytes};
 ghost use Rattle.cpn_file.specs.PointerTexts.{place_text as text_of_place, transition_text as text_of_transition, arc_text as text_of_arc, assignment_text as text_of_assignment, member_text as text_of_member, monitor_text as text_of_monitor, edit_text as text_of_edit, item_text as text_of_item, sub_text as text_of_sub, module_text as text_of_module, fusion_text as text_of_fusion, phase_text as text_of_phase, pointer_text as text_of_pointer};
@@ -168,11 +168,11 @@ fn phase_text(alloc: Global, part: PhasePart) -> Result<String, Memory>
     }
 }
 
-/// A place in a document as a JSON pointer.
-pub(crate) fn pointer_text(alloc: Global, place: Pointer) -> Result<String, Memory>
-    ensures text { IfOk result (λ text. string_bytes text ≡ text_of_pointer place) }
+/// The text of a pointer into a document.
+pub(crate) fn pointer_text(alloc: Global, pointer: Pointer) -> Result<String, Memory>
+    ensures text { IfOk result (λ text. string_bytes text ≡ text_of_pointer pointer) }
 {
-    match place {
+    match pointer {
         Pointer::Root => own(alloc, ""),
         Pointer::Version => own(alloc, "/version"),
         Pointer::Declarations => own(alloc, "/declarations"),

@@ -26,7 +26,7 @@ pub enum LoadError {
     /// The bytes are no document, or none that is served.
     #[error("{0}")]
     Document(DocError),
-    /// The text at this place, or the variables of the transition there, are not accepted.
+    /// The text at this pointer, or the variables of the transition there, are not accepted.
     #[error("{1}")]
     Inscription(Pointer, InscriptionError),
     /// Its modules make no hierarchy.
@@ -75,7 +75,7 @@ impl From<NetError> for LoadError {
         match error {
             NetError::Memory => LoadError::Memory,
             NetError::Modules(error) => LoadError::Module(error),
-            NetError::Inscription(place, error) => LoadError::Inscription(place, error),
+            NetError::Inscription(pointer, error) => LoadError::Inscription(pointer, error),
         }
     }
 }

@@ -157,67 +157,67 @@ fn typing_detail(alloc: Global, error: &TypeError) -> Result<String, Memory>
 /// The line of a text that is refused, with its line feed.
 fn text_line(
     alloc: Global,
-    place: &str,
+    pointer: &str,
     part: &str,
     number: u64,
     name: &str,
     detail: &str,
 ) -> Result<String, Memory>
-    ensures line { IfOk result (λ line. string_bytes line ≡ line_with place.now part.now number name.now detail.now) }
+    ensures line { IfOk result (λ line. string_bytes line ≡ line_with pointer.now part.now number name.now detail.now) }
 {
     let detail = spaced(alloc, detail)?;
     let detail = detail.as_str();
-    let line = format!(in alloc; "error inscription {place} {part} {number} {name}{detail}\n")?;
+    let line = format!(in alloc; "error inscription {pointer} {part} {number} {name}{detail}\n")?;
     Ok(line)
 }
 
 /// The line of a text that has no tokens.
-fn lexical_line(alloc: Global, place: &str, error: LexError) -> Result<String, Memory>
-    ensures line { IfOk result (λ line. string_bytes line ≡ line_with place.now (codes "lex") (number_of_lexical error) (name_of_lexical error) (detail_of_lexical error)) }
+fn lexical_line(alloc: Global, pointer: &str, error: LexError) -> Result<String, Memory>
+    ensures line { IfOk result (λ line. string_bytes line ≡ line_with pointer.now (codes "lex") (number_of_lexical error) (name_of_lexical error) (detail_of_lexical error)) }
 {
     let detail = lexical_detail(alloc, error)?;
     let number = lexical_number(error);
     let name = lexical_name(error);
-    let line = text_line(alloc, place, "lex", number, name, detail.as_str())?;
+    let line = text_line(alloc, pointer, "lex", number, name, detail.as_str())?;
     Ok(line)
 }
 
 /// The line of a text whose tokens have no tree.
-fn syntactic_line(alloc: Global, place: &str, error: SyntaxError) -> Result<String, Memory>
-    ensures line { IfOk result (λ line. string_bytes line ≡ line_with place.now (codes "syntax") (number_of_syntactic error) (name_of_syntactic error) (detail_of_syntactic error)) }
+fn syntactic_line(alloc: Global, pointer: &str, error: SyntaxError) -> Result<String, Memory>
+    ensures line { IfOk result (λ line. string_bytes line ≡ line_with pointer.now (codes "syntax") (number_of_syntactic error) (name_of_syntactic error) (detail_of_syntactic error)) }
 {
     let detail = syntactic_detail(alloc, error)?;
     let number = syntactic_number(error);
     let name = syntactic_name(error);
-    let line = text_line(alloc, place, "syntax", number, name, detail.as_str())?;
+    let line = text_line(alloc, pointer, "syntax", number, name, detail.as_str())?;
     Ok(line)
 }
 
 /// The line of a text, or of the variables of a transition, that a rule of typing refuses.
-fn typing_line(alloc: Global, place: &str, error: &TypeError) -> Result<String, Memory>
-    ensures line { IfOk result (λ line. IfSome (type_refusal_of error.now) (λ r. string_bytes line ≡ line_with place.now (codes "type") (number_of_typing r) (name_of_typing r) (detail_of_typing r))) }
+fn typing_line(alloc: Global, pointer: &str, error: &TypeError) -> Result<String, Memory>
+    ensures line { IfOk result (λ line. IfSome (type_refusal_of error.now) (λ r. string_bytes line ≡ line_with pointer.now (codes "type") (number_of_typing r) (name_of_typing r) (detail_of_typing r))) }
 {
     let detail = typing_detail(alloc, error)?;
     let number = typing_number(error);
     let name = typing_name(error);
-    let line = text_line(alloc, place, "type", number, name, detail.as_str())?;
+    let line = text_line(alloc, pointer, "type", number, name, detail.as_str())?;
     Ok(line)
 }
 
-/// The line of the text, or the transition, at a place, that is refused.
+/// The line of the text, or the transition, at a pointer, that is refused.
 pub(crate) fn inscription_line_of(
     alloc: Global,
-    place: Pointer,
+    pointer: Pointer,
     error: &InscriptionError,
 ) -> Result<String, Memory>
-    ensures line { IfOk result (λ line. IfSome (text_refusal_of error.now) (λ r. string_bytes line ≡ inscription_line place r)) }
+    ensures line { IfOk result (λ line. IfSome (text_refusal_of error.now) (λ r. string_bytes line ≡ inscription_line pointer r)) }
 {
-    let place = pointer_text(alloc, place)?;
-    let place = place.as_str();
+    let pointer = pointer_text(alloc, pointer)?;
+    let pointer = pointer.as_str();
     match error {
         InscriptionError::Memory => Err(Memory),
-        InscriptionError::Lex(error) => lexical_line(alloc, place, *error),
-        InscriptionError::Syntax(error) => syntactic_line(alloc, place, *error),
-        InscriptionError::Typing(error) => typing_line(alloc, place, error),
+        InscriptionError::Lex(error) => lexical_line(alloc, pointer, *error),
+        InscriptionError::Syntax(error) => syntactic_line(alloc, pointer, *error),
+        InscriptionError::Typing(error) => typing_line(alloc, pointer, error),
     }
 }

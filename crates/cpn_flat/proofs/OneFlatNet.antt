@@ -8,7 +8,8 @@ use Rattle.std.proofs.lemmas.List.Elements.{All-contains}
 use Rattle.cpn_classes.specs.Numbering.{Numbering}
 use Rattle.cpn_classes.specs.OneNumbering.{numbering_same}
 use Rattle.cpn_definitions.specs.Net.{Coloured, PlainNet, place_at}
-use Rattle.cpn_definitions.specs.Terms.{PlainTerm}
+use Rattle.cpn_definitions.specs.Outcome.{Outcome, gives, faults, no_meaning}
+use Rattle.cpn_definitions.specs.Terms.{PlainTerm, terms_of}
 use Rattle.cpn_document.specs.Document.{RawDocument}
 use Rattle.cpn_fuse.specs.Compound.{AreCompound, joined_pairs}
 use Rattle.cpn_fuse.specs.Instances.{PlainPart, PlainInstance, instance_at, parts_from, ComeFirst, none_yet, one_first, top_of, AreInstances}
@@ -20,11 +21,11 @@ use Rattle.cpn_module_nets.specs.Nets.{Initial, PlainAccepted}
 use Rattle.cpn_readings.specs.Reading as readings
 use Rattle.cpn_readings.specs.Relations.{such_that, After, ◌>>=◌, HasOne}
 use Rattle.cpn_readings.proofs.RelatedReadings.{IsOne, just_one, such_one, then_one_at, then_one, each_so_one}
-use Rattle.cpn_flat.specs.Refusals.{FlatRefusal, Reading, read, refused, each_from}
+use Rattle.cpn_flat.specs.Refusals.{FlatRefusal, Reading, read, refused, init}
 use Rattle.cpn_flat.specs.Names.{joined_name, sub_name_at, name_at, name_where, AreNames}
 use Rattle.cpn_flat.specs.Placed.{IsBehind, StandBehind}
 use Rattle.cpn_flat.specs.FlatNet.{flat_net}
-use Rattle.cpn_flat.specs.InitialMarking.{tokens_of, values_of, IsShared, none_written, all_same, one_differs, evaluated, started}
+use Rattle.cpn_flat.specs.InitialMarking.{tokens_of, terms_so, value_so, values_so, IsShared, none_written, all_same, one_differs, evaluated, started}
 use Rattle.cpn_flat.specs.Flat.{IsUnfoldedAs, unfolded, not_unfolded, too_many, all_written, flat_in}
 
 -- ---- instances
@@ -87,9 +88,19 @@ shared_one place (v ∷ vs) x y (all_same v' vs' h) (one_differs v'' vs'' other 
 shared_one place (v ∷ vs) x y (one_differs v' vs' other is_in differs) (all_same v'' vs'' k) = absurd (differs (All-contains (λ o. tokens_of place.colour.timed o ≡ tokens_of place.colour.timed v) vs other k is_in))
 shared_one place (v ∷ vs) x y (one_differs v' vs' other is_in differs) (one_differs v'' vs'' other' is_in' differs') = refl
 
+terms_one : (place : Coloured) (o : Outcome (List PlainTerm)) → HasOne (terms_so place o)
+terms_one place (gives terms) = just_one (read terms)
+terms_one place (faults fault) = just_one (refused (init place.name fault))
+terms_one place no_meaning = λ r s h k. absurd h
+
+-- what all are evaluated to
+evaluated_one : (n : PlainNet) (written : List (List Initial)) → HasOne (evaluated n written)
+evaluated_one n written =
+    each_so_one (values_so n) (λ c initials. each_so_one (λ (k : ℕ). value_so n.functions (place_at n c)) (λ k initial. terms_one (place_at n c) (terms_of n.functions initial.expr initial.colour [] 0)) 0 initials) 0 written
+
 started_one : (n : PlainNet) (written : List (List Initial)) → HasOne (started n written)
 unfolding started
-started_one n written = then_one (evaluated n written) _ (λ r s h k. just_one (each_from (values_of n) 0 written) r s h.1 k.1) (λ values. each_so_one (λ c value. IsShared (place_at n c) value) (λ c value. shared_one (place_at n c) value) 0 values)
+started_one n written = then_one (evaluated n written) _ (evaluated_one n written) (λ values. each_so_one (λ c value. IsShared (place_at n c) value) (λ c value. shared_one (place_at n c) value) 0 values)
 
 -- ---- the whole
 

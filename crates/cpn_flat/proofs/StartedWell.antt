@@ -25,12 +25,11 @@ use Rattle.cpn_definitions.proofs.RisingLists.{each_flat}
 use Rattle.cpn_definitions.proofs.Terms.{AreTermsOf, terms_are}
 use Rattle.cpn_definitions.proofs.TokenCounts.{tokens_are_few}
 use Rattle.cpn_module_nets.specs.Nets.{Initial, IsOfColour}
-use Rattle.cpn_readings.specs.Reading.{each}
-use Rattle.cpn_readings.proofs.Readings.{same_read, steps}
+use Rattle.cpn_readings.proofs.Readings.{same_read}
 use Rattle.cpn_readings.proofs.RelatedReadings.{step_parts}
 use Rattle.cpn_readings.proofs.RelatedLists.{AreRead, each_read}
-use Rattle.cpn_flat.specs.Refusals.{Reading, read, each_from}
-use Rattle.cpn_flat.specs.InitialMarking.{token_of, tokens_of, terms_at, value_of, values_of, IsShared, none_written, all_same, one_differs, evaluated, started}
+use Rattle.cpn_flat.specs.Refusals.{Reading, read}
+use Rattle.cpn_flat.specs.InitialMarking.{token_of, tokens_of, terms_so, value_so, values_so, IsShared, none_written, all_same, one_differs, evaluated, started}
 use Rattle.cpn_flat.specs.Values.{AreOfColour, HaveColours}
 use Rattle.cpn_flat.proofs.SharedMarkings.{Shares}
 use Rattle.cpn_flat.proofs.StartedMarkings.{as_many_values}
@@ -109,23 +108,21 @@ module _ (colour : PlainColour) where
 abbrev AreStart : PlainColour → List PlainTerm → Type 0
 AreStart colour terms = IsStart colour (tokens_of colour.timed terms)
 
-value_start : (place : Coloured) (funs : Functions) (initial : Initial) (o : Outcome (List PlainTerm)) → IsOfColour place.colour (Some initial) → terms_of funs initial.expr initial.colour [] 0 ≡ o → (terms : List PlainTerm) → terms_at place o ≡ read terms → AreStart place.colour terms
+value_start : (place : Coloured) (funs : Functions) (initial : Initial) (o : Outcome (List PlainTerm)) → IsOfColour place.colour (Some initial) → terms_of funs initial.expr initial.colour [] 0 ≡ o → (terms : List PlainTerm) → terms_so place o (read terms) → AreStart place.colour terms
 value_start place funs initial (gives given) same is terms h =
     let are = terms_are initial.expr initial.colour (setting_of funs [] 0) [] 0 given is in
     let few = tokens_are_few funs initial.expr initial.colour [] 0 given is in
     let in_range = delays_in_range funs initial.expr initial.colour [] 0 given is in
-    subst (AreStart place.colour) (same_read given terms h) (terms_start place.colour given (subst (λ c. AreTermsOf c given) same are) few in_range)
+    subst (AreStart place.colour) (same_read given terms (sym h)) (terms_start place.colour given (subst (λ c. AreTermsOf c given) same are) few in_range)
 value_start place funs initial (faults fault) same is terms h = cc
-value_start place funs initial no_meaning same is terms h = subst (AreStart place.colour) (same_read [] terms h) (none_start place.colour)
+value_start place funs initial no_meaning same is terms h = absurd h
 
-values_start : (place : Coloured) (funs : Functions) (initials : List Initial) (values : List (List PlainTerm)) → AreOfColour place.colour initials → each (value_of funs place) initials ≡ read values → AllByRecursion (AreStart place.colour) values
-unfolding each
-values_start place funs [] values same h = subst (AllByRecursion (AreStart place.colour)) (same_read [] values h) tt
-values_start place funs (initial ∷ initials) values same h =
-    let first = steps _ (value_of funs place initial) values h in
-    let rest = steps _ (each (value_of funs place) initials) values first.2 in
-    subst (AllByRecursion (AreStart place.colour)) (same_read (first.0 ∷ rest.0) values rest.2)
-    (value_start place funs initial (terms_of funs initial.expr initial.colour [] 0) same.0 refl first.0 first.1, values_start place funs initials rest.0 same.1 rest.1)
+values_start : (place : Coloured) (funs : Functions) (i : ℕ) (initials : List Initial) (values : List (List PlainTerm)) → AreOfColour place.colour initials → AreRead (λ (k : ℕ). value_so funs place) i initials values → AllByRecursion (AreStart place.colour) values
+values_start place funs i [] [] same are = tt
+values_start place funs i [] (terms ∷ values) same are = absurd are
+values_start place funs i (initial ∷ initials) [] same are = absurd are
+values_start place funs i (initial ∷ initials) (terms ∷ values) same are =
+    (value_start place funs initial (terms_of funs initial.expr initial.colour [] 0) same.0 refl terms are.0, values_start place funs (suc i) initials values same.1 are.1)
 
 -- what its members share
 shared_start : (place : Coloured) (values : List (List PlainTerm)) (r : Reading Tokens) → IsShared place values r → AllByRecursion (AreStart place.colour) values → (tokens : Tokens) → r ≡ read tokens → IsStart place.colour tokens
@@ -144,15 +141,13 @@ one_later : (a c : ℕ) → a + suc c ≡ suc a + c
 one_later a c = omega arith
 
 lists_start : (n : PlainNet) (i : ℕ) (written : List (List Initial)) (lists : List (List (List PlainTerm)))
-    → ((c : ℕ) → c < length written → AreOfColour (place_at n (i + c)).colour (slice_index_or written c [])) → each_from (values_of n) i written ≡ read lists → AreStarts n i lists
-unfolding each_from
-lists_start n i [] lists have h = subst (AreStarts n i) (same_read [] lists h) tt
-lists_start n i (initials ∷ written) lists have h =
-    let first = steps _ (values_of n i initials) lists h in
-    let rest = steps _ (each_from (values_of n) (suc i) written) lists first.2 in
+    → ((c : ℕ) → c < length written → AreOfColour (place_at n (i + c)).colour (slice_index_or written c [])) → AreRead (values_so n) i written lists → AreStarts n i lists
+lists_start n i [] [] have are = tt
+lists_start n i [] (values ∷ lists) have are = absurd are
+lists_start n i (initials ∷ written) [] have are = absurd are
+lists_start n i (initials ∷ written) (values ∷ lists) have are =
     let here = subst (λ k. AreOfColour (place_at n k).colour initials) (add-zero i) (have 0 (omega arith)) in
-    subst (AreStarts n i) (same_read (first.0 ∷ rest.0) lists rest.2)
-    (values_start (place_at n i) n.functions initials first.0 here first.1, lists_start n (suc i) written rest.0 (λ c lt. subst (λ k. AreOfColour (place_at n k).colour (slice_index_or written c [])) (one_later i c) (have (suc c) (omega (arith, lt)))) rest.1)
+    (values_start (place_at n i) n.functions 0 initials values here (each_read (λ (k : ℕ). value_so n.functions (place_at n i)) 0 initials values are.0), lists_start n (suc i) written lists (λ c lt. subst (λ k. AreOfColour (place_at n k).colour (slice_index_or written c [])) (one_later i c) (have (suc c) (omega (arith, lt)))) are.1)
 
 -- a place more
 more_bounded : (tokens : Tokens) (m : Marking) → length tokens ≤ most_tokens → IsBounded most_tokens m → IsBounded most_tokens (tokens ∷ m)
@@ -197,9 +192,8 @@ pub started_well : (n : PlainNet) (written : List (List Initial)) (m : Marking) 
 unfolding started
 started_well n written m long have h =
     let first = step_parts (evaluated n written) _ m h in
-    let values_are = sym first.1.1 in
-    marking_from n 0 n.places first.0 m (λ k. ap (place_at n) (from_zero k)) (as_many_values n written first.0 values_are ∙ long)
-    (lists_start n 0 written first.0 (λ c lt. subst (λ k. AreOfColour (place_at n k).colour (slice_index_or written c [])) (from_zero c) (have c lt)) values_are)
+    marking_from n 0 n.places first.0 m (λ k. ap (place_at n) (from_zero k)) (as_many_values n written first.0 first.1 ∙ long)
+    (lists_start n 0 written first.0 (λ c lt. subst (λ k. AreOfColour (place_at n k).colour (slice_index_or written c [])) (from_zero c) (have c lt)) (each_read (values_so n) 0 written first.0 first.1))
     (each_read (Shares n) 0 first.0 m first.2)
   where
     from_zero : (k : ℕ) → k ≡ 0 + k

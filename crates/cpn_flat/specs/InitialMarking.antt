@@ -12,9 +12,8 @@ use Rattle.cpn_definitions.specs.Terms.{PlainTerm, terms_of}
 use Rattle.cpn_classes.specs.Numbering.{Numbering}
 use Rattle.cpn_fuse.specs.Instances.{PlainInstance}
 use Rattle.cpn_module_nets.specs.Nets.{Initial, IsMeant, PlainModuleNet}
-use Rattle.cpn_readings.specs.Reading.{each}
 use Rattle.cpn_readings.specs.Relations.{just, ◌>>=◌, each_so}
-use Rattle.cpn_flat.specs.Refusals.{FlatRefusal, init, initial_differs, Reading, read, refused, each_from}
+use Rattle.cpn_flat.specs.Refusals.{FlatRefusal, init, initial_differs, Reading, read, refused}
 use Rattle.cpn_flat.specs.FlatNet.{each_instance, module_net_among}
 
 -- ---- the members of compound places
@@ -52,19 +51,23 @@ token_of timed term = token_at term.value (if timed then term.delay else 0)
 abbrev pub tokens_of : Bool → List PlainTerm → Tokens
 tokens_of timed terms = in_order token_cmp (flat_map (λ term. replicate term.count (token_of timed term)) terms)
 
--- The terms of an initial marking at a place, or its fault. Nothing asks for those of one without a meaning: it has no reading.
-abbrev pub terms_at : Coloured → Outcome (List PlainTerm) → Reading (List PlainTerm)
-terms_at place (gives terms) = read terms
-terms_at place (faults fault) = refused (init place.name fault)
-terms_at place no_meaning = read []
+-- The terms of an initial marking at a place, or its fault. One without a meaning has no reading.
+abbrev pub terms_so : Coloured → Outcome (List PlainTerm) → Reading (List PlainTerm) → Type 0
+terms_so place (gives terms) reading = just (read terms) reading
+terms_so place (faults fault) reading = just (refused (init place.name fault)) reading
+terms_so place no_meaning reading = ⊥
 
 -- An initial marking is evaluated at time 0 under no binding.
-abbrev pub value_of : Functions → Coloured → Initial → Reading (List PlainTerm)
-value_of funs place initial = terms_at place (terms_of funs initial.expr initial.colour [] 0)
+abbrev pub value_so : Functions → Coloured → Initial → Reading (List PlainTerm) → Type 0
+value_so funs place initial = terms_so place (terms_of funs initial.expr initial.colour [] 0)
 
--- those of the members of the compound place of a number, or the fault of the first that has one
-abbrev pub values_of : PlainNet → ℕ → List Initial → Reading (List (List PlainTerm))
-values_of n c initials = each (value_of n.functions (place_at n c)) initials
+-- the values of several at a place, or the fault of the first that has one
+abbrev pub each_value_so : Functions → Coloured → List Initial → Reading (List (List PlainTerm)) → Type 0
+each_value_so funs place = each_so (λ i. value_so funs place) 0
+
+-- those of the members of the compound place of a number
+abbrev pub values_so : PlainNet → ℕ → List Initial → Reading (List (List PlainTerm)) → Type 0
+values_so n c = each_value_so n.functions (place_at n c)
 
 -- each of the written initial markings has a meaning
 abbrev pub AreMeant : Functions → List Initial → Type 0
@@ -74,10 +77,9 @@ AreMeant funs initials = AllByRecursion (λ initial. IsMeant funs (Some initial)
 abbrev pub AreAllMeant : Functions → List (List Initial) → Type 0
 AreAllMeant funs lists = AllByRecursion (AreMeant funs) lists
 
--- What all of them are evaluated to, or the first fault. Where one of them has no meaning there is no reading; each that is accepted
--- has one.
+-- What all of them are evaluated to, or the first fault.
 abbrev pub evaluated : PlainNet → List (List Initial) → Reading (List (List (List PlainTerm))) → Type 0
-evaluated n written reading = AreAllMeant n.functions written × just (each_from (values_of n) 0 written) reading
+evaluated n = each_so (values_so n) 0
 
 -- What members share: those that have something written have the same tokens, which count once.
 pub data IsShared (place : Coloured) : List (List PlainTerm) → Reading Tokens → Type 0 where

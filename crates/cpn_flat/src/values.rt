@@ -6,14 +6,13 @@ ghost use Rattle.cpn_core.specs.Faults.{fault_view};
 ghost use Rattle.cpn_core.specs.Inscriptions.{funs_view};
 ghost use Rattle.cpn_core.specs.Nets.{place_view, net_view};
 ghost use Rattle.cpn_eval.specs.Terms.{items_view};
-ghost use Rattle.cpn_readings.specs.Reading.{Refuses, each};
+ghost use Rattle.cpn_readings.specs.Relations.{RefusesBy};
 ghost use Rattle.cpn_module_nets.specs.Nets.{IsMeant};
 ghost use Rattle.cpn_module_nets.specs.Views.{initial_view};
-ghost use Rattle.cpn_flat.specs.Refusals.{each_from};
-ghost use Rattle.cpn_flat.specs.InitialMarking.{terms_at, value_of as valued, values_of as values_at_number, AreMeant, AreAllMeant};
+ghost use Rattle.cpn_flat.specs.InitialMarking.{terms_so, value_so, each_value_so, values_so, evaluated, AreMeant, AreAllMeant};
 ghost use Rattle.cpn_flat.specs.WrittenViews.{written_view, lists_view};
 ghost use Rattle.cpn_flat.specs.Values.{values_view, value_lists_view};
-ghost use Rattle.cpn_flat.specs.Answers.{refusal_of, Gives};
+ghost use Rattle.cpn_flat.specs.Answers.{refusal_of, GivesBy};
 
 use crate::refusals::FlatError;
 use cpn_core::{ArcExpr, Binding, EvalFault, Funs, Net, Place};
@@ -22,7 +21,7 @@ use std::alloc::Global;
 
 /// The refusal of an initial marking at the place, for its fault.
 fn faulted(alloc: Global, place: &Place, fault: EvalFault) -> FlatError
-    ensures refused { Refuses (refusal_of result) (terms_at (place_view place.now) (faults (fault_view fault))) }
+    ensures refused { RefusesBy (terms_so (place_view place.now) (faults (fault_view fault))) (refusal_of result) }
 {
     match String::from_str(alloc, place.name.as_str()) {
         Ok(name) => FlatError::Init(name, fault),
@@ -38,7 +37,7 @@ fn value_of(
     initial: &ArcExpr,
 ) -> Result<Terms, FlatError>
     requires meant { IsMeant (funs_view funs.now) (Some (initial_view initial.now)) }
-    ensures value { Gives items_view result (valued (funs_view funs.now) (place_view place.now) (initial_view initial.now)) }
+    ensures value { GivesBy items_view result (value_so (funs_view funs.now) (place_view place.now) (initial_view initial.now)) }
 {
     let binding = Binding::new(alloc);
     match eval_mset(alloc, funs, initial, &binding, 0) {
@@ -58,7 +57,7 @@ fn values_of(
     written: &[&ArcExpr],
 ) -> Result<Vec<Terms>, FlatError>
     requires meant { AreMeant (funs_view funs.now) (written_view written.now) }
-    ensures values { Gives (λ values. values_view values.items) result (each (valued (funs_view funs.now) (place_view place.now)) (written_view written.now)) }
+    ensures values { GivesBy (λ values. values_view values.items) result (each_value_so (funs_view funs.now) (place_view place.now) (written_view written.now)) }
 {
     let mut values = Vec::with_capacity(alloc, written.len())?;
     for initial in written {
@@ -76,7 +75,7 @@ fn values_at(
 ) -> Result<Vec<Terms>, FlatError>
     requires in_range { number < length net.now.places.items }
     requires meant { AreMeant (net_view net.now).functions (written_view written.now) }
-    ensures values { Gives (λ values. values_view values.items) result (values_at_number (net_view net.now) number (written_view written.now)) }
+    ensures values { GivesBy (λ values. values_view values.items) result (values_so (net_view net.now) number (written_view written.now)) }
 {
     let place = &net.places[number];
     values_of(alloc, &net.funs, place, written)
@@ -90,7 +89,7 @@ pub(crate) fn all_values(
 ) -> Result<Vec<Vec<Terms>>, FlatError>
     requires as_many { length written.now ≡ length net.now.places.items }
     requires meant { AreAllMeant (net_view net.now).functions (lists_view written.now) }
-    ensures values { Gives (λ values. value_lists_view values.items) result (each_from (values_at_number (net_view net.now)) 0 (lists_view written.now)) }
+    ensures values { GivesBy (λ values. value_lists_view values.items) result (evaluated (net_view net.now) (lists_view written.now)) }
 {
     let mut values = Vec::with_capacity(alloc, written.len())?;
     for (place, initials) in written.iter().enumerate() {

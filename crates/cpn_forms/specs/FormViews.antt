@@ -7,7 +7,7 @@ use Rattle.cpn_core.specs.Inscriptions.{expr_view, exprs_view, arm_view}
 use Rattle.cpn_typing.specs.Types.{PlainTy}
 use Rattle.cpn_typing.specs.Rules as rules
 use Rattle.cpn_declared.specs.TypeViews.{ty_view, tys_view}
-use Rattle.cpn_forms.specs.PlaceViews.{place_view}
+use Rattle.cpn_forms.specs.ContextViews.{context_view}
 use Rattle.cpn_declared.specs.declared.types.Ty.{Ty}
 use Rattle.cpn_forms.specs.declared.forms.Parts.{Parts}
 use Rattle.cpn_forms.specs.declared.forms.Items.{Items}
@@ -31,7 +31,7 @@ abbrev pub wanted_view : Option (Bor Ty) → Option PlainTy
 wanted_view = option_map (λ t. ty_view t.now)
 
 abbrev pub spot_view : Spot → rules.Spot
-spot_view s = record { place = place_view s.place; at = s.at; wanted = wanted_view s.wanted }
+spot_view s = record { context = context_view s.context; at = s.at; wanted = wanted_view s.wanted }
 
 abbrev pub sides_view : Sides → TypedSides
 sides_view s = record { left = expr_view s.left; right = expr_view s.right; first = ty_view s.first; last = ty_view s.last }

@@ -1,6 +1,6 @@
 -- what the data of the program stand for
 pub mod ScopeViews
-pub mod PlaceViews
+pub mod ContextViews
 pub mod TypedViews
 pub mod LookupViews
 pub mod FormViews

@@ -1,4 +1,4 @@
--- What a look-up answers, as what a name means at its place.
+-- What a look-up answers, as what a name means where it stands.
 use Rattle.std.specs.Prelude.{ℕ, Option}
 use Rattle.std.specs.Option.{option_map}
 use Rattle.std.specs.Borrow.{Bor}

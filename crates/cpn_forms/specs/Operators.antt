@@ -9,7 +9,7 @@ use Rattle.cpn_trees.specs.declared.operators.Prefix.{Prefix}
 use Rattle.cpn_trees.specs.declared.operators.Prefix.TheVariants as front
 use Rattle.cpn_typing.specs.Types.{PlainTy, bool_type, int_type, text_type, lists}
 use Rattle.cpn_typing.specs.Names.{mismatch, Checked, ok, refused, ◌>>=◌, required}
-use Rattle.cpn_typing.specs.Places.{misplaced_delay}
+use Rattle.cpn_typing.specs.Contexts.{misplaced_delay}
 use Rattle.cpn_typing.specs.Rules.{Typed, Part, Spot, two, meets, item_wanted, list_wanted, waits, any_type, ordered, a_list, part_of, part_number}
 
 -- ---- operators between two operands
@@ -130,7 +130,7 @@ sides_make sign.Andalso spot at s = meets spot.wanted spot.at (conjunction s.lef
 sides_make sign.Orelse spot at s = meets spot.wanted spot.at (disjunction s.left s.right) bool_type
 sides_make sign.Cons spot at s = applied cons spot s (lists s.first)
 sides_make sign.Append spot at s = applied appending spot s s.last
-sides_make sign.Later spot at s = refused (misplaced_delay spot.place spot.at at)
+sides_make sign.Later spot at s = refused (misplaced_delay spot.context spot.at at)
 sides_make sign.Times spot at s = refused (mismatch spot.at)
 
 -- the same sides, exchanged

@@ -187,7 +187,7 @@ fn result_of(function: Predeclared, first: Ty) -> Ty
 /// # Errors
 ///
 /// [`TypeError::Mismatch`] at the call, where the arguments behind the first are not of the types that are wanted of them, or not as
-/// many, or where its place wants another type; [`TypeError::Memory`].
+/// many, or where its context wants another type; [`TypeError::Memory`].
 #[tactic(auto, using(crate::proofs::Heads::exprs_headed))]
 pub fn operation_makes(
     function: Predeclared,
@@ -248,7 +248,7 @@ pub fn parts_wanted(wanted: Option<&Ty>) -> &[Ty]
 ///
 /// # Errors
 ///
-/// [`TypeError::Mismatch`] at the call, where its place wants another type; [`TypeError::Memory`].
+/// [`TypeError::Mismatch`] at the call, where its context wants another type; [`TypeError::Memory`].
 pub fn constructed(
     alloc: Global,
     union: u32,
@@ -271,7 +271,7 @@ pub fn constructed(
 ///
 /// # Errors
 ///
-/// [`TypeError::Mismatch`] at the call, where the arguments are not of the parameters' types, or not as many, or where its place wants
+/// [`TypeError::Mismatch`] at the call, where the arguments are not of the parameters' types, or not as many, or where its context wants
 /// another type; [`TypeError::Memory`].
 pub fn function_called(
     number: u32,

@@ -8,7 +8,7 @@ ghost use Rattle.cpn_forms.specs.TypedViews.{typed_view};
 ghost use Rattle.cpn_forms.specs.FormViews.{branches_view, wanted_view};
 ghost use Rattle.cpn_declared.specs.Answers.{Answers};
 
-use crate::places::Place;
+use crate::contexts::Context;
 use crate::typed::Typed;
 use cpn_core::{Arm, Expr, Exprs, Memory};
 use cpn_declared::{Ty, TypeError, Tys};
@@ -76,11 +76,11 @@ impl Branches {
     }
 }
 
-/// Where a form stands: its place, the offset of its first token, and the type that is wanted of it, if one is.
+/// Where a form stands: its context, the offset of its first token, and the type that is wanted of it, if one is.
 #[derive(Clone, Copy)]
 pub struct Spot<'w> {
-    /// The place of the inscription.
-    pub place: Place,
+    /// The context of the inscription.
+    pub context: Context,
     /// The offset of the form's first token.
     pub at: usize,
     /// The wanted type.

@@ -4,12 +4,12 @@ ghost use Rattle.std.specs.Prelude.{◌≡◌, string_bytes};
 ghost use Rattle.cpn_definitions.specs.Value.{text as plain_text};
 ghost use Rattle.cpn_definitions.specs.Inscription.{literal};
 ghost use Rattle.cpn_typing.specs.Names.{declared, found};
-ghost use Rattle.cpn_typing.specs.Places.{may_tell_time};
+ghost use Rattle.cpn_typing.specs.Contexts.{may_tell_time};
 ghost use Rattle.cpn_typing.specs.Rules.{meets as meets_rule, name_rule, time_rule};
 ghost use Rattle.cpn_typing.specs.Types.{text_type};
 ghost use Rattle.cpn_declared.specs.DeclsViews.{decls_view, meaning_view};
 ghost use Rattle.cpn_forms.specs.ScopeViews.{scope_view};
-ghost use Rattle.cpn_forms.specs.PlaceViews.{place_view};
+ghost use Rattle.cpn_forms.specs.ContextViews.{context_view};
 ghost use Rattle.cpn_forms.specs.TypedViews.{typed_view};
 ghost use Rattle.cpn_forms.specs.FormViews.{spot_view};
 ghost use Rattle.cpn_declared.specs.Answers.{Answers};
@@ -26,7 +26,7 @@ use std::alloc::Global;
 ///
 /// # Errors
 ///
-/// [`TypeError::Mismatch`] where its place wants another type; [`TypeError::Memory`].
+/// [`TypeError::Mismatch`] where its context wants another type; [`TypeError::Memory`].
 pub fn text_literal(alloc: Global, text: &str, spot: Spot<'_>) -> Result<Typed, TypeError>
     ensures exact { Answers typed_view result (meets_rule (spot_view spot.entry).wanted spot.entry.at (literal (plain_text text.now)) text_type) }
 {
@@ -44,12 +44,12 @@ pub fn text_literal(alloc: Global, text: &str, spot: Spot<'_>) -> Result<Typed, 
 ///
 /// # Errors
 ///
-/// [`TypeError::TimeNotAllowed`] where the place may not tell the time; [`TypeError::Mismatch`] where it wants another type;
+/// [`TypeError::TimeNotAllowed`] where the context may not tell the time; [`TypeError::Mismatch`] where it wants another type;
 /// [`TypeError::Memory`].
 pub fn check_time(spot: Spot<'_>) -> Result<Typed, TypeError>
-    ensures exact { Answers typed_view result (time_rule (may_tell_time (place_view spot.entry.place)) (spot_view spot.entry)) }
+    ensures exact { Answers typed_view result (time_rule (may_tell_time (context_view spot.entry.context)) (spot_view spot.entry)) }
 {
-    if spot.place.may_tell_time() {
+    if spot.context.may_tell_time() {
         meets(spot.wanted, spot.at, Expr::Time, Ty::Int)
     } else {
         Err(TypeError::TimeNotAllowed(spot.at))
@@ -61,7 +61,7 @@ pub fn check_time(spot: Spot<'_>) -> Result<Typed, TypeError>
 /// # Errors
 ///
 /// [`TypeError::Unknown`] where the name is not there or needs arguments, [`TypeError::NotClosed`] at a variable in a closed text,
-/// [`TypeError::Mismatch`] where its place wants another type; [`TypeError::Memory`].
+/// [`TypeError::Mismatch`] where its context wants another type; [`TypeError::Memory`].
 pub fn check_name(
     alloc: Global,
     decls: &Decls,
@@ -97,7 +97,7 @@ fn check_declared(
 {
     match meaning {
         Meaning::Variable { number, ty } => {
-            if spot.place.is_closed() {
+            if spot.context.is_closed() {
                 return Err(TypeError::NotClosed(String::from_str(alloc, name)?));
             }
             let ty = ty.copy()?;

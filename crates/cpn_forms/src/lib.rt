@@ -1,10 +1,11 @@
 //! The forms of an inscription of one value, each by itself: what it wants of its parts where these wait for a type, and what
-//! it is made of them, or why it is refused; with what names mean at their place, and the patterns of a `case`.
+//! it is made of them, or why it is refused; with what names mean where they stand, and the patterns of a `case`.
 //!
 //! The crate goes down no tree but that of a pattern: how the parts of a form are checked is not its matter.
 #![tactic(auto)]
 
 mod calls;
+mod contexts;
 mod forms;
 mod leaves;
 mod lookups;
@@ -12,7 +13,6 @@ mod made;
 mod misplaced;
 mod operators;
 mod patterns;
-mod places;
 mod scopes;
 mod typed;
 
@@ -20,6 +20,7 @@ pub use calls::{
     Called, constructed, find_called, first_wanted_by, function_called, item_of, operation_makes,
     others_wanted_by, parts_wanted, tuple_made,
 };
+pub use contexts::{Context, Side};
 pub use forms::{Arms, Branches, Items, Parts, Spot, copy_wanted, lent, meets};
 pub use leaves::{check_name, check_time, text_literal};
 pub use lookups::Predeclared;
@@ -29,6 +30,5 @@ pub use operators::{
     side_wanted, sides_make, waits,
 };
 pub use patterns::{TypedPattern, check_pattern};
-pub use places::{Place, Side};
 pub use scopes::{Local, is_local};
 pub use typed::Typed;

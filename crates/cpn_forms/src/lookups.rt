@@ -1,4 +1,4 @@
-//! What a name means at its place.
+//! What a name means where it stands.
 
 ghost use Rattle.std.specs.Prelude.{◌≡◌, option_map};
 ghost use Rattle.cpn_typing.specs.Names.{found, local_named, predeclared_named};
@@ -69,7 +69,7 @@ impl Predeclared {
     }
 }
 
-/// What a name means at its place.
+/// What a name means where it stands.
 #[derive(Clone, Copy)]
 pub(crate) enum Found<'s, 'd> {
     /// A local, by its number, with its type.
@@ -82,7 +82,7 @@ pub(crate) enum Found<'s, 'd> {
     Nothing,
 }
 
-/// What the name means among the locals of its place and the declarations.
+/// What the name means among the locals there and the declarations.
 pub(crate) fn find<'s, 'd>(name: &str, scope: &'s [Local<'_>], decls: &'d Decls) -> Found<'s, 'd>
     ensures exact { found_view result ≡ found name.now (scope_view scope.now) (decls_view decls.now) }
 {

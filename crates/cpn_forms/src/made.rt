@@ -115,7 +115,7 @@ pub fn nested(alloc: Global, values: Exprs, body: Typed) -> Result<Typed, TypeEr
 ///
 /// # Errors
 ///
-/// [`TypeError::Mismatch`] at the form, where its place wants another type; [`TypeError::Memory`].
+/// [`TypeError::Mismatch`] at the form, where its context wants another type; [`TypeError::Memory`].
 pub fn tupled(parts: Parts, spot: Spot<'_>) -> Result<Typed, TypeError>
     ensures exact { Answers typed_view result (meets_rule (wanted_view spot.entry.wanted) spot.entry.at (apply tupling (parts_view parts).exprs) (tuples (parts_view parts).types)) }
 {
@@ -127,7 +127,7 @@ pub fn tupled(parts: Parts, spot: Spot<'_>) -> Result<Typed, TypeError>
 ///
 /// # Errors
 ///
-/// [`TypeError::Mismatch`] at the form, where there is neither an item nor a wanted type (`[]` alone), or where its place wants another
+/// [`TypeError::Mismatch`] at the form, where there is neither an item nor a wanted type (`[]` alone), or where its context wants another
 /// type; [`TypeError::Memory`].
 pub fn listed(alloc: Global, items: Items, spot: Spot<'_>) -> Result<Typed, TypeError>
     ensures exact { Answers typed_view result (list_rule (spot_view spot.entry) (items_view items).item_type (items_view items).items) }

@@ -1,55 +1,58 @@
-//! What may not stand at a place.
+//! What may not stand in a context.
 
 ghost use Rattle.std.specs.Prelude.{◌≡◌, Some};
-ghost use Rattle.cpn_typing.specs.Places.{is_closed, may_tell_time, misplaced_delay, misplaced_stamp};
+ghost use Rattle.cpn_typing.specs.Contexts.{is_closed, may_tell_time, misplaced_delay, misplaced_stamp};
 ghost use Rattle.cpn_declared.specs.Answers.{refusal_of};
-ghost use Rattle.cpn_forms.specs.PlaceViews.{place_view};
+ghost use Rattle.cpn_forms.specs.ContextViews.{context_view};
 
-use crate::places::Place;
+use crate::contexts::Context;
 
-impl Place {
+impl Context {
     /// Whether a text here uses no variable.
     pub(crate) fn is_closed(self) -> bool
-        ensures exact { result ≡ is_closed (place_view self) }
+        ensures exact { result ≡ is_closed (context_view self) }
     {
         match self {
-            Place::Function | Place::Initial => true,
-            Place::Input | Place::Output | Place::Guard | Place::Delay | Place::Monitor => false,
+            Context::Function | Context::Initial => true,
+            Context::Input | Context::Output | Context::Guard | Context::Delay | Context::Monitor =>
+                false,
         }
     }
 
     /// Whether `time` may stand here.
     pub(crate) fn may_tell_time(self) -> bool
-        ensures exact { result ≡ may_tell_time (place_view self) }
+        ensures exact { result ≡ may_tell_time (context_view self) }
     {
         match self {
-            Place::Output | Place::Delay => true,
-            Place::Function | Place::Input | Place::Initial | Place::Guard | Place::Monitor =>
-                false,
+            Context::Output | Context::Delay => true,
+            Context::Function
+            | Context::Input
+            | Context::Initial
+            | Context::Guard
+            | Context::Monitor => false,
         }
     }
 
     /// Why `@+` may not stand here, by the offsets of the form's first token and of the sign.
     pub(crate) fn misplaced_delay(self, at: usize, sign: usize) -> TypeError
-        ensures exact { refusal_of result ≡ Some (misplaced_delay (place_view self) at sign) }
+        ensures exact { refusal_of result ≡ Some (misplaced_delay (context_view self) at sign) }
     {
         match self {
-            Place::Guard | Place::Delay | Place::Monitor => TypeError::TimeNotAllowed(sign),
-            Place::Function | Place::Input | Place::Output | Place::Initial => TypeError::Mismatch(
-                at,
-            ),
+            Context::Guard | Context::Delay | Context::Monitor => TypeError::TimeNotAllowed(sign),
+            Context::Function | Context::Input | Context::Output | Context::Initial =>
+                TypeError::Mismatch(at),
         }
     }
 
     /// Why `@` with a time stamp may not stand here, likewise.
     pub fn misplaced_stamp(self, at: usize, sign: usize) -> TypeError
-        ensures exact { refusal_of result ≡ Some (misplaced_stamp (place_view self) at sign) }
+        ensures exact { refusal_of result ≡ Some (misplaced_stamp (context_view self) at sign) }
     {
         match self {
-            Place::Function | Place::Guard | Place::Delay | Place::Monitor => {
+            Context::Function | Context::Guard | Context::Delay | Context::Monitor => {
                 TypeError::TimeNotAllowed(sign)
             }
-            Place::Input | Place::Output | Place::Initial => TypeError::Mismatch(at),
+            Context::Input | Context::Output | Context::Initial => TypeError::Mismatch(at),
         }
     }
 }

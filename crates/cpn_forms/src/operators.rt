@@ -278,8 +278,8 @@ fn applied(
 ///
 /// # Errors
 ///
-/// [`TypeError::Mismatch`] at the form, where the two types do not fit or its place wants another type, and at a backtick or `@+` as
-/// its place says; [`TypeError::Memory`].
+/// [`TypeError::Mismatch`] at the form, where the two types do not fit or its context wants another type, and at a backtick or `@+` as
+/// its context says; [`TypeError::Memory`].
 pub fn sides_make(
     alloc: Global,
     operator: Infix,
@@ -323,7 +323,7 @@ pub fn sides_make(
             applied(alloc, Op::Cons, left, right, list, spot)
         }
         Infix::Append => applied(alloc, Op::Append, left, right, last, spot),
-        Infix::Later => Err(spot.place.misplaced_delay(spot.at, sign)),
+        Infix::Later => Err(spot.context.misplaced_delay(spot.at, sign)),
         Infix::Times => Err(TypeError::Mismatch(spot.at)),
     }
 }
@@ -389,7 +389,7 @@ fn part_at(parts: &[Ty], number: usize) -> Option<&Ty>
 ///
 /// # Errors
 ///
-/// [`TypeError::Mismatch`] at the operand, where it has not the component, or at the form, where its place wants another type;
+/// [`TypeError::Mismatch`] at the operand, where it has not the component, or at the form, where its context wants another type;
 /// [`TypeError::Memory`].
 pub fn operand_makes(
     alloc: Global,

@@ -40,7 +40,7 @@ pub(crate) struct Taken<'d> {
     pub(crate) argument: &'d Ty,
 }
 
-/// The typed pattern of a tree among the locals of its place, against the type of what it has to match.
+/// The typed pattern of a tree among the locals there, against the type of what it has to match.
 ///
 /// # Errors
 ///
@@ -333,7 +333,7 @@ fn bind_tuple<'t>(
     }
 }
 
-/// The parts against types by place; where there are too many or too few, the whole is refused.
+/// The parts, each against its own type; where there are too many or too few, the whole is refused.
 #[cycle(bind)]
 fn bind_parts<'t>(
     alloc: Global,

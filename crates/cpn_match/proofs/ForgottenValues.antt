@@ -6,9 +6,9 @@ use Rattle.cpn_core.specs.declared.values.Value.{Value}
 use Rattle.cpn_stages.specs.Partial.{PlainPartial, IsKept, Extends}
 use Rattle.cpn_match.specs.declared.partials.PartialPair.{PartialPair}
 use Rattle.cpn_match.specs.Pairs.{option_view, pair_view, pairs_view}
-use Rattle.cpn_match.specs.Places.{known_in, forgotten}
+use Rattle.cpn_match.specs.Indices.{known_in, forgotten}
 
--- the pairs up to a place as they are, and the others without what is not known
+-- the pairs up to an index as they are, and the others without what is not known
 abbrev pub so_far : List Bool → List PartialPair → ℕ → PlainPartial
 so_far known pairs i = pairs_view (take i pairs) ++ forgotten (drop i known) (pairs_view (drop i pairs))
 

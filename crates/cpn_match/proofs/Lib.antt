@@ -1,4 +1,4 @@
-mod PairPlaces
+mod PairIndices
 mod Rows
 mod ForgottenValues
 mod Matched

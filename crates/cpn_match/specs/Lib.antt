@@ -1,4 +1,4 @@
 pub mod PartialCode
 pub mod Pairs
-pub mod Places
+pub mod Indices
 pub mod Answers

@@ -6,7 +6,7 @@ ghost use Rattle.cpn_core.specs.Views.{value_view, values_view};
 ghost use Rattle.cpn_match.specs.Pairs.{option_view, pair_view, pairs_view};
 ghost use Rattle.cpn_stages.specs.Partial.{IsKept, Extends, unbound, bound_in};
 ghost use Rattle.cpn_stages.specs.Fitting.{agreed, held};
-ghost use Rattle.cpn_match.specs.Places.{place_in, known_in, forgotten};
+ghost use Rattle.cpn_match.specs.Indices.{index_among, known_in, forgotten};
 ghost use Rattle.cpn_match.specs.Answers.{Becomes, BecomesIf};
 
 use cpn_core::{Binding, Memory, Value};
@@ -77,14 +77,14 @@ fn keep_if(slot: &mut Option<Value>, known: bool)
     }
 }
 
-/// The place of the variable among the pairs, from 0.
-fn place_of(pairs: &[PartialPair], variable: u32) -> Option<usize>
-    ensures place { result ≡ place_in variable (pairs_view pairs.now) }
-    ensures within { IfSome result (λ place. place < length pairs.now) }
+/// The index of the variable among the pairs, from 0.
+fn index_of(pairs: &[PartialPair], variable: u32) -> Option<usize>
+    ensures index { result ≡ index_among variable (pairs_view pairs.now) }
+    ensures within { IfSome result (λ index. index < length pairs.now) }
 {
-    for place in 0..pairs.len() {
-        if variable == pairs[place].variable {
-            return Some(place);
+    for index in 0..pairs.len() {
+        if variable == pairs[index].variable {
+            return Some(index);
         }
     }
     None
@@ -128,9 +128,9 @@ impl Partial {
     pub fn forget(&mut self, known: &[bool])
         ensures forgotten { self.new ≡ forgotten known.now self.old }
     {
-        for place in 0..self.pairs.len().min(known.len()) {
-            let pair = &mut self.pairs[place];
-            keep_if(&mut pair.value, known[place]);
+        for index in 0..self.pairs.len().min(known.len()) {
+            let pair = &mut self.pairs[index];
+            keep_if(&mut pair.value, known[index]);
         }
     }
 
@@ -143,30 +143,30 @@ impl Partial {
 
     /// Binds the variable to a copy of the value, if it is one of the partial binding's and not bound; whether it is bound to
     /// the value then. After `Memory` nothing has changed.
-    #[tactic(auto, using(crate::proofs::PairPlaces::held_nowhere, crate::proofs::PairPlaces::held_there, crate::proofs::PairPlaces::kept_there, cpn_stages::proofs::Partials::extends_itself))]
+    #[tactic(auto, using(crate::proofs::PairIndices::held_nowhere, crate::proofs::PairIndices::held_there, crate::proofs::PairIndices::kept_there, cpn_stages::proofs::Partials::extends_itself))]
     pub fn hold(&mut self, variable: u32, value: &Value) -> Result<bool, Memory>
         ensures held { Becomes result self.new (held variable (value_view value.now) self.old) }
         ensures extends { Extends self.old self.new }
     {
-        match place_of(&self.pairs, variable) {
+        match index_of(&self.pairs, variable) {
             None => Ok(false),
-            Some(place) => {
-                let pair = &mut self.pairs[place];
+            Some(index) => {
+                let pair = &mut self.pairs[index];
                 agree(&mut pair.value, value)
             }
         }
     }
 
     /// The same with a value of its own, which it takes.
-    #[tactic(auto, using(crate::proofs::PairPlaces::held_nowhere, crate::proofs::PairPlaces::held_there_if, crate::proofs::PairPlaces::kept_there, cpn_stages::proofs::Partials::extends_itself))]
+    #[tactic(auto, using(crate::proofs::PairIndices::held_nowhere, crate::proofs::PairIndices::held_there_if, crate::proofs::PairIndices::kept_there, cpn_stages::proofs::Partials::extends_itself))]
     pub fn hold_own(&mut self, variable: u32, value: Value) -> bool
         ensures held { BecomesIf result self.new (held variable (value_view value) self.old) }
         ensures extends { Extends self.old self.new }
     {
-        match place_of(&self.pairs, variable) {
+        match index_of(&self.pairs, variable) {
             None => false,
-            Some(place) => {
-                let pair = &mut self.pairs[place];
+            Some(index) => {
+                let pair = &mut self.pairs[index];
                 agree_with(&mut pair.value, value)
             }
         }

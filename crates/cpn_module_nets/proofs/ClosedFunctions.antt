@@ -7,7 +7,7 @@ use Rattle.cpn_trees.specs.Trees.{PlainAst}
 use Rattle.cpn_trees.specs.DeclTrees.{PlainDecl, decl, PlainDeclForm, colour_set, variables, value, function}
 use Rattle.cpn_typing.specs.Types.{PlainTy}
 use Rattle.cpn_typing.specs.Names.{Declared, nothing_declared, Scope, ok}
-use Rattle.cpn_typing.specs.Places.{in_function}
+use Rattle.cpn_typing.specs.Contexts.{in_function}
 use Rattle.cpn_typing.specs.Rules.{Typed}
 use Rattle.cpn_typing.specs.Expressions.{typed}
 use Rattle.cpn_typing.specs.ColourSets.{with_new, with_all_new, colour_names, other_names, limited, shape_of_body, with_colour}

@@ -36,14 +36,14 @@ use Rattle.cpn_module_nets.proofs.ListFacts.{all_below}
 
 -- ---- the arcs that an arc of the document stands for
 
-abbrev on_side : Option PlainArc → ℕ
+abbrev pub on_side : Option PlainArc → ℕ
 on_side None = 0
 on_side (Some arc) = 1
 
 -- as many as its way counts, at most, and all at what the arc joins
-record AreCounted (ends : PlainEnds) (sides : Sides) : Type 0 where
-  node : sides.node ≡ ends.node
-  many : on_side sides.input + on_side sides.output ≤ arcs_on ends.way
+pub record AreCounted (ends : PlainEnds) (sides : Sides) : Type 0 where
+  pub node : sides.node ≡ ends.node
+  pub many : on_side sides.input + on_side sides.output ≤ arcs_on ends.way
 
 module _ (ds : Declared) (colour : PlainColour) (pointer : Pointer) (ends : PlainEnds) (tree : PlainAst) where
   abbrev AreOn : Way → Sides → Type 0
@@ -95,7 +95,7 @@ module _ (ds : Declared) (places : List Coloured) (m : ℕ) (s : PlainStructure)
       no_more : (a : ℕ) → a ≡ a + 0
       no_more a = omega arith
 
-  arcs_counted : (texts : List (Parsing PlainAst)) (sides : List Sides) → length texts ≡ length s.arcs → each_from (arc_of ds places m s) 0 texts ≡ read sides → EachIs AreCounted s.arcs sides
+  pub arcs_counted : (texts : List (Parsing PlainAst)) (sides : List Sides) → length texts ≡ length s.arcs → each_from (arc_of ds places m s) 0 texts ≡ read sides → EachIs AreCounted s.arcs sides
   arcs_counted texts sides long h = counted_from 0 texts sides s.arcs (λ k. ap (ends_at s) (zero-add k)) long h
 
 first_many : (o : Option PlainArc) (arcs : List PlainArc) → length (with_first o arcs) ≡ on_side o + length arcs

@@ -35,6 +35,11 @@ joined_twice t [] arcs more = refl
 joined_twice t (x ∷ xs) arcs more =
     rw (inputs_more t arcs more, outputs_more t arcs more, ← (append_assoc x.inputs (inputs_of t arcs) (inputs_of t more)), ← (append_assoc x.outputs (outputs_of t arcs) (outputs_of t more)), joined_twice (suc t) xs arcs more) refl
 
+-- there are as many transitions as before
+pub joined_long : (t : ℕ) (xs : List PlainTransition) (arcs : List Sides) → length (joined_from t xs arcs) ≡ length xs
+joined_long t [] arcs = refl
+joined_long t (x ∷ xs) arcs = ap suc (joined_long (suc t) xs arcs)
+
 -- no arc
 pub joined_nothing : (t : ℕ) (xs : List PlainTransition) → joined_from t xs [] ≡ xs
 joined_nothing t [] = refl
@@ -57,11 +62,6 @@ module _ (arc : Sides) where
         by : (b : Bool) → (t == number) ≡ b → (t == number) ≡ false
         by true e = absurd (differs (eqb-true t number e))
         by false e = e
-
-    -- an arc of none of the transitions
-    pub joined_past : (t : ℕ) (xs : List PlainTransition) → t + length xs ≤ number → joined_from t xs (arc ∷ []) ≡ xs
-    joined_past t [] high = refl
-    joined_past t (x ∷ xs) high = skipped t x xs xs (not_at t (λ e. omega arith)) (joined_past (suc t) xs (omega arith))
 
     -- an arc of a transition before all of these
     joined_before : (t : ℕ) (xs : List PlainTransition) → number < t → joined_from t xs (arc ∷ []) ≡ xs
@@ -90,7 +90,3 @@ module _ (transitions : List Transition) (arc : Sides) (number : ℕ) (is : arc.
       map-set transition_view transitions number new
       ∙ ap (λ x. set (map transition_view transitions) number x) (h ∙ ap (λ x. joined_with (transition_view x) arc) at ∙ ap (λ x. joined_with x arc) (sym (get_or-map transition_view transitions number before no_transition lt)))
       ∙ sym (joined_at arc number is 0 number (map transition_view transitions) no_transition (omega arith) (simp length-map lt))
-
-  -- an arc of none of them
-  pub joined_none : length transitions ≤ number → map transition_view transitions ≡ joined_from 0 (map transition_view transitions) (arc ∷ [])
-  joined_none past = sym (joined_past arc number is 0 (map transition_view transitions) (simp length-map (omega arith)))

@@ -17,6 +17,7 @@ mod OneReading
 mod ClosedFunctions
 mod NamedNets
 mod FewArcs
+mod ArcNodes
 mod SoundNets
 mod KeptRules
 mod JoinedColours

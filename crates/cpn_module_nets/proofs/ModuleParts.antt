@@ -8,8 +8,8 @@ use Rattle.cpn_definitions.specs.Net.{Coloured}
 use Rattle.cpn_document.specs.Document.{RawPlace, RawModule, RawDocument}
 use Rattle.cpn_module.specs.Hierarchy.{PlainEnds, PlainStructure, PlainHierarchy, no_structure, structure_at}
 use Rattle.cpn_module.specs.Named.{no_module, ends_in, structure_in, hierarchy_in}
-use Rattle.cpn_module.specs.Ranges.{AreEnds, HasItsNumbers}
-use Rattle.cpn_module_trees.specs.Trees.{DocumentTrees, ArePlaceTrees, IsArcTree, AreModuleTrees, AreTrees}
+use Rattle.cpn_module.specs.Ranges.{IsNode, AreEnds, HasItsNumbers}
+use Rattle.cpn_module_trees.specs.Trees.{DocumentTrees, ArePlaceTrees, AreTransitionTrees, IsArcTree, AreModuleTrees, AreTrees}
 use Rattle.cpn_readings.specs.ItemByItem.{EachIs}
 use Rattle.cpn_typing.specs.Names.{Declared}
 use Rattle.cpn_module_nets.specs.Reading.{read, each_from}
@@ -80,8 +80,10 @@ module _ (ds : Declared) (d : RawDocument) (trees : DocumentTrees) (are : AreTre
         let arcs : length s.arcs ≡ length raw.arcs = ap (λ (x : PlainStructure). length x.arcs) is ∙ length-map raw.arcs (ends_in raw) in
         record {
           as_many_places = many;
+          as_many_transitions = each_is_long AreTransitionTrees raw.transitions (trees_at trees.modules m).transitions tree.transitions ∙ sym (ap (λ (x : PlainStructure). x.transitions) is);
           as_many_arcs = texts ∙ sym arcs;
           at_places = subst (λ n. AllByRecursion (λ (e : PlainEnds). e.place < n) s.arcs) (ports ∙ sym written ∙ sym many) (all_recursive (λ (e : PlainEnds). e.place < length s.ports) s.arcs (λ i e below. (ends i e below).place));
+          at_nodes = all_recursive (λ (e : PlainEnds). IsNode s e.node) s.arcs (λ i e below. (ends i e below).node);
         }
 
     -- They go together, whatever the module.

@@ -7,7 +7,7 @@ ghost use Rattle.cpn_core.specs.Nets.{arc_view, place_view as net_place_view};
 ghost use Rattle.cpn_trees.specs.ParsedViews.{inscription_view};
 ghost use Rattle.cpn_declared.specs.DeclsViews.{decls_view};
 ghost use Rattle.cpn_document.specs.declared.document.Way.TheVariants.{Both};
-ghost use Rattle.cpn_forms.specs.PlaceViews.{side_view};
+ghost use Rattle.cpn_forms.specs.ContextViews.{side_view};
 ghost use Rattle.cpn_module.specs.Views.{ends_view, structure_view};
 ghost use Rattle.cpn_module_trees.specs.TreesViews.{tree_view};
 ghost use Rattle.cpn_module_nets.specs.Reading.{each_from};

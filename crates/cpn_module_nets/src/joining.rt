@@ -1,11 +1,12 @@
 //! The arcs of the net, joined to their transitions, and the variables of each transition.
 
-ghost use Rattle.std.specs.Prelude.{◌≡◌, [], ◌∷◌, ◌++◌, map, option_map, IfOk};
+ghost use Rattle.std.specs.Prelude.{◌≡◌, ◌<◌, [], ◌∷◌, ◌++◌, length, map, option_map, IfOk};
+ghost use Rattle.std.specs.List.{AllByRecursion};
 ghost use Rattle.cpn_core.specs.Nets.{arc_view, arcs_view, transition_view};
 ghost use Rattle.cpn_module.specs.declared.hierarchy.Node.TheVariants.{Transition as of_transition};
 ghost use Rattle.cpn_module_nets.specs.Accepted.{with_first, joined_from};
 ghost use Rattle.cpn_module_nets.specs.AcceptedViews.{sides_view, sides_views};
-ghost use Rattle.cpn_module_nets.specs.Joining.{joined_with};
+ghost use Rattle.cpn_module_nets.specs.Joining.{IsAtOneOf, joined_with};
 ghost use Rattle.cpn_module_nets.specs.Transitions.{IsCompleted};
 ghost use Rattle.cpn_readings.specs.ItemByItem.{EachIs};
 
@@ -37,22 +38,19 @@ fn join(transition: &mut Transition, arc: Sides) -> Result<(), AllocError>
     inputs.and(outputs)
 }
 
-/// Joins the arcs that an arc of the document stands for to the transition of a number, where there is one.
+/// Joins the arcs that an arc of the document stands for to the transition of a number.
 fn join_to(transitions: &mut Vec<Transition>, number: usize, arc: Sides) -> Result<(), AllocError>
+    requires there { number < length transitions.old.items }
     requires at_transition { arc.node ≡ of_transition number }
     ensures joined { IfOk result (λ _. map transition_view transitions.new.items ≡ joined_from 0 (map transition_view transitions.old.items) (sides_view arc ∷ [])) }
 {
-    match transitions.get_mut(number) {
-        Some(transition) => join(transition, arc),
-        None => {
-            drop(arc);
-            Ok(())
-        }
-    }
+    let transition = &mut transitions[number];
+    join(transition, arc)
 }
 
 /// Joins the arcs that an arc of the document stands for to their transition among these.
 fn join_among(transitions: &mut Vec<Transition>, arc: Sides) -> Result<(), AllocError>
+    requires there { IsAtOneOf (length transitions.old.items) arc.node }
     ensures joined { IfOk result (λ _. map transition_view transitions.new.items ≡ joined_from 0 (map transition_view transitions.old.items) (sides_view arc ∷ [])) }
 {
     match arc.node {
@@ -69,6 +67,7 @@ pub(crate) fn join_arcs(
     transitions: &mut Vec<Transition>,
     arcs: Vec<Sides>,
 ) -> Result<(), AllocError>
+    requires there { AllByRecursion (λ arc. IsAtOneOf (length transitions.old.items) arc.node) (sides_views arcs.items) }
     ensures joined { IfOk result (λ _. map transition_view transitions.new.items ≡ joined_from 0 (map transition_view transitions.old.items) (sides_views arcs.items)) }
 {
     for arc in arcs {

@@ -17,7 +17,7 @@ use Rattle.cpn_module_trees.specs.Parsing.{lexical, syntactic, Parsing, parsed, 
 
 -- ---- where a list is divided
 
--- two ways to divide a list at an item: at the same place, or one before the other
+-- two ways to divide a list at an item: at the same index, or one before the other
 data Divided (before other : Text) (t u : PlainToken) : Type 0 where
   same : t ≡ u → Divided before other t u
   earlier : (between : Text) → other ≡ before ++ t ∷ between → Divided before other t u
@@ -64,7 +64,7 @@ module _ {Tree : Type 0} (Spelled : Tree → Text → Type 0) (levels : Tree →
   pub one_refusal : (tokens : Text) (e f : SyntaxError) → e ≢ Memory → f ≢ Memory → Refuses Spelled levels tokens e → Refuses Spelled levels tokens f → e ≡ f
   one_refusal tokens Memory f p q h k = absurd (p refl)
   one_refusal tokens e Memory p q h k = absurd (q refl)
-  one_refusal tokens (Unexpected at) (Unexpected place) p q (before, t, after, split, is, can, cannot) (other, u, behind, divide, is_too, can_too, cannot_too) =
+  one_refusal tokens (Unexpected at) (Unexpected other_at) p q (before, t, after, split, is, can, cannot) (other, u, behind, divide, is_too, can_too, cannot_too) =
       let token : t ≡ u = one_stop before other after behind t u (sym split ∙ divide) can cannot can_too cannot_too in
       ap Unexpected (is ∙ ap (λ (x : PlainToken). x.at) token ∙ sym is_too)
   one_refusal tokens (Unexpected at) EndOfText p q h k = absurd (stopped tokens at h k.0)

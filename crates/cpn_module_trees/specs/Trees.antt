@@ -50,7 +50,7 @@ pub record AreModuleTrees (written : RawModule) (of_module : ModuleTrees) : Type
   pub transitions : EachIs AreTransitionTrees written.transitions of_module.transitions
   pub arcs : EachIs IsArcTree written.arcs of_module.arcs
 
--- Each text of the document is parsed as what stands in its place.
+-- Each text of the document is parsed as the tree, or the refusal, that stands for it.
 pub record AreTrees (written : RawDocument) (document : DocumentTrees) : Type 0 where
   pub declarations : EachIs IsDeclaration written.declarations document.declarations
   pub modules : EachIs AreModuleTrees written.modules document.modules

@@ -54,7 +54,7 @@ fn spelled<T>(tree: Result<T, SyntaxError>) -> Result<Parsing<T>, Memory>
 ///
 /// # Errors
 ///
-/// Memory is wanted. A text that is refused is an answer: the place and the reason ([`Parsing`]).
+/// Memory is wanted. A text that is refused is an answer: the offset and the reason ([`Parsing`]).
 pub fn declaration_in(alloc: Global, text: &str) -> Result<Parsing<Declaration>, Memory>
     ensures parsed { IfOk result (λ parsing. IsDeclaration text.now (parsing_view declaration_view parsing)) }
 {
@@ -68,7 +68,7 @@ pub fn declaration_in(alloc: Global, text: &str) -> Result<Parsing<Declaration>,
 ///
 /// # Errors
 ///
-/// Memory is wanted. A text that is refused is an answer: the place and the reason ([`Parsing`]).
+/// Memory is wanted. A text that is refused is an answer: the offset and the reason ([`Parsing`]).
 pub fn inscription_in(alloc: Global, text: &str) -> Result<Parsing<Inscription>, Memory>
     ensures parsed { IfOk result (λ parsing. IsInscription text.now (parsing_view inscription_view parsing)) }
 {
@@ -82,7 +82,7 @@ pub fn inscription_in(alloc: Global, text: &str) -> Result<Parsing<Inscription>,
 ///
 /// # Errors
 ///
-/// Memory is wanted. A text that is refused is an answer: the place and the reason ([`Parsing`]).
+/// Memory is wanted. A text that is refused is an answer: the offset and the reason ([`Parsing`]).
 pub fn guard_in(alloc: Global, text: &str) -> Result<Parsing<Guard>, Memory>
     ensures parsed { IfOk result (λ parsing. IsGuard text.now (parsing_view guard_view parsing)) }
 {
@@ -96,7 +96,7 @@ pub fn guard_in(alloc: Global, text: &str) -> Result<Parsing<Guard>, Memory>
 ///
 /// # Errors
 ///
-/// Memory is wanted. A text that is refused is an answer: the place and the reason ([`Parsing`]).
+/// Memory is wanted. A text that is refused is an answer: the offset and the reason ([`Parsing`]).
 pub fn delay_in(alloc: Global, text: &str) -> Result<Parsing<Inscription>, Memory>
     ensures parsed { IfOk result (λ parsing. IsDelay text.now (parsing_view inscription_view parsing)) }
 {

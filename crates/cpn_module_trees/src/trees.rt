@@ -199,7 +199,7 @@ fn modules_trees(alloc: Global, modules: &[Module]) -> Result<Vec<ModuleTrees<'_
 ///
 /// # Errors
 ///
-/// [`Memory`]: memory ran out. A text that has no tree is no error: why it has none stands in its place.
+/// [`Memory`]: memory ran out. A text that has no tree is no error: why it has none stands there instead.
 pub fn document_trees(alloc: Global, document: &Document) -> Result<DocumentTrees<'_>, Memory>
     ensures parsed { IfOk result (λ trees. AreTrees (document_view document.now) (document_trees_view trees)) }
 {

@@ -4,7 +4,7 @@ use Rattle.std.specs.List.{AllByRecursion}
 use Rattle.cpn_readings.specs.Reading.{Reading, read, refused, ◌>>=◌, check, each}
 
 module _ {R : Type 0} where
-  -- a value that was read, or another one in place of a refusal
+  -- a value that was read, or another one instead of a refusal
   abbrev value_or : {A : Type 0} → A → Reading R A → A
   value_or x (read y) = y
   value_or x (refused refusal) = x

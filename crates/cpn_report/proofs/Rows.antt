@@ -1,4 +1,4 @@
--- Worked lines of a report, each with another number in each of its places; among them those of times, stamps and faults, which no
+-- Worked lines of a report, each with a different number at each position; among them those of times, stamps and faults, which no
 -- run has yet.
 use Rattle.std.proofs.Common.{◌≡◌, ℕ, pos, negsuc, Bool, true, false, [], ◌∷◌, Some, None, refl, arith}
 use Rattle.std.proofs.lemmas.Fmt.{decimal_digit}

@@ -17,8 +17,9 @@ most_at_start = 2 ^ 47
 abbrev pub most_after : ℕ → ℕ
 most_after claims = most_at_start + claims * most_made
 
--- Grown: what so many occurrences leave of a marking of places. It is a marking of the places; on each it has at most so many tokens more
--- as these occurrences make; and where no token had a later stamp than the latest, none has.
+-- Grown: a marking within the bounds of what so many occurrences leave of another. Where that one is a marking of the places, so is this
+-- one; where it has at most so many tokens on each place, this one has at most as many more as the occurrences may make; and where none of its
+-- tokens is later than the last stamp, none of this one's is.
 pub record HasGrown (places : List Coloured) (start : Marking) (occurrences : ℕ) (m : Marking) : Type 0 where
   pub marking : IsMarking places start → IsMarking places m
   pub few : (number : ℕ) → IsBounded number start → IsBounded (number + occurrences * most_made) m

@@ -5,7 +5,7 @@ use Rattle.cpn_lex.specs.Token.{PlainToken}
 use Rattle.cpn_lex.specs.declared.symbols.Symbol.TheVariants as sign
 use Rattle.cpn_trees.specs.declared.operators.Infix.{Infix}
 use Rattle.cpn_trees.specs.declared.operators.Infix.TheVariants as op
-use Rattle.cpn_syntax.specs.Texts.{Text, Is, IsName, place}
+use Rattle.cpn_syntax.specs.Texts.{Text, Is, IsName, offset_of}
 use Rattle.cpn_syntax.specs.Patterns.{SpellsPat}
 use Rattle.cpn_trees.specs.Trees.{PlainPat, PlainAst, ast, sum, case_of, PlainAsts, no_ast, more_asts, PlainArms, more_arms, PlainLocals, no_local, more_locals}
 use Rattle.cpn_syntax.specs.Inscriptions.{precedence, left, Spells, if_line, case_line, fold_line, sum_line, stamp_line, infix_line, not_line, negate_line, component_line, number_line, text_line, true_line, false_line, empty_line, time_line, name_line, call_line, unit_line, group_line, tuple_line, no_items_line, items_line, let_line, SpellsParts, last_part, next_part, SpellsTerms, last_term, next_term, SpellsArms, last_arm, next_arm, SpellsLocals, last_local, next_local}
@@ -47,11 +47,11 @@ has_up le (done.all_read closes) = done.all_read closes
 -- ---- a text that spells something is not empty
 
 -- so it begins where it does with any text behind it
-pub place_front : {l : ℕ} {a : PlainAst} {u : Text} → Spells l a u → (v : Text) → place (u ++ v) ≡ place u
-place_front (sum_line u v l first more) w = rw append_assoc (place_front first (v ++ w) ∙ sym (place_front first v))
-place_front (stamp_line t n u l first is num) w = rw append_assoc (place_front first (t ∷ n ∷ w) ∙ sym (place_front first (t ∷ n ∷ [])))
-place_front (infix_line t u v o l first is second) w = rw append_assoc (place_front first (t ∷ v ++ w) ∙ sym (place_front first (t ∷ v)))
-place_front _ w = refl
+pub offset_front : {l : ℕ} {a : PlainAst} {u : Text} → Spells l a u → (v : Text) → offset_of (u ++ v) ≡ offset_of u
+offset_front (sum_line u v l first more) w = rw append_assoc (offset_front first (v ++ w) ∙ sym (offset_front first v))
+offset_front (stamp_line t n u l first is num) w = rw append_assoc (offset_front first (t ∷ n ∷ w) ∙ sym (offset_front first (t ∷ n ∷ [])))
+offset_front (infix_line t u v o l first is second) w = rw append_assoc (offset_front first (t ∷ v ++ w) ∙ sym (offset_front first (t ∷ v)))
+offset_front _ w = refl
 
 -- ---- parts one after the other
 
@@ -111,7 +111,7 @@ three_parts u v w x = append_assoc (u ++ v) w x ∙ append_assoc u v (w ++ x)
 -- ---- a part completes the forms that want it
 
 mutual
-  pub complete : {close : Closing} {l : ℕ} {a : PlainAst} {u : Text} → Spells l a u → {st : Opens} {b : PlainAst} {w : Text} → wants st ≤ l → Has close (place u) l a st b w → Wants close st b (u ++ w)
+  pub complete : {close : Closing} {l : ℕ} {a : PlainAst} {u : Text} → Spells l a u → {st : Opens} {b : PlainAst} {w : Text} → wants st ≤ l → Has close (offset_of u) l a st b w → Wants close st b (u ++ w)
   complete (if_line t1 t2 t3 u v w l is1 c is2 a is3 b) {w = x} le has =
       done.begin_if t1 (omega arith) is1 (rw (three_parts u (t2 ∷ v) (t3 ∷ w) x) (complete c (omega arith)
       (done.then_word t2 is2 (complete a (omega arith) (done.else_word t3 is3 (complete b (omega arith) (done.end_if (has_up (omega arith) has))))))))
@@ -121,12 +121,12 @@ mutual
       done.begin_fold t1 n1 t2 n2 t3 (omega arith) is1 item is2 total is3 (rw (three_parts u (t4 ∷ v) (t5 ∷ w) x) (complete a (omega arith)
       (done.from_word t4 is4 (complete s (omega arith) (done.do_word t5 is5 (complete b (omega arith) (done.end_fold (has_up (omega arith) has))))))))
   complete (sum_line u v l first more) {w = x} le has =
-      rw (append_assoc u v x) (complete first (omega arith) (first_term (omega arith) (complete_terms more (has_up l (rw (place_front first v) at has)))))
+      rw (append_assoc u v x) (complete first (omega arith) (first_term (omega arith) (complete_terms more (has_up l (rw (offset_front first v) at has)))))
   complete (stamp_line t n u l first is num) {w = x} le has =
-      rw (append_assoc u (t ∷ n ∷ []) x) (complete first (omega arith) (done.stamp t n (omega arith) (omega arith) is num (has_up l (rw (place_front first (t ∷ n ∷ [])) at has))))
+      rw (append_assoc u (t ∷ n ∷ []) x) (complete first (omega arith) (done.stamp t n (omega arith) (omega arith) is num (has_up l (rw (offset_front first (t ∷ n ∷ [])) at has))))
   complete (infix_line t u v o l first is second) {w = x} le has =
       rw (append_assoc u (t ∷ v) x) (complete first (omega (arith, tight_left o)) (done.go_on o t (omega arith) (omega arith) is
-      (complete second (omega arith) (done.end_operand (omega arith) (has_up l (rw (place_front first (t ∷ v)) at has))))))
+      (complete second (omega arith) (done.end_operand (omega arith) (has_up l (rw (offset_front first (t ∷ v)) at has))))))
   complete (not_line t u l is a) le has = done.begin_not t is (complete a (omega arith) (done.end_prefix (omega arith) (has_up l has)))
   complete (negate_line t u l is a) le has = done.begin_negate t is (complete a (omega arith) (done.end_prefix (omega arith) (has_up l has)))
   complete (component_line t n u l is num a) le has = done.begin_component t n is num (complete a (omega arith) (done.end_prefix (omega arith) (has_up l has)))
@@ -187,9 +187,9 @@ mutual
       → ((at : ℕ) (c : PlainAst) (parts : List PlainAst) (t : PlainToken) (w' : Text) → Is sign.Comma t → Wants close (bracket (parts ++ c ∷ []) ∷ st) b w' → Has close at 0 c (bracket parts ∷ st) b (t ∷ w'))
       → ((at : ℕ) (c : PlainAst) (parts : List PlainAst) → after_asts parts (more_asts c no_ast) ≡ rest → Has close at 0 c (bracket parts ∷ st) b w)
       → Wants close (bracket [] ∷ st) b (v ++ w)
-  complete_parts (last_part {a = a} u last) bracket any comma finish = complete last (any []) (finish (place u) a [] refl)
+  complete_parts (last_part {a = a} u last) bracket any comma finish = complete last (any []) (finish (offset_of u) a [] refl)
   complete_parts (next_part t {a = a} u v first is more) bracket any {w = x} comma finish =
-      rw (append_assoc u (t ∷ v) x) (complete first (any []) (comma (place u) a [] t (v ++ x) is
+      rw (append_assoc u (t ∷ v) x) (complete first (any []) (comma (offset_of u) a [] t (v ++ x) is
       (complete_parts more (λ parts. bracket (a ∷ parts)) (λ parts. any (a ∷ parts)) (λ at c parts. comma at c (a ∷ parts)) (λ at c parts e. finish at c (a ∷ parts) (ap (more_asts a) e)))))
 
 -- a text of the grammar, with what stands behind it

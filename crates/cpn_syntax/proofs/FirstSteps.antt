@@ -29,7 +29,7 @@ breaks s rest none = record {
   used = [];
   rest = rest;
   split = refl;
-  place_is = refl;
+  fault_is = refl;
   viable = λ before read. rw (append-nil before) (viable s before read);
   none = none;
 }
@@ -37,7 +37,7 @@ breaks s rest none = record {
 -- the same behind tokens that are the beginning of a whole text
 pub breaks_behind : {s : State} (rest used : Text) → ((before : Text) → Read s before → (w : Text) × IsInscription (before ++ used ++ w))
     → ((r : Closing × PlainAst) (w : Text) → Agrees rest w → Takes s r (used ++ w) → ⊥) → BreaksOff s (used ++ rest) (fault_at rest)
-breaks_behind rest used whole none = record { used = used; rest = rest; split = refl; place_is = refl; viable = whole; none = none }
+breaks_behind rest used whole none = record { used = used; rest = rest; split = refl; fault_is = refl; viable = whole; none = none }
 
 -- a text that looks as the rest does begins with a symbol only where the rest does
 pub same_start : (symbol : Symbol) (rest w : Text) → Agrees rest w → StartsWith symbol w → Begins (Is symbol) rest

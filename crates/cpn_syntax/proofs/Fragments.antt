@@ -63,7 +63,7 @@ module _ {A : Type 0} {Ends : Text → Type 0} where
     used = x.used ++ y.used;
     rest = y.rest;
     split = x.split ∙ ap (λ z. x.used ++ z) y.split ∙ sym (append_assoc x.used y.used y.rest);
-    place_is = y.place_is;
+    fault_is = y.fault_is;
     viable = let w = y.viable in (w.0, w.1, rw append_assoc (x.reads w.0 (y.used ++ w.1) w.2));
     none = λ a v w agrees f. y.none a v w agrees (x.only a v (y.used ++ w) (agrees_further mid y.used y.rest w y.split agrees) (rw (← append_assoc x.used y.used w) f));
   }
@@ -102,7 +102,7 @@ module _ {A B : Type 0} {P : A → Text → Type 0} {Rest : A → B → Text →
     used = x.used;
     rest = x.rest;
     split = x.split;
-    place_is = x.place_is;
+    fault_is = x.fault_is;
     viable = let p = x.viable in let r = can p.0 in (r.0, p.1 ++ r.1, rw (← append_assoc x.used p.1 r.1) (next (x.used ++ p.1) r.1 p.2 r.2));
     none = λ b v w agrees f. let s = behind follow f in x.none s.0 (s.1 ++ v) w agrees s.2;
   }
@@ -132,7 +132,7 @@ module _ {A : Type 0} {Fits : A → PlainToken → Type 0} {Ends : Text → Type
     used = [];
     rest = from;
     split = refl;
-    place_is = is;
+    fault_is = is;
     viable = (a, t ∷ [], one t fits);
     none = λ b v w agrees f. none from w agrees b f refused;
   } where
@@ -189,7 +189,7 @@ halts_at_once from can refused = record {
   used = [];
   rest = from;
   split = refl;
-  place_is = refl;
+  fault_is = refl;
   viable = can;
   none = λ a v w agrees f. let s = split_front f in refused a s.0 v s.2 (rw s.1 at agrees);
 }

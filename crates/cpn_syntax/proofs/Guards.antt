@@ -99,7 +99,7 @@ module _ {text : Text} where
     used = x.used;
     rest = x.rest;
     split = x.split;
-    place_is = x.place_is;
+    fault_is = x.fault_is;
     viable = let v = x.viable in let g = some_guard v.0 (x.used ++ v.1) v.2 in (g.0, v.1, g.1);
     none = λ parts v w agrees f. let s = split_front f in let i = as_inscription s.2 in x.none i.0 v w agrees (front_at s.0 v s.1 i.1 s.3);
   }

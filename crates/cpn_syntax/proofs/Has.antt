@@ -45,10 +45,10 @@ AddsTo close at c st b w = Wants close (terms at (c ∷ []) ∷ st) b w
 
 -- what holds behind a token that takes a part
 abbrev pub TakenAs : Closing → ℕ → PlainAst → Opens → PlainAst → ℕ → Role → Text → Type 0
-TakenAs close at c st b place (joins o) w = Wants close (behind at o place c ∷ st) b w
-TakenAs close at c st b place stamps w = NextNumber (λ z. Has close at 3 (ast at (stamped c place z)) st b) w
-TakenAs close at c st b place adds w = AddsTo close at c st b w
-TakenAs close at c st b place _ w = ⊥
+TakenAs close at c st b sign_at (joins o) w = Wants close (behind at o sign_at c ∷ st) b w
+TakenAs close at c st b sign_at stamps w = NextNumber (λ z. Has close at 3 (ast at (stamped c sign_at z)) st b) w
+TakenAs close at c st b sign_at adds w = AddsTo close at c st b w
+TakenAs close at c st b sign_at _ w = ⊥
 
 abbrev Takes : Closing → ℕ → ℕ → PlainAst → Opens → PlainAst → Text → Type 0
 Takes close at k c st b [] = ⊥
@@ -63,7 +63,7 @@ grouped start (a ∷ parts) c = ast start (tuple (more_asts a (after_asts parts 
 
 abbrev pub GoesOn : Closing → ℕ → PlainAst → Opens → PlainAst → Text → Type 0
 GoesOn close k c [] b s = (c ≡ b) × Closes close s
-GoesOn close k c (behind start o place a ∷ st) b s = (right o ≤ k) × Has close start (precedence o) (ast start (infixed o place a c)) st b s
+GoesOn close k c (behind start o sign_at a ∷ st) b s = (right o ≤ k) × Has close start (precedence o) (ast start (infixed o sign_at a c)) st b s
 GoesOn close k c (front start p ∷ st) b s = (11 ≤ k) × Has close start 11 (ast start (prefixed p c)) st b s
 GoesOn close k c (terms start parts ∷ st) b s = (3 ≤ k) × Has close start 2 (ast start (sum (after_asts parts (more_asts c no_ast)))) st b s
 GoesOn close k c (alternative start i a ∷ st) b s = Has close start (min k 1) (ast start (if_else i a c)) st b s
@@ -157,7 +157,7 @@ neither takes f g = ⊎_elim (λ next. does_nothing_else takes (ap role next.0) 
 
 never_both : (close : Closing) (k : ℕ) (c : PlainAst) (st : Opens) (b : PlainAst) (t : PlainToken) (w : Text) → takes_a_part (role t.kind) ≡ true → wants st ≤ top (role t.kind) → GoesOn close k c st b (t ∷ w) → ⊥
 never_both close k c [] b t w takes le goes = does_nothing_else takes (role_of_closing goes.1) refl
-never_both close k c (behind start m place a ∷ st) b t w takes le goes = one_takes_it (role t.kind) m takes le (low_role goes.1 refl)
+never_both close k c (behind start m sign_at a ∷ st) b t w takes le goes = one_takes_it (role t.kind) m takes le (low_role goes.1 refl)
 never_both close k c (front start p ∷ st) b t w takes le goes = omega (arith, top_taken (role t.kind) takes)
 never_both close k c (terms start parts ∷ st) b t w takes le goes = omega (arith, least_taken (role t.kind) takes, low_role goes.1 refl)
 never_both close k c (alternative start i a ∷ st) b t w takes le goes = omega (arith, least_taken (role t.kind) takes, low_role goes refl)

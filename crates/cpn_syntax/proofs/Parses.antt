@@ -29,7 +29,7 @@ module _ {A : Type 0} {Spelled : A → Text → Type 0} where
     used = x.used;
     rest = to;
     split = x.split;
-    place_is = refl;
+    fault_is = refl;
     viable = (a, [], x.reads a [] whole);
     none = λ b v w agrees f. refused b v w agrees (x.only b v w agrees f);
   } where
@@ -45,7 +45,7 @@ module _ {A : Type 0} {Spelled : A → Text → Type 0} where
   -- ---- why a text is refused
 
   halts_unless : (text : Text) (e : SyntaxError) → Halts Spelled Ends text e → (depth : A → ℕ) → Refuses Spelled depth text e
-  halts_unless text e x depth = rest_cases x.rest x.split x.place_is (λ a w agrees spelled. x.none a [] w agrees (front_whole a (x.used ++ w) spelled)) where
+  halts_unless text e x depth = rest_cases x.rest x.split x.fault_is (λ a w agrees spelled. x.none a [] w agrees (front_whole a (x.used ++ w) spelled)) where
     begun : CanBegin Spelled x.used
     begun = (x.viable.1, x.viable.0, x.viable.2)
 

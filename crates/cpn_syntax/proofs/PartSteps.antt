@@ -215,7 +215,7 @@ module _ (at k : ℕ) (c : PlainAst) (st : Opens) (start : ℕ) (t : PlainToken)
     used = t ∷ pattern.used;
     rest = pattern.rest;
     split = ap (λ s. t ∷ s) pattern.split;
-    place_is = pattern.place_is;
+    fault_is = pattern.fault_is;
     viable = viable_of at k c st start t pattern.used pattern.viable.0 is pattern.viable.1.1;
     none = λ r w agrees takes. no_arm_in pattern w agrees (untaken takes (rw is refl)).1 refl;
   }
@@ -238,7 +238,7 @@ module _ (at k : ℕ) (c : PlainAst) (st : Opens) (start : ℕ) (t : PlainToken)
       used = t ∷ pattern.used;
       rest = pattern.rest;
       split = ap (λ s. t ∷ s) pattern.split;
-      place_is = pattern.place_is;
+      fault_is = pattern.fault_is;
       viable = viable_bar at k c st start a arms p t pattern.used pattern.viable.0 le is pattern.viable.1.1;
       none = λ r w agrees takes. no_arm_in pattern w agrees (arm_at_bar takes is) refl;
     }

@@ -2,7 +2,7 @@
 -- the forms that have it: complete_pat. So a pattern, with its arrow, is what is wanted where no form is open.
 use Rattle.std.proofs.Common.{◌≡◌, ℕ, ◌≤◌, List, [], ◌∷◌, ◌++◌, refl, sym, ap, ◌∙◌, append_assoc, arith}
 use Rattle.cpn_lex.specs.Token.{PlainToken}
-use Rattle.cpn_syntax.specs.Texts.{Text, Is, place}
+use Rattle.cpn_syntax.specs.Texts.{Text, Is, offset_of}
 use Rattle.cpn_trees.specs.Trees.{PlainPat, pat, pat_tuple, PlainPats, no_pat, more_pats, pats_from}
 use Rattle.cpn_syntax.specs.Patterns.{SpellsPat, cons_line, name_line, any_line, number_line, text_line, true_line, false_line, call_line, unit_line, group_line, tuple_line, no_items_line, items_line, SpellsPats, last_pat, next_pat}
 use Rattle.cpn_syntax.specs.OpenPatterns.{PlainBracket, round, square, call, inside, OpenPats, opens_round, opens_square, opens_call, closing, bracketed}
@@ -17,9 +17,9 @@ pat_up le (end_bracket t is more) = end_bracket t is more
 pat_up le (end_pattern t is) = end_pattern t is
 
 -- a text that spells a part isn't empty, so it begins where it does with any text behind it
-pub place_pat : {l : ℕ} {p : PlainPat} {u : Text} → SpellsPat l p u → (v : Text) → place (u ++ v) ≡ place u
-place_pat (cons_line t u v head is tail) w = rw (append_assoc u (t ∷ v) w) (place_pat head (t ∷ v ++ w) ∙ sym (place_pat head (t ∷ v)))
-place_pat _ w = refl
+pub offset_pat : {l : ℕ} {p : PlainPat} {u : Text} → SpellsPat l p u → (v : Text) → offset_of (u ++ v) ≡ offset_of u
+offset_pat (cons_line t u v head is tail) w = rw (append_assoc u (t ∷ v) w) (offset_pat head (t ∷ v ++ w) ∙ sym (offset_pat head (t ∷ v)))
+offset_pat _ w = refl
 
 -- ---- parts one after the other
 
@@ -44,9 +44,9 @@ tuple_tree (next_pat t u v first is more) at p = refl
 -- ---- a part completes the forms that want it
 
 mutual
-  pub complete_pat : {l : ℕ} {p : PlainPat} {u : Text} → SpellsPat l p u → {st : OpenPats} {r : PlainPat × Text} {w : Text} → HasPat (place u) l p st r w → WantsPat st r (u ++ w)
+  pub complete_pat : {l : ℕ} {p : PlainPat} {u : Text} → SpellsPat l p u → {st : OpenPats} {r : PlainPat × Text} {w : Text} → HasPat (offset_of u) l p st r w → WantsPat st r (u ++ w)
   complete_pat (cons_line t u v head is tail) {w = x} has =
-      rw (append_assoc u (t ∷ v) x) (complete_pat head (cons_sign t (omega arith) is (complete_pat tail (end_cons (rw (place_pat head (t ∷ v)) at has)))))
+      rw (append_assoc u (t ∷ v) x) (complete_pat head (cons_sign t (omega arith) is (complete_pat tail (end_cons (rw (offset_pat head (t ∷ v)) at has)))))
   complete_pat (name_line t l is) has = simple (t ∷ []) (a_name t is) (pat_up l has)
   complete_pat (any_line t l is) has = simple (t ∷ []) (an_underscore t is) (pat_up l has)
   complete_pat (number_line t l is) has = simple (t ∷ []) (a_number t is) (pat_up l has)

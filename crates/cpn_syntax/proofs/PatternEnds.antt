@@ -1,4 +1,4 @@
--- What the steps of the parser of patterns come to: a pattern that was read, or a place where the text breaks off.
+-- What the steps of the parser of patterns come to: a pattern that was read, or where the text breaks off.
 use Rattle.std.proofs.Common.{[], ◌∷◌, refl, append-nil}
 use Rattle.cpn_lex.specs.Token.{PlainToken}
 use Rattle.cpn_lex.specs.declared.symbols.Symbol.TheVariants as sign
@@ -33,7 +33,7 @@ whole_stops p text none = record {
   used = [];
   rest = text;
   split = refl;
-  place_is = refl;
+  fault_is = refl;
   viable = λ before spells. ([], (p, rw (append-nil before, append-nil before) spells));
   none = λ r w agrees takes. none (begins_too _ text w agrees (rw takes.2 takes.1));
 }
@@ -43,7 +43,7 @@ breaks_pattern stops = record {
   used = stops.used;
   rest = stops.rest;
   split = stops.split;
-  place_is = stops.place_is;
+  fault_is = stops.fault_is;
   viable = stops.viable [] none_open;
   none = λ q u t v w agrees is spells arrow. stops.none (q, v) w agrees (rw is (complete_pat spells (end_pattern t arrow)));
 }

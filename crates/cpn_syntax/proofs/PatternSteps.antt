@@ -5,7 +5,7 @@ use Rattle.cpn_lex.specs.declared.symbols.Symbol.{Symbol}
 use Rattle.cpn_lex.specs.declared.symbols.Symbol.TheVariants as sign
 use Rattle.cpn_syntax.specs.declared.refusals.SyntaxError.{SyntaxError}
 use Rattle.cpn_syntax.specs.declared.refusals.SyntaxError.TheVariants as errors
-use Rattle.cpn_syntax.specs.Texts.{Text, Is, IsName, IsNumber, IsText, place}
+use Rattle.cpn_syntax.specs.Texts.{Text, Is, IsName, IsNumber, IsText, offset_of}
 use Rattle.cpn_syntax.specs.Faults.{fault_at}
 use Rattle.cpn_syntax.specs.Unread.{Begins}
 use Rattle.cpn_syntax.specs.Progress.{Agrees, Leads}
@@ -17,9 +17,9 @@ use Rattle.cpn_syntax.specs.ReadPatterns.{PatState, wanting, having, whole, Open
 use Rattle.cpn_syntax.specs.PatternSteps.{step_state, PatComes, PatBreaksOff}
 use Rattle.cpn_syntax.specs.declared.pattern_parser.Step.{Step}
 use Rattle.cpn_syntax.proofs.Progress.{leads_on, leads_to_stop}
-use Rattle.cpn_syntax.proofs.PatternCompletions.{place_pat}
+use Rattle.cpn_syntax.proofs.PatternCompletions.{offset_pat}
 use Rattle.cpn_syntax.proofs.PatternInversions.{Next, BeginsBySign, begins_pat, no_cons, goes_on, closes_none, no_parenthesis, takes_cons}
-use Rattle.cpn_syntax.proofs.ReadPatterns.{pat_down, spells_simple, spells_last, spells_next, spells_bracket, place_bracket, goes_on_from, goes_on_any}
+use Rattle.cpn_syntax.proofs.ReadPatterns.{pat_down, spells_simple, spells_last, spells_next, spells_bracket, offset_bracket, goes_on_from, goes_on_any}
 
 -- ---- what a text shows by its next token
 
@@ -39,8 +39,8 @@ next_sign s After t w next = let same : next.0 ≡ t = cc in rw same at next.2
 -- ---- where a part is wanted
 
 simple_comes : {form : PlainPatForm} {u : Text} (st : OpenPats) (rest : Text) → SpellsSimple form u → length rest < length (u ++ rest)
-    → ((r : PlainPat × Text) (w : Text) → Agrees rest w → WantsPat st r (u ++ w) → HasPat (place u) 1 (pat (place u) form) st r w)
-    → PatComes (wanting st) (u ++ rest) (having (place u) 1 (pat (place u) form) st) rest
+    → ((r : PlainPat × Text) (w : Text) → Agrees rest w → WantsPat st r (u ++ w) → HasPat (offset_of u) 1 (pat (offset_of u) form) st r w)
+    → PatComes (wanting st) (u ++ rest) (having (offset_of u) 1 (pat (offset_of u) form) st) rest
 simple_comes {u = u} st rest spells longer only = record {
   leads = record {
     used = u;
@@ -121,7 +121,7 @@ wants_stops st text none = record {
   used = [];
   rest = text;
   split = refl;
-  place_is = refl;
+  fault_is = refl;
   viable = λ before opened. rw (append-nil before) (goes_on_any opened);
   none = none;
 }
@@ -187,7 +187,7 @@ whole_comes at p text = record {
 
 cons_read : {start : ℕ} {q p : PlainPat} {st : OpenPats} {before u : Text} → Opened (behind start q ∷ st) before → SpellsPat 0 p u → ReadPat (having start 0 (pat start (pat_cons q p)) st) (before ++ u)
 cons_read {u = u} (open_behind {before = b} t v opened head is) part =
-    (b, v ++ t ∷ u, opened, cons_line t v u head is part, sym (place_pat head (t ∷ u)), append_assoc (b ++ v) (t ∷ []) u ∙ append_assoc b v (t ∷ u))
+    (b, v ++ t ∷ u, opened, cons_line t v u head is part, sym (offset_pat head (t ∷ u)), append_assoc (b ++ v) (t ∷ []) u ∙ append_assoc b v (t ∷ u))
 
 pub end_cons_comes : (at start : ℕ) (q p : PlainPat) (st : OpenPats) (text : Text) → PatComes (having at 0 p (behind start q ∷ st)) text (having start 0 (pat start (pat_cons q p)) st) text
 end_cons_comes at start q p st text = record {
@@ -210,7 +210,7 @@ comma_read {u = w} t (open_bracket {before = b} u v opened opens each) part comm
 bracket_read : {bracket : PlainBracket} {start : ℕ} {parts : List PlainPat} {p : PlainPat} {st : OpenPats} {before u : Text} (t : PlainToken) → Opened (inside bracket start parts ∷ st) before → SpellsPat 0 p u → Is (closing bracket) t
     → ReadPat (having start 1 (bracketed bracket start (pats_from (parts ++ p ∷ []))) st) (before ++ u ++ t ∷ [])
 bracket_read {u = w} t (open_bracket {before = b} u v opened opens each) part closes =
-    (b, u ++ (v ++ w) ++ t ∷ [], opened, spells_bracket t opens (spells_last each part) closes, rw (append_assoc u (v ++ w) (t ∷ [])) (sym (place_bracket opens (v ++ w ++ t ∷ []))), simp append_assoc)
+    (b, u ++ (v ++ w) ++ t ∷ [], opened, spells_bracket t opens (spells_last each part) closes, rw (append_assoc u (v ++ w) (t ∷ [])) (sym (offset_bracket opens (v ++ w ++ t ∷ []))), simp append_assoc)
 
 no_comma_closes : (bracket : PlainBracket) (t : PlainToken) → Is (closing bracket) t → Is sign.Comma t → ⊥
 no_comma_closes bracket t closes comma = closes_none bracket t sign.Comma (λ e. cc) (λ e. cc) closes comma
@@ -245,7 +245,7 @@ inside_stops at start bracket parts p st text no_comma no_end = record {
   used = [];
   rest = text;
   split = refl;
-  place_is = refl;
+  fault_is = refl;
   viable = λ before read. rw (append-nil before, read.5) (goes_on_from read.2 read.3);
   none = λ r w agrees takes. elim (goes_on takes) [
     | inl next ↦ no_comma (begins_too _ text w agrees (next_begins _ _ w next))

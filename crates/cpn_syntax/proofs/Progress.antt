@@ -24,7 +24,7 @@ module _ {S R : Type 0} {Read : S → Text → Type 0} {Takes : S → R → Text
     used = x.used ++ y.used;
     rest = y.rest;
     split = x.split ∙ ap (λ z. x.used ++ z) y.split ∙ sym (append_assoc x.used y.used y.rest);
-    place_is = y.place_is;
+    fault_is = y.fault_is;
     viable = λ before read. let found = y.viable (before ++ x.used) (x.reads before read) in (found.0, rw (← append_assoc before x.used y.used) found.1);
     none = λ r w agrees takes. y.none r w agrees (x.only r (y.used ++ w) (agrees_further b y.used y.rest w y.split agrees) (rw (← append_assoc x.used y.used w) takes));
   }

@@ -7,7 +7,7 @@ use Rattle.cpn_trees.specs.declared.operators.Infix.{Infix}
 use Rattle.cpn_trees.specs.declared.operators.Infix.TheVariants as op
 use Rattle.cpn_trees.specs.declared.operators.Prefix.{Prefix}
 use Rattle.cpn_trees.specs.declared.operators.Prefix.TheVariants as prefix
-use Rattle.cpn_syntax.specs.Texts.{Text, Is, IsName, IsNumber, IsText, place}
+use Rattle.cpn_syntax.specs.Texts.{Text, Is, IsName, IsNumber, IsText, offset_of}
 use Rattle.cpn_syntax.specs.Patterns.{SpellsPat}
 use Rattle.cpn_trees.specs.Trees.{PlainPat, PlainAst, ast, number, text, truth, empty, time, name, call, unit, tuple, list, let_in, prefixed, infixed, stamped, sum, if_else, case_of, fold, no_ast, more_asts, no_arm, more_arms, no_local}
 use Rattle.cpn_syntax.specs.Inscriptions as line
@@ -15,7 +15,7 @@ use Rattle.cpn_syntax.specs.Inscriptions.{sign_of, precedence, left, right, Spel
 use Rattle.cpn_syntax.specs.OpenForms.{PlainOpen, condition, consequence, alternative, subject, arm, fold_list, fold_start, fold_body, terms, behind, front, group, items, arguments, local, body, Opens, wanted, wants, after_asts, after_arms, after_locals}
 use Rattle.cpn_syntax.specs.ReadForms as read
 use Rattle.cpn_syntax.specs.ReadForms.{Before, LocalsBefore, Opening, becomes, ReadForms, State, want, have, Read}
-use Rattle.cpn_syntax.proofs.Completions.{place_front, three_parts}
+use Rattle.cpn_syntax.proofs.Completions.{offset_front, three_parts}
 use Rattle.cpn_syntax.proofs.Repetitions.{spells_down, before_more, arms_more, locals_more, parts_whole, terms_whole, arms_whole, locals_whole}
 
 -- ---- how tightly the part has to bind that is read next
@@ -59,12 +59,12 @@ start_of (arguments at n parts) = at
 start_of (local at locals n) = at
 start_of (body at locals) = at
 
-before_place : {a : PlainAst} {rest : List PlainAst} {u : Text} → Before 3 sign.DoublePlus (a ∷ rest) u → (w : Text) → place u ≡ place (u ++ w)
-before_place (read.part t u v first is rest) w = rw append_assoc (place_front first (t ∷ v) ∙ sym (place_front first (t ∷ v ++ w)))
+offset_before : {a : PlainAst} {rest : List PlainAst} {u : Text} → Before 3 sign.DoublePlus (a ∷ rest) u → (w : Text) → offset_of u ≡ offset_of (u ++ w)
+offset_before (read.part t u v first is rest) w = rw append_assoc (offset_front first (t ∷ v) ∙ sym (offset_front first (t ∷ v ++ w)))
 
-starts_at : {form : PlainOpen} {u : Text} → Opening form u → (w : Text) → start_of form ≡ place (u ++ w)
-starts_at (read.read_terms u parts) w = before_place parts w
-starts_at (read.read_operator t o u a is) w = rw append_assoc (sym (place_front a (t ∷ w)))
+starts_at : {form : PlainOpen} {u : Text} → Opening form u → (w : Text) → start_of form ≡ offset_of (u ++ w)
+starts_at (read.read_terms u parts) w = offset_before parts w
+starts_at (read.read_operator t o u a is) w = rw append_assoc (sym (offset_front a (t ∷ w)))
 starts_at _ w = refl
 
 -- ---- a form begins
@@ -73,7 +73,7 @@ begins : (st : Opens) (form : PlainOpen) (u : Text) → Opening form u → wants
 begins st form u opening le before was = (before, u, refl, opening, le, was)
 
 -- an operand is one or two tokens
-operand : (st : Opens) (at : ℕ) (c : PlainAst) (u : Text) → Spells 11 c u → at ≡ place u → (before : Text) → Read (want st) before → Read (have at 11 c st) (before ++ u)
+operand : (st : Opens) (at : ℕ) (c : PlainAst) (u : Text) → Spells 11 c u → at ≡ offset_of u → (before : Text) → Read (want st) before → Read (have at 11 c st) (before ++ u)
 operand st at c u spells starts before was = (before, u, refl, spells, starts, wants_most st, was)
 
 module _ (st : Opens) where
@@ -173,7 +173,7 @@ opens_do t5 is5 v u (read.read_from t1 n1 t2 n2 t3 t4 u1 is1 item is2 total is3 
 
 opens_term : {start k : ℕ} {c : PlainAst} {parts : List PlainAst} (t : PlainToken) → 3 ≤ k → Is sign.DoublePlus t
     → (v u : Text) → Opening (terms start parts) v → Spells k c u → Opening (terms start (parts ++ c ∷ [])) (v ++ (u ++ t ∷ []))
-opens_term t le is v u (read.read_terms w parts) c = rw (before_place parts (u ++ t ∷ [])) (read.read_terms (w ++ (u ++ t ∷ [])) (before_more parts u t (spells_down le c) is))
+opens_term t le is v u (read.read_terms w parts) c = rw (offset_before parts (u ++ t ∷ [])) (read.read_terms (w ++ (u ++ t ∷ [])) (before_more parts u t (spells_down le c) is))
 
 opens_in_group : {start k : ℕ} {c : PlainAst} {parts : List PlainAst} (t : PlainToken) → Is sign.Comma t → (v u : Text) → Opening (group start parts) v → Spells k c u → Opening (group start (parts ++ c ∷ [])) (v ++ (u ++ t ∷ []))
 opens_in_group t is v u (read.read_parenthesis t1 w is1 parts) c = read.read_parenthesis t1 (w ++ (u ++ t ∷ [])) is1 (before_more parts u t (spells_down (omega arith) c) is)
@@ -222,7 +222,7 @@ spells_prefix le v u (read.read_component t n is num) c = line.component_line t 
 
 spells_sum : {start k : ℕ} {c : PlainAst} {parts : List PlainAst} → 3 ≤ k → (v u : Text) → Opening (terms start parts) v → Spells k c u → Spells 2 (ast start (sum (after_asts parts (more_asts c no_ast)))) (v ++ u)
 spells_sum le v u (read.read_terms w (read.part t u1 u2 first is rest)) c =
-    rw (place_front first (t ∷ u2), append_assoc u1 (t ∷ u2) u) (line.sum_line {l = 2} u1 (t ∷ u2 ++ u) (omega arith) first (terms_whole t is rest u (spells_down le c)))
+    rw (offset_front first (t ∷ u2), append_assoc u1 (t ∷ u2) u) (line.sum_line {l = 2} u1 (t ∷ u2 ++ u) (omega arith) first (terms_whole t is rest u (spells_down le c)))
 
 spells_if : {start k : ℕ} {i a c : PlainAst} (v u : Text) → Opening (alternative start i a) v → Spells k c u → Spells (min k 1) (ast start (if_else i a c)) (v ++ u)
 spells_if {k = k} v u (read.read_else t1 t2 t3 u1 u2 is1 i is2 a is3) c = simp append_assoc (simp append_assoc at (line.if_line {l = min k 1} t1 t2 t3 u1 u2 u (omega arith) is1 i is2 a is3 (spells_down (omega arith) c)))
@@ -270,12 +270,12 @@ module _ (at k : ℕ) (c : PlainAst) (st : Opens) where
   pub reads_stamp : {z : ℤ} (t n : PlainToken) → 4 ≤ k → wants st ≤ 3 → Is sign.At t → IsNumber z n
       → (before : Text) → Read (have at k c st) before → Read (have at 3 (ast at (stamped c t.at z)) st) (before ++ t ∷ n ∷ [])
   reads_stamp t n l le is num before was =
-      (was.0, was.1 ++ t ∷ n ∷ [], rw was.2 (append_assoc was.0 was.1 (t ∷ n ∷ [])), rw was.4 (line.stamp_line {l = 3} t n was.1 (omega arith) (spells_down l was.3) is num), was.4 ∙ sym (place_front was.3 (t ∷ n ∷ [])), le, was.6)
+      (was.0, was.1 ++ t ∷ n ∷ [], rw was.2 (append_assoc was.0 was.1 (t ∷ n ∷ [])), rw was.4 (line.stamp_line {l = 3} t n was.1 (omega arith) (spells_down l was.3) is num), was.4 ∙ sym (offset_front was.3 (t ∷ n ∷ [])), le, was.6)
 
   pub reads_first_term : (t : PlainToken) → 3 ≤ k → wants st ≤ 2 → Is sign.DoublePlus t
       → (before : Text) → Read (have at k c st) before → Read (want (terms at (c ∷ []) ∷ st)) (before ++ t ∷ [])
   reads_first_term t l le is before was =
-      (was.0, was.1 ++ t ∷ [], rw was.2 (append_assoc was.0 was.1 (t ∷ [])), rw (was.4 ∙ sym (place_front was.3 (t ∷ []))) (read.read_terms (was.1 ++ t ∷ []) (read.part t was.1 [] (spells_down l was.3) is read.no_part)), le, was.6)
+      (was.0, was.1 ++ t ∷ [], rw was.2 (append_assoc was.0 was.1 (t ∷ [])), rw (was.4 ∙ sym (offset_front was.3 (t ∷ []))) (read.read_terms (was.1 ++ t ∷ []) (read.part t was.1 [] (spells_down l was.3) is read.no_part)), le, was.6)
 
   pub reads_further_term : (start : ℕ) (parts : List PlainAst) (t : PlainToken) → 3 ≤ k → Is sign.DoublePlus t
       → (before : Text) → Read (have at k c (terms start parts ∷ st)) before → Read (want (terms start (parts ++ c ∷ []) ∷ st)) (before ++ t ∷ [])

@@ -4,7 +4,7 @@ use Rattle.cpn_lex.specs.Token.{PlainToken}
 use Rattle.cpn_lex.specs.Token as token
 use Rattle.cpn_lex.specs.declared.symbols.Symbol.{Symbol}
 use Rattle.cpn_lex.specs.declared.symbols.Symbol.TheVariants as sign
-use Rattle.cpn_syntax.specs.Texts.{Text, Is, place}
+use Rattle.cpn_syntax.specs.Texts.{Text, Is, offset_of}
 use Rattle.cpn_trees.specs.Trees.{PlainPat, pat, PlainPatForm, PlainPats, pats_from}
 use Rattle.cpn_syntax.specs.Patterns.{SpellsPat, cons_line, name_line, any_line, number_line, text_line, true_line, false_line, call_line, unit_line, group_line, tuple_line, no_items_line, items_line, SpellsPats, last_pat, next_pat}
 use Rattle.cpn_syntax.specs.OpenPatterns.{PlainBracket, OpenPats, OpensBracket, opens_round, opens_square, opens_call, closing, bracketed}
@@ -29,7 +29,7 @@ pat_down le (tuple_line t1 t2 t3 u v l opens first comma parts closes) = tuple_l
 pat_down le (no_items_line t1 t2 l opens closes) = no_items_line t1 t2 (omega arith) opens closes
 pat_down le (items_line t1 t2 u l opens parts closes) = items_line t1 t2 u (omega arith) opens parts closes
 
-pub spells_simple : {form : PlainPatForm} {u : Text} → SpellsSimple form u → SpellsPat 1 (pat (place u) form) u
+pub spells_simple : {form : PlainPatForm} {u : Text} → SpellsSimple form u → SpellsPat 1 (pat (offset_of u) form) u
 spells_simple (a_name t is) = name_line t (omega arith) is
 spells_simple (an_underscore t is) = any_line t (omega arith) is
 spells_simple (a_number t is) = number_line t (omega arith) is
@@ -56,10 +56,10 @@ spells_bracket t2 (opens_round t is) (next_pat t1 {p = p} u v first comma more) 
 spells_bracket {v = v} t2 (opens_square t is) parts closes = items_line t t2 v (omega arith) is parts closes
 spells_bracket {v = v} t2 (opens_call t t1 is opens) parts closes = call_line t t1 t2 v (omega arith) is opens parts closes
 
-pub place_bracket : {bracket : PlainBracket} {start : ℕ} {u : Text} → OpensBracket bracket start u → (v : Text) → place (u ++ v) ≡ start
-place_bracket (opens_round t is) v = refl
-place_bracket (opens_square t is) v = refl
-place_bracket (opens_call t t1 is opens) v = refl
+pub offset_bracket : {bracket : PlainBracket} {start : ℕ} {u : Text} → OpensBracket bracket start u → (v : Text) → offset_of (u ++ v) ≡ start
+offset_bracket (opens_round t is) v = refl
+offset_bracket (opens_square t is) v = refl
+offset_bracket (opens_call t t1 is opens) v = refl
 
 -- ---- each beginning goes on to a pattern
 

@@ -47,7 +47,7 @@ module _ {close : Closing} {from : Text} where
     used = x.used;
     rest = x.rest;
     split = x.split;
-    place_is = x.place_is;
+    fault_is = x.fault_is;
     viable = let v = x.viable in (v.1.0, v.0, v.1.1);
     none = λ b v w agrees f. let s = split_front f in x.none close b s.0 v w agrees s.1 s.2 s.3;
   }

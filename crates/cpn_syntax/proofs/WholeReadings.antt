@@ -19,7 +19,7 @@ breaks_off_at stops = record {
   used = stops.used;
   rest = stops.rest;
   split = stops.split;
-  place_is = stops.place_is;
+  fault_is = stops.fault_is;
   viable = stops.viable [] refl;
   none = λ close b u v w agrees same spells closes. stops.none (close, b) w agrees (subst (Wants close [] b) (sym same) (complete_whole spells closes));
 }

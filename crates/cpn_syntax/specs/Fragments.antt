@@ -30,6 +30,6 @@ pub record Halts {A : Type 0} (Part : A → Text → Type 0) (Ends : Text → Ty
   pub used : Text
   pub rest : Text
   pub split : from ≡ used ++ rest
-  pub place_is : fault ≡ fault_at rest
+  pub fault_is : fault ≡ fault_at rest
   pub viable : (a : A) × (w : Text) × Part a (used ++ w)
   pub none : (a : A) (v w : Text) → Agrees rest w → Front Part Ends a v (used ++ w) → ⊥

@@ -25,7 +25,7 @@ use Rattle.cpn_lex.specs.declared.symbols.Symbol.TheVariants as sign
 use Rattle.cpn_trees.specs.declared.operators.Infix.{Infix}
 use Rattle.cpn_trees.specs.declared.operators.Infix.TheVariants as op
 use Rattle.cpn_trees.specs.declared.operators.Prefix.TheVariants as front
-use Rattle.cpn_syntax.specs.Texts.{Text, Is, IsName, IsNumber, IsText, place}
+use Rattle.cpn_syntax.specs.Texts.{Text, Is, IsName, IsNumber, IsText, offset_of}
 use Rattle.cpn_syntax.specs.Patterns.{SpellsPat}
 use Rattle.cpn_trees.specs.Trees.{PlainPat, PlainAst, ast, number, text, truth, empty, time, name, call, unit, tuple, list, let_in, prefixed, infixed, stamped, sum, if_else, case_of, fold, PlainAsts, no_ast, more_asts, PlainArms, no_arm, more_arms, PlainLocals, no_local, more_locals}
 
@@ -128,15 +128,15 @@ mutual
     -- sum := late ++ late {++ late}
     sum_line : {l : ℕ} {a : PlainAst} {rest : PlainAsts} (u v : Text) → l ≤ 2
         → Spells 3 a u → SpellsTerms rest v
-        → Spells l (ast (place u) (sum (more_asts a rest))) (u ++ v)
+        → Spells l (ast (offset_of u) (sum (more_asts a rest))) (u ++ v)
     -- late := term @ num
     stamp_line : {l : ℕ} (t n : PlainToken) {a : PlainAst} {z : ℤ} (u : Text) → l ≤ 3
         → Spells 4 a u → Is sign.At t → IsNumber z n
-        → Spells l (ast (place u) (stamped a t.at z)) (u ++ t ∷ n ∷ [])
+        → Spells l (ast (offset_of u) (stamped a t.at z)) (u ++ t ∷ n ∷ [])
     -- the lines from late to mul, by their operators
     infix_line : {l : ℕ} (t : PlainToken) {a b : PlainAst} (u v : Text) (o : Infix) → l ≤ precedence o
         → Spells (left o) a u → Is (sign_of o) t → Spells (right o) b v
-        → Spells l (ast (place u) (infixed o t.at a b)) (u ++ t ∷ v)
+        → Spells l (ast (offset_of u) (infixed o t.at a b)) (u ++ t ∷ v)
     -- pre := not pre
     not_line : {l : ℕ} (t : PlainToken) {a : PlainAst} (u : Text) → l ≤ 11 → Is sign.Not t → Spells 11 a u
         → Spells l (ast t.at (prefixed front.Not a)) (t ∷ u)

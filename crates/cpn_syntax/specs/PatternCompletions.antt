@@ -4,7 +4,7 @@
 use Rattle.std.specs.Prelude.{ℕ, ℤ, ◌≤◌, true, false, List, [], ◌∷◌, ◌++◌}
 use Rattle.cpn_lex.specs.Token.{PlainToken}
 use Rattle.cpn_lex.specs.declared.symbols.Symbol.TheVariants as sign
-use Rattle.cpn_syntax.specs.Texts.{Text, Is, IsName, IsNumber, IsText, place}
+use Rattle.cpn_syntax.specs.Texts.{Text, Is, IsName, IsNumber, IsText, offset_of}
 use Rattle.cpn_trees.specs.Trees.{PlainPat, pat, PlainPatForm, any, pat_name, pat_number, pat_text, pat_truth, pat_unit, pat_list, pat_cons, no_pat, pats_from}
 use Rattle.cpn_syntax.specs.OpenPatterns.{PlainBracket, behind, inside, OpenPats, OpensBracket, closing, bracketed}
 
@@ -22,7 +22,7 @@ pub data SpellsSimple : PlainPatForm → Text → Type 0 where
 mutual
   pub data WantsPat : OpenPats → PlainPat × Text → Text → Type 0 where
     simple : {st : OpenPats} {r : PlainPat × Text} {form : PlainPatForm} {w : Text} (u : Text) → SpellsSimple form u
-        → HasPat (place u) 1 (pat (place u) form) st r w
+        → HasPat (offset_of u) 1 (pat (offset_of u) form) st r w
         → WantsPat st r (u ++ w)
     begin_bracket : {st : OpenPats} {r : PlainPat × Text} {bracket : PlainBracket} {start : ℕ} {w : Text} (u : Text) → OpensBracket bracket start u
         → WantsPat (inside bracket start [] ∷ st) r w

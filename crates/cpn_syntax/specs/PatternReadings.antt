@@ -28,6 +28,6 @@ pub record BreaksOffInPattern (from : Text) (fault : SyntaxError) : Type 0 where
   pub used : Text
   pub rest : Text
   pub split : from ≡ used ++ rest
-  pub place_is : fault ≡ fault_at rest
+  pub fault_is : fault ≡ fault_at rest
   pub viable : (w : Text) × IsPattern (used ++ w)
   pub none : (q : PlainPat) (u : Text) (t : PlainToken) (v w : Text) → Agrees rest w → used ++ w ≡ u ++ t ∷ v → SpellsPat 0 q u → Is sign.Arrow t → ⊥

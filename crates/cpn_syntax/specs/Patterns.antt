@@ -9,14 +9,14 @@
 use Rattle.std.specs.Prelude.{ℕ, ℤ, ◌≤◌, true, false, List, [], ◌∷◌, ◌++◌}
 use Rattle.cpn_lex.specs.Token.{PlainToken}
 use Rattle.cpn_lex.specs.declared.symbols.Symbol.TheVariants as sign
-use Rattle.cpn_syntax.specs.Texts.{Text, Is, IsName, IsNumber, IsText, place}
+use Rattle.cpn_syntax.specs.Texts.{Text, Is, IsName, IsNumber, IsText, offset_of}
 use Rattle.cpn_trees.specs.Trees.{PlainPat, pat, any, pat_name, pat_number, pat_text, pat_truth, pat_call, pat_unit, pat_tuple, pat_list, pat_cons, PlainPats, no_pat, more_pats}
 
 mutual
   pub data SpellsPat : ℕ → PlainPat → Text → Type 0 where
     -- pat := ppre :: pat
     cons_line : (t : PlainToken) {p q : PlainPat} (u v : Text) → SpellsPat 1 p u → Is sign.DoubleColon t → SpellsPat 0 q v
-        → SpellsPat 0 (pat (place u) (pat_cons p q)) (u ++ t ∷ v)
+        → SpellsPat 0 (pat (offset_of u) (pat_cons p q)) (u ++ t ∷ v)
     -- ppre := N
     name_line : {l : ℕ} (t : PlainToken) {n : List ℕ} → l ≤ 1 → IsName n t → SpellsPat l (pat t.at (pat_name n)) (t ∷ [])
     -- ppre := _

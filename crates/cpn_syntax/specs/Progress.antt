@@ -23,6 +23,6 @@ pub record Stops {S R : Type 0} (Read : S → Text → Type 0) (Takes : S → R 
   pub used : Text
   pub rest : Text
   pub split : from ≡ used ++ rest
-  pub place_is : fault ≡ fault_at rest
+  pub fault_is : fault ≡ fault_at rest
   pub viable : (before : Text) → Read old before → (w : Text) × Whole (before ++ used ++ w)
   pub none : (r : R) (w : Text) → Agrees rest w → Takes old r (used ++ w) → ⊥

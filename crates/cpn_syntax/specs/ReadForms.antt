@@ -5,7 +5,7 @@ use Rattle.cpn_lex.specs.declared.symbols.Symbol.{Symbol}
 use Rattle.cpn_lex.specs.declared.symbols.Symbol.TheVariants as sign
 use Rattle.cpn_trees.specs.declared.operators.Infix.{Infix}
 use Rattle.cpn_trees.specs.declared.operators.Prefix.TheVariants as prefix
-use Rattle.cpn_syntax.specs.Texts.{Text, Is, IsName, IsNumber, place}
+use Rattle.cpn_syntax.specs.Texts.{Text, Is, IsName, IsNumber, offset_of}
 use Rattle.cpn_syntax.specs.Patterns.{SpellsPat}
 use Rattle.cpn_syntax.specs.Inscriptions.{sign_of, precedence, left, Spells}
 use Rattle.cpn_trees.specs.Trees.{PlainPat, PlainAst}
@@ -53,9 +53,9 @@ pub data Opening : PlainOpen → Text → Type 0 where
       → Is sign.Foldl t1 → IsName item n1 → Is sign.Comma t2 → IsName total n2 → Is sign.Over t3 → Spells 0 a u → Is sign.From t4 → Spells 0 s v → Is sign.Do t5
       → Opening (fold_body t1.at item total a s) (t1 ∷ n1 ∷ t2 ∷ n2 ∷ t3 ∷ u ++ t4 ∷ v ++ t5 ∷ [])
   read_terms : {a : PlainAst} {rest : List PlainAst} (u : Text) → Before 3 sign.DoublePlus (a ∷ rest) u
-      → Opening (terms (place u) (a ∷ rest)) u
+      → Opening (terms (offset_of u) (a ∷ rest)) u
   read_operator : (t : PlainToken) (o : Infix) {a : PlainAst} (u : Text) → Spells (left o) a u → Is (sign_of o) t
-      → Opening (behind (place u) o t.at a) (u ++ t ∷ [])
+      → Opening (behind (offset_of u) o t.at a) (u ++ t ∷ [])
   read_not : (t : PlainToken) → Is sign.Not t → Opening (front t.at prefix.Not) (t ∷ [])
   read_negate : (t : PlainToken) → Is sign.Tilde t → Opening (front t.at prefix.Negate) (t ∷ [])
   read_component : (t n : PlainToken) {z : ℤ} → Is sign.Hash t → IsNumber z n → Opening (front t.at (prefix.Component z)) (t ∷ n ∷ [])
@@ -104,7 +104,7 @@ pub data State : Type 0 where
 -- the tokens that were read
 abbrev pub Read : State → Text → Type 0
 Read (want st) before = ReadForms st before
-Read (have at k c st) before = (p : Text) × (u : Text) × (before ≡ p ++ u) × Spells k c u × (at ≡ place u) × (wants st ≤ k) × ReadForms st p
+Read (have at k c st) before = (p : Text) × (u : Text) × (before ≡ p ++ u) × Spells k c u × (at ≡ offset_of u) × (wants st ≤ k) × ReadForms st p
 
 -- the tokens that may come, what stands behind the inscription, and the inscription
 abbrev pub Takes : State → Closing × PlainAst → Text → Type 0

@@ -2,7 +2,7 @@
 use Rattle.std.specs.Prelude.{ℕ, ◌≡◌, ◌+◌, ◌*◌, List, [], ◌∷◌, ◌++◌, length}
 use Rattle.cpn_lex.specs.Token.{PlainToken}
 use Rattle.cpn_lex.specs.declared.symbols.Symbol.TheVariants as sign
-use Rattle.cpn_syntax.specs.Texts.{Text, Is, place}
+use Rattle.cpn_syntax.specs.Texts.{Text, Is, offset_of}
 use Rattle.cpn_trees.specs.Trees.{PlainPat}
 use Rattle.cpn_syntax.specs.Patterns.{SpellsPat}
 use Rattle.cpn_syntax.specs.OpenPatterns.{PlainBracket, behind, inside, OpenPats, OpensBracket}
@@ -24,7 +24,7 @@ pub data SpellsEach : List PlainPat → Text → Type 0 where
 pub data Opened : OpenPats → Text → Type 0 where
   none_open : Opened [] []
   open_behind : {st : OpenPats} {p : PlainPat} {before : Text} (t : PlainToken) (u : Text) → Opened st before → SpellsPat 1 p u → Is sign.DoubleColon t
-      → Opened (behind (place u) p ∷ st) (before ++ u ++ t ∷ [])
+      → Opened (behind (offset_of u) p ∷ st) (before ++ u ++ t ∷ [])
   open_bracket : {st : OpenPats} {bracket : PlainBracket} {start : ℕ} {parts : List PlainPat} {before : Text} (u v : Text)
       → Opened st before → OpensBracket bracket start u → SpellsEach parts v
       → Opened (inside bracket start parts ∷ st) (before ++ u ++ v)
@@ -32,7 +32,7 @@ pub data Opened : OpenPats → Text → Type 0 where
 -- the tokens that were read
 abbrev pub ReadPat : PatState → Text → Type 0
 ReadPat (wanting st) text = Opened st text
-ReadPat (having at k p st) text = (before : Text) × (u : Text) × Opened st before × SpellsPat k p u × (at ≡ place u) × (text ≡ before ++ u)
+ReadPat (having at k p st) text = (before : Text) × (u : Text) × Opened st before × SpellsPat k p u × (at ≡ offset_of u) × (text ≡ before ++ u)
 ReadPat (whole p) text = SpellsPat 0 p text
 
 -- the tokens that may come: with them the pattern is this one, and the text behind its arrow that one

@@ -23,6 +23,6 @@ pub record BreaksOffAt (from : Text) (fault : SyntaxError) : Type 0 where
   pub used : Text
   pub rest : Text
   pub split : from ≡ used ++ rest
-  pub place_is : fault ≡ fault_at rest
+  pub fault_is : fault ≡ fault_at rest
   pub viable : (w : Text) × IsInscription (used ++ w)
   pub none : (close : Closing) (b : PlainAst) (u v w : Text) → Agrees rest w → used ++ w ≡ u ++ v → Spells 0 b u → Closes close v → ⊥

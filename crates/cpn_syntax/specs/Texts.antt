@@ -22,6 +22,6 @@ abbrev pub IsText : List ℕ → PlainToken → Type 0
 IsText bytes t = t.kind ≡ token.text bytes
 
 -- where a text begins: the offset of its first token
-abbrev pub place : Text → ℕ
-place [] = 0
-place (t ∷ rest) = t.at
+abbrev pub offset_of : Text → ℕ
+offset_of [] = 0
+offset_of (t ∷ rest) = t.at

@@ -6,7 +6,7 @@ ghost use Rattle.cpn_syntax.specs.declared.refusals.SyntaxError.TheVariants.{Mem
 use std::alloc::{AllocError, AllocFailed};
 use thiserror::Error;
 
-/// Why tokens have no tree. The place is the offset of a token in the text.
+/// Why tokens have no tree. The position is the offset of a token in the text.
 #[derive(Clone, Copy, Debug, PartialEq, Eq, Error)]
 pub enum SyntaxError {
     /// Memory ran out.

@@ -6,12 +6,12 @@ use Rattle.cpn_trees.specs.AstViews.{ast_view}
 use Rattle.cpn_trees.specs.declared.trees.Ast.{Ast, the_lemmas}
 use Rattle.cpn_typing.specs.Types.{PlainTy, PlainTys, more_types, unit_type, bool_type, int_type, text_type, enumeration, union, tuples, lists, no_types, same_types}
 use Rattle.cpn_typing.specs.Names.{Name, Declared, Scope, Checked, ok, refused, Refusal, mismatch, ◌>>=◌, accepted_if}
-use Rattle.cpn_typing.specs.Places.{Place}
-use Rattle.cpn_typing.specs.Rules.{Typed, Parts, Spot, Arguments, does, calls, call_rule, on_list, all_of, argument_rule, parts_of_types, parts_wanted, first_place, item_of, meets, place_of}
+use Rattle.cpn_typing.specs.Contexts.{Context}
+use Rattle.cpn_typing.specs.Rules.{Typed, Parts, Spot, Arguments, does, calls, call_rule, on_list, all_of, argument_rule, parts_of_types, parts_wanted, first_offset, item_of, meets, offset_of}
 use Rattle.cpn_typing.specs.Expressions.{typed, typed_first, typed_rest, typed_parts}
 use Rattle.cpn_declared.specs.DeclsViews.{decls_view}
 use Rattle.cpn_forms.specs.ScopeViews.{scope_view}
-use Rattle.cpn_forms.specs.PlaceViews.{place_view}
+use Rattle.cpn_forms.specs.ContextViews.{context_view}
 use Rattle.cpn_forms.specs.LookupViews.{predeclared_view}
 use Rattle.cpn_types.specs.Around.{arguments_in}
 use Rattle.cpn_typing.specs.Answers.{Refuses}
@@ -21,24 +21,24 @@ use Rattle.cpn_types.specs.declared.surroundings.Surroundings.{Surroundings}
 use Rattle.cpn_forms.specs.declared.lookups.Predeclared.{Predeclared}
 use Rattle.cpn_forms.specs.declared.lookups.Predeclared.TheVariants as predeclared
 
-pub first_is : (ds : Declared) (place : Place) (xs : List Ast) (x : Ast) (at : ℕ) (sc : Scope) (w : Option PlainTy) → 0 < length xs → x ≡ get_or xs 0 x → typed_first ds place (asts_from (map ast_view xs)) at sc w ≡ typed ds place (ast_view x) sc w
-first_is ds place [] x at sc w lt e = absurd (omega arith)
-first_is ds place (y ∷ ys) x at sc w lt e = ap (λ z. typed ds place (ast_view z) sc w) (sym e)
+pub first_is : (ds : Declared) (context : Context) (xs : List Ast) (x : Ast) (at : ℕ) (sc : Scope) (w : Option PlainTy) → 0 < length xs → x ≡ get_or xs 0 x → typed_first ds context (asts_from (map ast_view xs)) at sc w ≡ typed ds context (ast_view x) sc w
+first_is ds context [] x at sc w lt e = absurd (omega arith)
+first_is ds context (y ∷ ys) x at sc w lt e = ap (λ z. typed ds context (ast_view z) sc w) (sym e)
 
-pub place_there : (x : Ast) → place_of (ast_view x) ≡ x.at
-place_there x = search (rules, the_lemmas)
+pub offset_there : (x : Ast) → offset_of (ast_view x) ≡ x.at
+offset_there x = search (rules, the_lemmas)
 
-pub place_is : (xs : List Ast) (x : Ast) (at : ℕ) → 0 < length xs → x ≡ get_or xs 0 x → first_place at (asts_from (map ast_view xs)) ≡ x.at
-place_is [] x at lt e = absurd (omega arith)
-place_is (y ∷ ys) x at lt e = place_there y ∙ ap (λ z. z.at) (sym e)
+pub offset_is : (xs : List Ast) (x : Ast) (at : ℕ) → 0 < length xs → x ≡ get_or xs 0 x → first_offset at (asts_from (map ast_view xs)) ≡ x.at
+offset_is [] x at lt e = absurd (omega arith)
+offset_is (y ∷ ys) x at lt e = offset_there y ∙ ap (λ z. z.at) (sym e)
 
-pub rest_is : (ds : Declared) (place : Place) (xs : List Ast) (sc : Scope) (ts : PlainTys) → typed_rest ds place (asts_from (map ast_view xs)) sc ts ≡ typed_parts ds place (asts_from (map ast_view (drop 1 xs))) sc ts
-rest_is ds place [] sc ts = refl
-rest_is ds place (x ∷ xs) sc ts = refl
+pub rest_is : (ds : Declared) (context : Context) (xs : List Ast) (sc : Scope) (ts : PlainTys) → typed_rest ds context (asts_from (map ast_view xs)) sc ts ≡ typed_parts ds context (asts_from (map ast_view (drop 1 xs))) sc ts
+rest_is ds context [] sc ts = refl
+rest_is ds context (x ∷ xs) sc ts = refl
 
-pub none_first : (ds : Declared) (place : Place) (xs : List Ast) (at : ℕ) (sc : Scope) (w : Option PlainTy) → nat_eq (length xs) 0 ≡ true → typed_first ds place (asts_from (map ast_view xs)) at sc w ≡ refused (mismatch at)
-none_first ds place [] at sc w h = refl
-none_first ds place (x ∷ xs) at sc w h = let no : nat_eq (length (x ∷ xs)) 0 ≡ false = search rules in cc
+pub none_first : (ds : Declared) (context : Context) (xs : List Ast) (at : ℕ) (sc : Scope) (w : Option PlainTy) → nat_eq (length xs) 0 ≡ true → typed_first ds context (asts_from (map ast_view xs)) at sc w ≡ refused (mismatch at)
+none_first ds context [] at sc w h = refl
+none_first ds context (x ∷ xs) at sc w h = let no : nat_eq (length (x ∷ xs)) 0 ≡ false = search rules in cc
 
 -- ---- the first refusal counts, however what follows is grouped
 
@@ -104,7 +104,7 @@ predeclared_is predeclared.Size spot n asts xs = alike_behind (xs.first.check (S
 
 pub function_is : (around : Surroundings) (xs ys : List Ast) (at : ℕ) (scope : List Local) (k : ℕ) (ts : PlainTys) (t : PlainTy) (spot : Spot) (n : Name) → 0 < length xs → ys ≡ xs
     → call_rule (calls k ts t) spot n (asts_from (map ast_view xs)) (arguments_in around xs at scope)
-    ≡ (typed_parts (decls_view around.decls.now) (place_view around.place) (asts_from (map ast_view (drop 0 ys))) (scope_view scope) ts >>= function_makes k spot ts t)
+    ≡ (typed_parts (decls_view around.decls.now) (context_view around.context) (asts_from (map ast_view (drop 0 ys))) (scope_view scope) ts >>= function_makes k spot ts t)
 function_is around [] ys at scope k ts t spot n lt e = absurd (omega arith)
 function_is around (x ∷ xs) ys at scope k ts t spot n lt e = rw e (regrouped (all_of (arguments_in around (x ∷ xs) at scope) ts) _ _)
 
@@ -112,7 +112,7 @@ function_is around (x ∷ xs) ys at scope k ts t spot n lt e = rw e (regrouped (
 
 several : (around : Surroundings) (y z : Ast) (zs : List Ast) (at : ℕ) (scope : List Local) (t : PlainTy)
     → argument_rule (asts_from (map ast_view (y ∷ z ∷ zs))) t (arguments_in around (y ∷ z ∷ zs) at scope)
-    ≡ (typed_parts (decls_view around.decls.now) (place_view around.place) (asts_from (map ast_view (y ∷ z ∷ zs))) (scope_view scope) (parts_wanted (Some t)) >>= tuple_made t (place_of (ast_view y)))
+    ≡ (typed_parts (decls_view around.decls.now) (context_view around.context) (asts_from (map ast_view (y ∷ z ∷ zs))) (scope_view scope) (parts_wanted (Some t)) >>= tuple_made t (offset_of (ast_view y)))
 several around y z zs at scope unit_type = refl
 several around y z zs at scope bool_type = refl
 several around y z zs at scope int_type = refl
@@ -124,11 +124,11 @@ several around y z zs at scope (lists t) = refl
 
 pub arguments_are : (around : Surroundings) (xs ys : List Ast) (x : Ast) (at : ℕ) (scope : List Local) (t : PlainTy) (ws : PlainTys) → 1 < length xs → ys ≡ xs → ws ≡ parts_wanted (Some t) → x ≡ get_or xs 0 x
     → argument_rule (asts_from (map ast_view xs)) t (arguments_in around xs at scope)
-    ≡ (typed_parts (decls_view around.decls.now) (place_view around.place) (asts_from (map ast_view (drop 0 ys))) (scope_view scope) ws >>= tuple_made t x.at)
+    ≡ (typed_parts (decls_view around.decls.now) (context_view around.context) (asts_from (map ast_view (drop 0 ys))) (scope_view scope) ws >>= tuple_made t x.at)
 arguments_are around [] ys x at scope t ws lt e v f = absurd (omega arith)
 arguments_are around (y ∷ []) ys x at scope t ws lt e v f = absurd (omega arith)
 arguments_are around (y ∷ z ∷ zs) ys x at scope t ws lt e v f =
-    let k : place_of (ast_view y) ≡ x.at = place_there y ∙ ap (λ u. u.at) (sym f) in
+    let k : offset_of (ast_view y) ≡ x.at = offset_there y ∙ ap (λ u. u.at) (sym f) in
     rw (e, v, ← k) (several around y z zs at scope t)
 
 pub some_there : (xs : List Ast) → nat_eq (length xs) 0 ≡ false → 0 < length xs

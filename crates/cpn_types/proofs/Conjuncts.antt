@@ -9,7 +9,7 @@ use Rattle.cpn_trees.specs.AstViews.{ast_view}
 use Rattle.cpn_trees.specs.declared.trees.Ast.{Ast}
 use Rattle.cpn_typing.specs.Types.{PlainTy, bool_type}
 use Rattle.cpn_typing.specs.Names.{Declared, Refusal, Checked, ok, refused, ◌>>=◌}
-use Rattle.cpn_typing.specs.Places.{in_guard}
+use Rattle.cpn_typing.specs.Contexts.{in_guard}
 use Rattle.cpn_typing.specs.Rules.{Typed}
 use Rattle.cpn_typing.specs.Expressions.{typed}
 use Rattle.cpn_typing.specs.GuardsAndDelays.{checked_guard}

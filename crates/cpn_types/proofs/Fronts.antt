@@ -9,7 +9,7 @@ use Rattle.cpn_core.specs.Inscriptions.{expr_view}
 use Rattle.cpn_core.specs.declared.inscriptions.Expr.{Expr}
 use Rattle.cpn_typing.specs.Types.{PlainTy, PlainTys, no_types, more_types, types_from}
 use Rattle.cpn_typing.specs.Names.{Declared, Scope, Checked, ok, refused, ◌>>=◌}
-use Rattle.cpn_typing.specs.Places.{Place}
+use Rattle.cpn_typing.specs.Contexts.{Context}
 use Rattle.cpn_typing.specs.Rules.{Typed, Parts, Items, first_wanted, later_wanted}
 use Rattle.cpn_typing.specs.Expressions.{typed, typed_parts, typed_items}
 use Rattle.cpn_declared.specs.TypeViews.{ty_view, tys_view}
@@ -34,7 +34,7 @@ abbrev pub before_items : List PlainExpr → Checked Items → Checked Items
 before_items es (ok r) = ok (record { items = exprs_before es r.items; item_type = r.item_type })
 before_items es (refused r) = refused r
 
--- the types that are wanted from a place on
+-- the types that are wanted from an index on
 pub wanted_there : (ws : List Ty) (i : ℕ) (t : Ty) → i < length ws → t ≡ get_or ws i t → first_wanted (tys_view (drop i ws)) ≡ Some (ty_view t)
 wanted_there ws i t lt e =
     let d : drop i ws ≡ t ∷ drop (suc i) ws = drop-cons ws i t lt ∙ ap (λ x. x ∷ drop (suc i) ws) (sym e) in
@@ -69,44 +69,44 @@ items_in_front : (es : List PlainExpr) (r : Typed) (c : Checked Items) → befor
 items_in_front es r (ok p) = rw (exprs_more es r.expr p.items) refl
 items_in_front es r (refused x) = refl
 
-pub parts_more : (ds : Declared) (place : Place) (sc : Scope) (xs : List Ast) (i : ℕ) (x : Ast) (ws : List Ty) (j : ℕ) (es : List PlainExpr) (ts : List PlainTy) (r : Typed) (all : Checked Parts)
-    → i < length xs → x ≡ get_or xs i x → typed ds place (ast_view x) sc (first_wanted (tys_view (drop j ws))) ≡ ok r
-    → before_parts es ts (typed_parts ds place (asts_from (map ast_view (drop i xs))) sc (tys_view (drop j ws))) ≡ all
-    → before_parts (es ++ r.expr ∷ []) (ts ++ r.type_of ∷ []) (typed_parts ds place (asts_from (map ast_view (drop (suc i) xs))) sc (tys_view (drop (suc j) ws))) ≡ all
-parts_more ds place sc xs i x ws j es ts r all lt e f h =
+pub parts_more : (ds : Declared) (context : Context) (sc : Scope) (xs : List Ast) (i : ℕ) (x : Ast) (ws : List Ty) (j : ℕ) (es : List PlainExpr) (ts : List PlainTy) (r : Typed) (all : Checked Parts)
+    → i < length xs → x ≡ get_or xs i x → typed ds context (ast_view x) sc (first_wanted (tys_view (drop j ws))) ≡ ok r
+    → before_parts es ts (typed_parts ds context (asts_from (map ast_view (drop i xs))) sc (tys_view (drop j ws))) ≡ all
+    → before_parts (es ++ r.expr ∷ []) (ts ++ r.type_of ∷ []) (typed_parts ds context (asts_from (map ast_view (drop (suc i) xs))) sc (tys_view (drop (suc j) ws))) ≡ all
+parts_more ds context sc xs i x ws j es ts r all lt e f h =
     let d : drop i xs ≡ x ∷ drop (suc i) xs = drop-cons xs i x lt ∙ ap (λ y. y ∷ drop (suc i) xs) (sym e) in
     let k = rw (d, f, later_there ws j) at h in
-    parts_in_front es ts r (typed_parts ds place (asts_from (map ast_view (drop (suc i) xs))) sc (tys_view (drop (suc j) ws))) ∙ k
+    parts_in_front es ts r (typed_parts ds context (asts_from (map ast_view (drop (suc i) xs))) sc (tys_view (drop (suc j) ws))) ∙ k
 
-pub items_more : (ds : Declared) (place : Place) (sc : Scope) (xs : List Ast) (i : ℕ) (x : Ast) (w : Option PlainTy) (es : List PlainExpr) (r : Typed) (all : Checked Items)
-    → i < length xs → x ≡ get_or xs i x → typed ds place (ast_view x) sc w ≡ ok r
-    → before_items es (typed_items ds place (asts_from (map ast_view (drop i xs))) sc w) ≡ all
-    → before_items (es ++ r.expr ∷ []) (typed_items ds place (asts_from (map ast_view (drop (i + 1) xs))) sc (Some r.type_of)) ≡ all
-items_more ds place sc xs i x w es r all lt e f h =
+pub items_more : (ds : Declared) (context : Context) (sc : Scope) (xs : List Ast) (i : ℕ) (x : Ast) (w : Option PlainTy) (es : List PlainExpr) (r : Typed) (all : Checked Items)
+    → i < length xs → x ≡ get_or xs i x → typed ds context (ast_view x) sc w ≡ ok r
+    → before_items es (typed_items ds context (asts_from (map ast_view (drop i xs))) sc w) ≡ all
+    → before_items (es ++ r.expr ∷ []) (typed_items ds context (asts_from (map ast_view (drop (i + 1) xs))) sc (Some r.type_of)) ≡ all
+items_more ds context sc xs i x w es r all lt e f h =
     let d : drop i xs ≡ x ∷ drop (suc i) xs = drop-cons xs i x lt ∙ ap (λ y. y ∷ drop (suc i) xs) (sym e) in
     let k = rw (d, f) at h in
-    rw (add-one i) (items_in_front es r (typed_items ds place (asts_from (map ast_view (drop (suc i) xs))) sc (Some r.type_of)) ∙ k)
+    rw (add-one i) (items_in_front es r (typed_items ds context (asts_from (map ast_view (drop (suc i) xs))) sc (Some r.type_of)) ∙ k)
 
-pub parts_step : (ds : Declared) (place : Place) (sc now : Scope) (xs : List Ast) (i j i2 j2 : ℕ) (x : Ast) (ws : List Ty) (w : Option PlainTy) (es : List Expr) (ts : List Ty) (r : program.Typed) (es2 : List Expr) (ts2 : List Ty) (all : Checked Parts)
+pub parts_step : (ds : Declared) (context : Context) (sc now : Scope) (xs : List Ast) (i j i2 j2 : ℕ) (x : Ast) (ws : List Ty) (w : Option PlainTy) (es : List Expr) (ts : List Ty) (r : program.Typed) (es2 : List Expr) (ts2 : List Ty) (all : Checked Parts)
     → now ≡ sc → w ≡ first_wanted (tys_view (drop j ws)) → es2 ≡ es ++ r.expr ∷ [] → ts2 ≡ ts ++ r.ty ∷ [] → i2 ≡ suc i → j2 ≡ suc j
-    → i < length xs → x ≡ get_or xs i x → typed ds place (ast_view x) now w ≡ ok (typed_view r)
-    → before_parts (map expr_view es) (map ty_view ts) (typed_parts ds place (asts_from (map ast_view (drop i xs))) sc (tys_view (drop j ws))) ≡ all
-    → before_parts (map expr_view es2) (map ty_view ts2) (typed_parts ds place (asts_from (map ast_view (drop i2 xs))) sc (tys_view (drop j2 ws))) ≡ all
-parts_step ds place sc now xs i j i2 j2 x ws w es ts r es2 ts2 all n v p q ii jj lt e f h =
-    let typing : typed ds place (ast_view x) sc (first_wanted (tys_view (drop j ws))) ≡ ok (typed_view r) = subst (λ u. typed ds place (ast_view x) sc u ≡ ok (typed_view r)) v (subst (λ s. typed ds place (ast_view x) s w ≡ ok (typed_view r)) n f) in
+    → i < length xs → x ≡ get_or xs i x → typed ds context (ast_view x) now w ≡ ok (typed_view r)
+    → before_parts (map expr_view es) (map ty_view ts) (typed_parts ds context (asts_from (map ast_view (drop i xs))) sc (tys_view (drop j ws))) ≡ all
+    → before_parts (map expr_view es2) (map ty_view ts2) (typed_parts ds context (asts_from (map ast_view (drop i2 xs))) sc (tys_view (drop j2 ws))) ≡ all
+parts_step ds context sc now xs i j i2 j2 x ws w es ts r es2 ts2 all n v p q ii jj lt e f h =
+    let typing : typed ds context (ast_view x) sc (first_wanted (tys_view (drop j ws))) ≡ ok (typed_view r) = subst (λ u. typed ds context (ast_view x) sc u ≡ ok (typed_view r)) v (subst (λ s. typed ds context (ast_view x) s w ≡ ok (typed_view r)) n f) in
     let es_are : map expr_view es2 ≡ map expr_view es ++ expr_view r.expr ∷ [] = ap (map expr_view) p ∙ map_more expr_view es r.expr in
     let ts_are : map ty_view ts2 ≡ map ty_view ts ++ ty_view r.ty ∷ [] = ap (map ty_view) q ∙ map_more ty_view ts r.ty in
-    rw (es_are, ts_are, ii, jj) (parts_more ds place sc xs i x ws j (map expr_view es) (map ty_view ts) (typed_view r) all lt e typing h)
+    rw (es_are, ts_are, ii, jj) (parts_more ds context sc xs i x ws j (map expr_view es) (map ty_view ts) (typed_view r) all lt e typing h)
 
-pub items_step : (ds : Declared) (place : Place) (sc now : Scope) (xs : List Ast) (i : ℕ) (x : Ast) (v w : Option PlainTy) (es : List Expr) (r : program.Typed) (es2 : List Expr) (all : Checked Items)
+pub items_step : (ds : Declared) (context : Context) (sc now : Scope) (xs : List Ast) (i : ℕ) (x : Ast) (v w : Option PlainTy) (es : List Expr) (r : program.Typed) (es2 : List Expr) (all : Checked Items)
     → now ≡ sc → v ≡ w → es2 ≡ es ++ r.expr ∷ []
-    → i < length xs → x ≡ get_or xs i x → typed ds place (ast_view x) now v ≡ ok (typed_view r)
-    → before_items (map expr_view es) (typed_items ds place (asts_from (map ast_view (drop i xs))) sc w) ≡ all
-    → before_items (map expr_view es2) (typed_items ds place (asts_from (map ast_view (drop (i + 1) xs))) sc (Some (ty_view r.ty))) ≡ all
-items_step ds place sc now xs i x v w es r es2 all n u p lt e f h =
-    let typing : typed ds place (ast_view x) sc w ≡ ok (typed_view r) = subst (λ y. typed ds place (ast_view x) sc y ≡ ok (typed_view r)) u (subst (λ s. typed ds place (ast_view x) s v ≡ ok (typed_view r)) n f) in
+    → i < length xs → x ≡ get_or xs i x → typed ds context (ast_view x) now v ≡ ok (typed_view r)
+    → before_items (map expr_view es) (typed_items ds context (asts_from (map ast_view (drop i xs))) sc w) ≡ all
+    → before_items (map expr_view es2) (typed_items ds context (asts_from (map ast_view (drop (i + 1) xs))) sc (Some (ty_view r.ty))) ≡ all
+items_step ds context sc now xs i x v w es r es2 all n u p lt e f h =
+    let typing : typed ds context (ast_view x) sc w ≡ ok (typed_view r) = subst (λ y. typed ds context (ast_view x) sc y ≡ ok (typed_view r)) u (subst (λ s. typed ds context (ast_view x) s v ≡ ok (typed_view r)) n f) in
     let es_are : map expr_view es2 ≡ map expr_view es ++ expr_view r.expr ∷ [] = ap (map expr_view) p ∙ map_more expr_view es r.expr in
-    rw es_are (items_more ds place sc xs i x w (map expr_view es) (typed_view r) all lt e typing h)
+    rw es_are (items_more ds context sc xs i x w (map expr_view es) (typed_view r) all lt e typing h)
 
 -- nothing is left
 exprs_all : (es : List PlainExpr) → exprs_before es no_exprs ≡ exprs_from es
@@ -117,12 +117,12 @@ types_all : (ts : List PlainTy) → types_before ts no_types ≡ types_from ts
 types_all [] = refl
 types_all (t ∷ ts) = ap (more_types t) (types_all ts)
 
-pub parts_done : (ds : Declared) (place : Place) (sc : Scope) (xs : List Ast) (i : ℕ) (w : PlainTys) (es : List Expr) (ts : List Ty) → length xs ≤ i → before_parts (map expr_view es) (map ty_view ts) (typed_parts ds place (asts_from (map ast_view (drop i xs))) sc w) ≡ ok (record { exprs = exprs_from (map expr_view es); types = types_from (map ty_view ts) })
-parts_done ds place sc xs i w es ts le =
+pub parts_done : (ds : Declared) (context : Context) (sc : Scope) (xs : List Ast) (i : ℕ) (w : PlainTys) (es : List Expr) (ts : List Ty) → length xs ≤ i → before_parts (map expr_view es) (map ty_view ts) (typed_parts ds context (asts_from (map ast_view (drop i xs))) sc w) ≡ ok (record { exprs = exprs_from (map expr_view es); types = types_from (map ty_view ts) })
+parts_done ds context sc xs i w es ts le =
     let d : drop i xs ≡ [] = drop_of_length-le xs le in
     rw (d, exprs_all (map expr_view es), types_all (map ty_view ts)) refl
 
-pub items_done : (ds : Declared) (place : Place) (sc : Scope) (xs : List Ast) (i : ℕ) (w : Option PlainTy) (es : List Expr) → length xs ≤ i → before_items (map expr_view es) (typed_items ds place (asts_from (map ast_view (drop i xs))) sc w) ≡ ok (record { items = exprs_from (map expr_view es); item_type = w })
-items_done ds place sc xs i w es le =
+pub items_done : (ds : Declared) (context : Context) (sc : Scope) (xs : List Ast) (i : ℕ) (w : Option PlainTy) (es : List Expr) → length xs ≤ i → before_items (map expr_view es) (typed_items ds context (asts_from (map ast_view (drop i xs))) sc w) ≡ ok (record { items = exprs_from (map expr_view es); item_type = w })
+items_done ds context sc xs i w es le =
     let d : drop i xs ≡ [] = drop_of_length-le xs le in
     rw (d, exprs_all (map expr_view es)) refl

@@ -45,8 +45,8 @@ value_stops g n a ls sc r es body is = ap (λ c. around es (c >>= λ value. mark
 
 -- ---- in the loop
 
-from_place : (vs : List LocalValue) (i : ℕ) (v : LocalValue) → i < length vs → v ≡ get_or vs i v → map local_view (drop i vs) ≡ (string_bytes v.name, ast_view v.value) ∷ map local_view (drop (i + 1) vs)
-from_place vs i v lt at =
+from_index : (vs : List LocalValue) (i : ℕ) (v : LocalValue) → i < length vs → v ≡ get_or vs i v → map local_view (drop i vs) ≡ (string_bytes v.name, ast_view v.value) ∷ map local_view (drop (i + 1) vs)
+from_index vs i v lt at =
     let rest : drop i vs ≡ v ∷ drop (i + 1) vs = rw (add-one, drop-cons vs i v lt, ← at) refl in
     ap (map local_view) rest ∙ ap (λ p. p ∷ map local_view (drop (i + 1) vs)) (view_local v)
 
@@ -55,7 +55,7 @@ pub next_value : (g : Site) (vs : List LocalValue) (i : ℕ) (v : LocalValue) (s
     → whole ≡ around es (marked_let g (locals_from (map local_view (drop i vs))) sc body) → whole ≡ around more (marked_let g (locals_from (map local_view (drop (i + 1) vs))) now body)
 next_value g vs i v sc now t es more body whole lt at is scope_is more_is before =
     before
-    ∙ ap (λ ls. around es (marked_let g (locals_from ls) sc body)) (from_place vs i v lt at)
+    ∙ ap (λ ls. around es (marked_let g (locals_from ls) sc body)) (from_index vs i v lt at)
     ∙ value_goes g (string_bytes v.name) (ast_view v.value) (map local_view (drop (i + 1) vs)) sc t es body is
     ∙ ap (λ s. around (es ++ t.expr ∷ []) (marked_let g (locals_from (map local_view (drop (i + 1) vs))) s body)) (sym scope_is)
     ∙ ap (λ xs. around xs (marked_let g (locals_from (map local_view (drop (i + 1) vs))) now body)) (sym more_is)
@@ -65,7 +65,7 @@ pub no_value : (g : Site) (vs : List LocalValue) (i : ℕ) (v : LocalValue) (sc 
     → whole ≡ around es (marked_let g (locals_from (map local_view (drop i vs))) sc body) → whole ≡ refused r
 no_value g vs i v sc r es body whole lt at is before =
     before
-    ∙ ap (λ ls. around es (marked_let g (locals_from ls) sc body)) (from_place vs i v lt at)
+    ∙ ap (λ ls. around es (marked_let g (locals_from ls) sc body)) (from_index vs i v lt at)
     ∙ value_stops g (string_bytes v.name) (ast_view v.value) (map local_view (drop (i + 1) vs)) sc r es body is
 
 -- ---- answers

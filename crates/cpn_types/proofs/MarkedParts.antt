@@ -36,8 +36,8 @@ front_alone : (ms : List ArcInscription) → ahead_of ms no_inscriptions ≡ ins
 front_alone [] = refl
 front_alone (m ∷ ms) = ap (more_inscriptions m) (front_alone ms)
 
-from_place : (ts : List Ast) (i : ℕ) (t : Ast) → i < length ts → t ≡ get_or ts i t → map ast_view (drop i ts) ≡ ast_view t ∷ map ast_view (drop (i + 1) ts)
-from_place ts i t lt at =
+from_index : (ts : List Ast) (i : ℕ) (t : Ast) → i < length ts → t ≡ get_or ts i t → map ast_view (drop i ts) ≡ ast_view t ∷ map ast_view (drop (i + 1) ts)
+from_index ts i t lt at =
     let rest : drop i ts ≡ t ∷ drop (i + 1) ts = rw (add-one, drop-cons ts i t lt, ← at) refl in
     ap (map ast_view) rest
 
@@ -46,7 +46,7 @@ pub next_part : (g : Site) (ts : List Ast) (i : ℕ) (t : Ast) (sc : Scope) (ms 
     → whole ≡ with_front ms (marked_each g (asts_from (map ast_view (drop i ts))) sc) → whole ≡ with_front more (marked_each g (asts_from (map ast_view (drop (i + 1) ts))) sc)
 next_part g ts i t sc ms more m whole lt at is more_is before =
     before
-    ∙ ap (λ xs. with_front ms (marked_each g (asts_from xs) sc)) (from_place ts i t lt at)
+    ∙ ap (λ xs. with_front ms (marked_each g (asts_from xs) sc)) (from_index ts i t lt at)
     ∙ ap (λ c. with_front ms (c >>= λ first. marked_each g (asts_from (map ast_view (drop (i + 1) ts))) sc >>= λ rest. ok (more_inscriptions first rest))) is
     ∙ front_more ms m (marked_each g (asts_from (map ast_view (drop (i + 1) ts))) sc)
     ∙ ap (λ xs. with_front xs (marked_each g (asts_from (map ast_view (drop (i + 1) ts))) sc)) (sym more_is)
@@ -77,8 +77,8 @@ arms_alone : (made : List (PlainPattern × ArcInscription)) → arms_ahead_of ma
 arms_alone [] = refl
 arms_alone (a ∷ made) = ap (more_arc_arms a.0 a.1) (arms_alone made)
 
-arm_from_place : (ts : List Arm) (i : ℕ) (t : Arm) → i < length ts → t ≡ get_or ts i t → map arm_view (drop i ts) ≡ (pat_view t.pattern, ast_view t.result) ∷ map arm_view (drop (i + 1) ts)
-arm_from_place ts i t lt at =
+arm_from_index : (ts : List Arm) (i : ℕ) (t : Arm) → i < length ts → t ≡ get_or ts i t → map arm_view (drop i ts) ≡ (pat_view t.pattern, ast_view t.result) ∷ map arm_view (drop (i + 1) ts)
+arm_from_index ts i t lt at =
     let rest : drop i ts ≡ t ∷ drop (i + 1) ts = rw (add-one, drop-cons ts i t lt, ← at) refl in
     ap (map arm_view) rest ∙ ap (λ p. p ∷ map arm_view (drop (i + 1) ts)) (view_arm t)
 
@@ -109,7 +109,7 @@ pub next_arm : (g : Site) (ts : List Arm) (i : ℕ) (arm : Arm) (sc : Scope) (t 
     → whole ≡ with_arms made (marked_arms g (arms_from (map arm_view (drop i ts))) sc t) → whole ≡ with_arms more (marked_arms g (arms_from (map arm_view (drop (i + 1) ts))) sc t)
 next_arm g ts i arm sc t made more a whole lt at is more_is before =
     before
-    ∙ ap (λ xs. with_arms made (marked_arms g (arms_from xs) sc t)) (arm_from_place ts i arm lt at)
+    ∙ ap (λ xs. with_arms made (marked_arms g (arms_from xs) sc t)) (arm_from_index ts i arm lt at)
     ∙ ap (with_arms made) (arm_first g (pat_view arm.pattern) (ast_view arm.result) (map arm_view (drop (i + 1) ts)) sc t)
     ∙ ap (λ c. with_arms made (c >>= with_others (marked_arms g (arms_from (map arm_view (drop (i + 1) ts))) sc t))) is
     ∙ arms_more made a (marked_arms g (arms_from (map arm_view (drop (i + 1) ts))) sc t)
@@ -120,7 +120,7 @@ pub no_arm : (g : Site) (ts : List Arm) (i : ℕ) (arm : Arm) (sc : Scope) (t : 
     → whole ≡ with_arms made (marked_arms g (arms_from (map arm_view (drop i ts))) sc t) → whole ≡ refused r
 no_arm g ts i arm sc t made r whole lt at is before =
     before
-    ∙ ap (λ xs. with_arms made (marked_arms g (arms_from xs) sc t)) (arm_from_place ts i arm lt at)
+    ∙ ap (λ xs. with_arms made (marked_arms g (arms_from xs) sc t)) (arm_from_index ts i arm lt at)
     ∙ ap (with_arms made) (arm_first g (pat_view arm.pattern) (ast_view arm.result) (map arm_view (drop (i + 1) ts)) sc t)
     ∙ ap (λ c. with_arms made (c >>= with_others (marked_arms g (arms_from (map arm_view (drop (i + 1) ts))) sc t))) is
 

@@ -15,7 +15,7 @@ use Rattle.cpn_forms.specs.ScopeViews.{scope_view}
 use Rattle.cpn_forms.specs.TypedViews.{typed_view}
 use Rattle.cpn_declared.specs.TypeViews.{ty_view}
 use Rattle.cpn_typing.specs.Names.{Declared, Scope, local_of, Checked, ok, refused, ◌>>=◌}
-use Rattle.cpn_typing.specs.Places.{Place}
+use Rattle.cpn_typing.specs.Contexts.{Context}
 use Rattle.cpn_typing.specs.Rules.{Typed}
 use Rattle.cpn_typing.specs.Expressions.{typed, typed_let}
 use Rattle.cpn_typing.specs.Bindings.{bind_all}
@@ -29,25 +29,25 @@ value_in_front : (es : List PlainExpr) (r : Typed) (c : Checked Typed) → aroun
 value_in_front es r (ok x) = rw (bind_more es r.expr x.expr) refl
 value_in_front es r (refused x) = refl
 
-pub value_step : (ds : Declared) (place : Place) (now next : Scope) (values : List LocalValue) (i : ℕ) (x : LocalValue) (es es2 : List PlainExpr) (r : Typed) (body : Scope → Checked Typed) (all : Checked Typed)
-    → i < length values → x ≡ get_or values i x → typed ds place (local_view x).1 now None ≡ ok r
+pub value_step : (ds : Declared) (context : Context) (now next : Scope) (values : List LocalValue) (i : ℕ) (x : LocalValue) (es es2 : List PlainExpr) (r : Typed) (body : Scope → Checked Typed) (all : Checked Typed)
+    → i < length values → x ≡ get_or values i x → typed ds context (local_view x).1 now None ≡ ok r
     → es2 ≡ es ++ r.expr ∷ [] → next ≡ now ++ local_of (local_view x).0 r.type_of ∷ []
-    → around_rest es (typed_let ds place (locals_from (map local_view (drop i values))) now body) ≡ all
-    → around_rest es2 (typed_let ds place (locals_from (map local_view (drop (i + 1) values))) next body) ≡ all
-value_step ds place now next values i x es es2 r body all lt e f y n h =
+    → around_rest es (typed_let ds context (locals_from (map local_view (drop i values))) now body) ≡ all
+    → around_rest es2 (typed_let ds context (locals_from (map local_view (drop (i + 1) values))) next body) ≡ all
+value_step ds context now next values i x es es2 r body all lt e f y n h =
     let d : drop i values ≡ x ∷ drop (suc i) values = drop-cons values i x lt ∙ ap (λ z. z ∷ drop (suc i) values) (sym e) in
     let k = rw (d, f) at h in
-    rw (add-one i, y, n) (value_in_front es r (typed_let ds place (locals_from (map local_view (drop (suc i) values))) (now ++ local_of (local_view x).0 r.type_of ∷ []) body) ∙ k)
+    rw (add-one i, y, n) (value_in_front es r (typed_let ds context (locals_from (map local_view (drop (suc i) values))) (now ++ local_of (local_view x).0 r.type_of ∷ []) body) ∙ k)
 
 -- one more value, which those behind it see
-pub values_step : (ds : Declared) (place : Place) (now now2 next : List Local) (values : List LocalValue) (i : ℕ) (x : LocalValue) (es es2 : List Expr) (r : program.Typed) (name : Bor (List ℕ)) (body : Scope → Checked Typed) (all : Checked Typed)
-    → i < length values → x ≡ get_or values i x → typed ds place (ast_view x.value) (scope_view now) None ≡ ok (typed_view r)
+pub values_step : (ds : Declared) (context : Context) (now now2 next : List Local) (values : List LocalValue) (i : ℕ) (x : LocalValue) (es es2 : List Expr) (r : program.Typed) (name : Bor (List ℕ)) (body : Scope → Checked Typed) (all : Checked Typed)
+    → i < length values → x ≡ get_or values i x → typed ds context (ast_view x.value) (scope_view now) None ≡ ok (typed_view r)
     → es2 ≡ es ++ r.expr ∷ [] → now2 ≡ now → next ≡ now2 ++ record { name = name; ty = r.ty } ∷ [] → name.now ≡ string_bytes x.name
-    → around_rest (map expr_view es) (typed_let ds place (locals_from (map local_view (drop i values))) (scope_view now) body) ≡ all
-    → around_rest (map expr_view es2) (typed_let ds place (locals_from (map local_view (drop (i + 1) values))) (scope_view next) body) ≡ all
-values_step ds place now now2 next values i x es es2 r name body all lt e f y m n s h =
-    value_step ds place (scope_view now) (scope_view next) values i x (map expr_view es) (map expr_view es2) (typed_view r) body all lt e
-    (ap (λ p. typed ds place p.1 (scope_view now) None) (view_local x) ∙ f)
+    → around_rest (map expr_view es) (typed_let ds context (locals_from (map local_view (drop i values))) (scope_view now) body) ≡ all
+    → around_rest (map expr_view es2) (typed_let ds context (locals_from (map local_view (drop (i + 1) values))) (scope_view next) body) ≡ all
+values_step ds context now now2 next values i x es es2 r name body all lt e f y m n s h =
+    value_step ds context (scope_view now) (scope_view next) values i x (map expr_view es) (map expr_view es2) (typed_view r) body all lt e
+    (ap (λ p. typed ds context p.1 (scope_view now) None) (view_local x) ∙ f)
     (ap (map expr_view) y ∙ map_more expr_view es r.expr)
     (ap scope_view n ∙ ap (λ l. scope_view (l ++ record { name = name; ty = r.ty } ∷ [])) m ∙ map_more _ now (record { name = name; ty = r.ty })
     ∙ ap (λ p. scope_view now ++ local_of p (ty_view r.ty) ∷ []) (s ∙ ap (λ p. p.0) (sym (view_local x))))

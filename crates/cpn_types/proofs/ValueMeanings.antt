@@ -7,7 +7,7 @@ use Rattle.cpn_definitions.proofs.RisingLists.{in_from_contains, contains_from_i
 use Rattle.cpn_trees.specs.Trees.{PlainAst, PlainAsts}
 use Rattle.cpn_typing.specs.Types.{PlainTy, int_type}
 use Rattle.cpn_typing.specs.Names.{Declared, ok}
-use Rattle.cpn_typing.specs.Places.{in_delay, in_monitor}
+use Rattle.cpn_typing.specs.Contexts.{in_delay, in_monitor}
 use Rattle.cpn_typing.specs.Rules.{Typed}
 use Rattle.cpn_typing.specs.Expressions.{typed}
 use Rattle.cpn_typing.specs.GuardsAndDelays.{checked_guard, checked_delay, checked_value}

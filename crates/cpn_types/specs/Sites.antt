@@ -17,7 +17,7 @@ use Rattle.cpn_typing.specs.Multisets as multisets
 use Rattle.cpn_declared.specs.Answers.{refusal_of}
 use Rattle.cpn_typing.specs.Answers.{Refuses}
 use Rattle.cpn_declared.specs.DeclsViews.{decls_view}
-use Rattle.cpn_forms.specs.PlaceViews.{side_view}
+use Rattle.cpn_forms.specs.ContextViews.{side_view}
 use Rattle.cpn_declared.specs.TypeViews.{ty_view}
 use Rattle.cpn_declared.specs.declared.refusals.TypeError.{TypeError}
 use Rattle.cpn_types.specs.declared.sites.Site.{Site}

@@ -9,7 +9,7 @@ ghost use Rattle.cpn_typing.specs.Multisets.{site_of, marked, checked_arc, check
 ghost use Rattle.cpn_types.specs.Accepted.{ArcHasMeaning, InitHasMeaning, terms_on};
 ghost use Rattle.cpn_declared.specs.Answers.{Answers};
 ghost use Rattle.cpn_declared.specs.DeclsViews.{decls_view};
-ghost use Rattle.cpn_forms.specs.PlaceViews.{side_view};
+ghost use Rattle.cpn_forms.specs.ContextViews.{side_view};
 
 use crate::sites::Site;
 use cpn_bindable::binding_terms;

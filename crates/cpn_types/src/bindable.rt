@@ -1,6 +1,6 @@
 //! Whether each variable of a transition is bindable.
 
-ghost use Rattle.std.specs.Prelude.{◌≡◌, map, slice_index_or, string_bytes, IfOk};
+ghost use Rattle.std.specs.Prelude.{◌≡◌, ◌<◌, length, map, slice_index_or, string_bytes, IfOk};
 ghost use Rattle.std.specs.List.{AllByRecursion};
 ghost use Rattle.cpn_definitions.specs.Net.{PlainNet, nothing};
 ghost use Rattle.cpn_core.specs.Nets.{variable_view, transition_view};
@@ -17,15 +17,12 @@ use std::alloc::Global;
 /// The most variables of a transition.
 const MOST_VARIABLES: usize = 32;
 
-/// A copy of the name of the variable of a number; that of what is no variable is empty.
+/// A copy of the name of the variable of a number.
 fn name_of(alloc: Global, variables: &[Variable], number: u32) -> Result<String, Memory>
+    requires there { number < length variables.now }
     ensures exact { IfOk result (λ name. string_bytes name ≡ (slice_index_or (map variable_view variables.now) number nothing).name) }
 {
-    let place = number as usize;
-    if place >= variables.len() {
-        return Ok(String::new(alloc));
-    }
-    let name = String::from_str(alloc, variables[place].name.as_str())?;
+    let name = String::from_str(alloc, variables[number as usize].name.as_str())?;
     Ok(name)
 }
 

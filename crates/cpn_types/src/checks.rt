@@ -10,29 +10,29 @@ ghost use Rattle.cpn_typing.specs.GuardsAndDelays.{checked_guard, checked_delay,
 ghost use Rattle.cpn_types.specs.Accepted.{GuardHasMeaning, IntegerHasMeaning};
 ghost use Rattle.cpn_declared.specs.Answers.{Answers};
 ghost use Rattle.cpn_declared.specs.DeclsViews.{decls_view};
-ghost use Rattle.cpn_forms.specs.PlaceViews.{place_view};
+ghost use Rattle.cpn_forms.specs.ContextViews.{context_view};
 ghost use Rattle.cpn_declared.specs.TypeViews.{ty_view};
 ghost use Rattle.cpn_forms.specs.TypedViews.{typed_view};
 
 use crate::expressions::check_expr;
 use cpn_core::{Expr, Exprs, Guard};
 use cpn_declared::{Decls, Ty, TypeError};
-use cpn_forms::{Place, Typed};
+use cpn_forms::{Context, Typed};
 use cpn_trees::{Ast, Inscription};
 use std::alloc::Global;
 
-/// The typed inscription of a tree at a place without locals.
+/// The typed inscription of a tree in a context without locals.
 fn check_alone(
     alloc: Global,
     decls: &Decls,
-    place: Place,
+    context: Context,
     tree: &Ast,
     wanted: &Ty,
 ) -> Result<Typed, TypeError>
-    ensures exact { Answers typed_view result (typed (decls_view decls.now) (place_view place) (ast_view tree.now) [] (Some (ty_view wanted.now))) }
+    ensures exact { Answers typed_view result (typed (decls_view decls.now) (context_view context) (ast_view tree.now) [] (Some (ty_view wanted.now))) }
 {
     let mut scope = Vec::new(alloc);
-    let typed = check_expr(alloc, decls, place, tree, &mut scope, Some(wanted))?;
+    let typed = check_expr(alloc, decls, context, tree, &mut scope, Some(wanted))?;
     Ok(typed)
 }
 
@@ -43,7 +43,7 @@ fn check_conjuncts(alloc: Global, decls: &Decls, trees: &[Ast]) -> Result<Exprs,
 {
     let mut conjuncts = Vec::new(alloc);
     for tree in trees {
-        let conjunct = check_alone(alloc, decls, Place::Guard, tree, &Ty::Bool)?;
+        let conjunct = check_alone(alloc, decls, Context::Guard, tree, &Ty::Bool)?;
         conjuncts.push(conjunct.expr)?;
     }
     Ok(conjuncts)
@@ -75,7 +75,7 @@ pub fn check_delay(alloc: Global, decls: &Decls, written: &Inscription) -> Resul
     ensures exact { Answers expr_view result (checked_delay (decls_view decls.now) (inscription_view written.now)) }
     ensures means { IfOk result (λ delay. IntegerHasMeaning (decls_view decls.now) (expr_view delay)) }
 {
-    let delay = check_alone(alloc, decls, Place::Delay, &written.tree, &Ty::Int)?;
+    let delay = check_alone(alloc, decls, Context::Delay, &written.tree, &Ty::Int)?;
     Ok(delay.expr)
 }
 
@@ -88,6 +88,6 @@ pub fn check_value(alloc: Global, decls: &Decls, written: &Inscription) -> Resul
     ensures exact { Answers expr_view result (checked_value (decls_view decls.now) (inscription_view written.now)) }
     ensures means { IfOk result (λ value. IntegerHasMeaning (decls_view decls.now) (expr_view value)) }
 {
-    let value = check_alone(alloc, decls, Place::Monitor, &written.tree, &Ty::Int)?;
+    let value = check_alone(alloc, decls, Context::Monitor, &written.tree, &Ty::Int)?;
     Ok(value.expr)
 }

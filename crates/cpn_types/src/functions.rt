@@ -17,7 +17,7 @@ use crate::expressions::check_expr;
 use cpn_colour_sets::type_named;
 use cpn_core::{Function, Memory};
 use cpn_declared::{Decls, Meaning, TypeError, Tys, number_of};
-use cpn_forms::{Local, Place, Typed, is_local};
+use cpn_forms::{Context, Local, Typed, is_local};
 use cpn_trees::{Ast, Parameter};
 use std::alloc::Global;
 use std::sync::Arc;
@@ -95,7 +95,7 @@ pub(crate) fn declare_value(
         return Err(TypeError::Duplicate(String::from_str(alloc, name)?));
     }
     let mut scope = Vec::new(alloc);
-    let body = check_expr(alloc, decls, Place::Function, tree, &mut scope, None)?;
+    let body = check_expr(alloc, decls, Context::Function, tree, &mut scope, None)?;
     add_call(alloc, decls, name, scope.as_slice(), body)
 }
 
@@ -119,7 +119,7 @@ pub(crate) fn declare_function(
     let body = check_expr(
         alloc,
         decls,
-        Place::Function,
+        Context::Function,
         tree,
         &mut scope,
         Some(&wanted),

@@ -24,7 +24,7 @@ use cpn_forms::{Local, TypedPattern, check_pattern};
 use cpn_trees::{Arm, Ast, Form, LocalValue};
 
 impl Site<'_> {
-    /// The inscription of tokens of a tree among the locals of its place. The locals are as they were.
+    /// The inscription of tokens of a tree among its locals. The locals are as they were.
     #[cycle(multiset)]
     pub(crate) fn tokens<'t>(
         &self,

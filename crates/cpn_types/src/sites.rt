@@ -6,11 +6,11 @@ ghost use Rattle.cpn_core.specs.Inscriptions.{expr_view, multiset_view};
 ghost use Rattle.cpn_typing.specs.Multisets.{delay_rule, stamp_rule};
 ghost use Rattle.cpn_typing.specs.Multisets as multisets;
 ghost use Rattle.cpn_declared.specs.Answers.{Answers};
-ghost use Rattle.cpn_forms.specs.PlaceViews.{side_view, place_view};
+ghost use Rattle.cpn_forms.specs.ContextViews.{side_view, context_view};
 
 use cpn_core::MExpr;
 use cpn_declared::{Decls, Ty, TypeError};
-use cpn_forms::{Place, Side, Typed};
+use cpn_forms::{Context, Side, Typed};
 use std::alloc::Global;
 
 /// What is around an inscription of tokens.
@@ -28,14 +28,14 @@ pub(crate) struct Site<'d> {
     pub(crate) timed: bool,
 }
 
-/// The place of what stands inside the inscription.
-pub(crate) fn inside(side: Side) -> Place
-    ensures exact { place_view result ≡ multisets.inside (side_view side) }
+/// The context of what stands inside the inscription.
+pub(crate) fn inside(side: Side) -> Context
+    ensures exact { context_view result ≡ multisets.inside (side_view side) }
 {
     match side {
-        Side::Input => Place::Input,
-        Side::Output => Place::Output,
-        Side::Initial => Place::Initial,
+        Side::Input => Context::Input,
+        Side::Output => Context::Output,
+        Side::Initial => Context::Initial,
     }
 }
 

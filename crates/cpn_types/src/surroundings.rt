@@ -1,4 +1,4 @@
-//! Inscriptions of one value, form by form: a tree is checked against a wanted type where its place gives one, else its type
+//! Inscriptions of one value, form by form: a tree is checked against a wanted type where its context gives one, else its type
 //! is found.
 //!
 //! The calls go down the tree, which is at most 64 deep. What is not recursive stands elsewhere, so that each of them takes
@@ -13,7 +13,7 @@ ghost use Rattle.cpn_typing.specs.Rules.{part, item_of as item_type, prefix_rule
 ghost use Rattle.cpn_declared.specs.Answers.{Answers};
 ghost use Rattle.cpn_declared.specs.DeclsViews.{decls_view};
 ghost use Rattle.cpn_forms.specs.ScopeViews.{scope_view};
-ghost use Rattle.cpn_forms.specs.PlaceViews.{place_view};
+ghost use Rattle.cpn_forms.specs.ContextViews.{context_view};
 ghost use Rattle.cpn_declared.specs.TypeViews.{ty_view, tys_view};
 ghost use Rattle.cpn_forms.specs.TypedViews.{typed_view};
 ghost use Rattle.cpn_forms.specs.FormViews.{arms_view, branches_view, items_view, parts_view, sides_view, spot_view, wanted_view};
@@ -25,7 +25,7 @@ ghost use Rattle.cpn_types.specs.Around.{typed_in, arguments_in, body_in, typed_
 use cpn_core::{Expr, Value};
 use cpn_declared::{Decls, Ty, TypeError};
 use cpn_forms::{
-    Arms, Branches, Called, Items, Local, Parts, Place, Predeclared, Sides, Spot, Typed,
+    Arms, Branches, Called, Context, Items, Local, Parts, Predeclared, Sides, Spot, Typed,
     check_name, check_pattern, check_side, check_time, chosen, constructed, copy_wanted,
     find_called, first_wanted_by, folded, function_called, is_right_first, item_of, item_wanted,
     lent, listed, meets, nested, operand_makes, operand_wanted, operation_makes, other_wanted,
@@ -35,24 +35,24 @@ use cpn_forms::{
 use cpn_trees::{Ast, Asts, Form, Infix, LocalValue, Prefix};
 use std::alloc::Global;
 
-/// What is around an inscription: what is declared, and its place.
+/// What is around an inscription: what is declared, and its context.
 #[derive(Clone, Copy)]
 pub(crate) struct Surroundings<'d> {
     /// Where memory comes from.
     pub(crate) alloc: Global,
     /// What is declared.
     pub(crate) decls: &'d Decls,
-    /// The place of the inscription.
-    pub(crate) place: Place,
+    /// The context of the inscription.
+    pub(crate) context: Context,
 }
 
-/// The type that is wanted of the part at a place, if there is one.
+/// The type that is wanted of the part at an index, if there is one.
 #[tactic(auto, using(crate::proofs::Fronts::wanted_there, crate::proofs::Fronts::none_wanted))]
-fn wanted_at(wanted: &[Ty], place: usize) -> Option<&Ty>
-    ensures exact { wanted_view result ≡ first_wanted (tys_view (drop place wanted.now)) }
+fn wanted_at(wanted: &[Ty], index: usize) -> Option<&Ty>
+    ensures exact { wanted_view result ≡ first_wanted (tys_view (drop index wanted.now)) }
 {
-    if place < wanted.len() {
-        Some(&wanted[place])
+    if index < wanted.len() {
+        Some(&wanted[index])
     } else {
         None
     }
@@ -67,7 +67,7 @@ fn copied_item(ty: &Ty, at: usize) -> Result<Ty, TypeError>
 }
 
 impl Surroundings<'_> {
-    /// The typed inscription of a tree among the locals of its place.
+    /// The typed inscription of a tree among its locals.
     #[cycle(check)]
     pub(crate) fn typed<'t>(
         &self,
@@ -90,11 +90,11 @@ impl Surroundings<'_> {
         scope: &mut Vec<Local<'t>>,
         wanted: Option<&Ty>,
     ) -> Result<Typed, TypeError>
-        ensures exact { Answers typed_view result (typed_form (decls_view self.now.decls.now) (place_view self.now.place) (form_view form.now) at (scope_view scope.old.items) (wanted_view wanted.entry)) }
+        ensures exact { Answers typed_view result (typed_form (decls_view self.now.decls.now) (context_view self.now.context) (form_view form.now) at (scope_view scope.old.items) (wanted_view wanted.entry)) }
         ensures locals { scope.new.items ≡ scope.old.items }
     {
         let spot = Spot {
-            place: self.place,
+            context: self.context,
             at,
             wanted,
         };
@@ -132,7 +132,7 @@ impl Surroundings<'_> {
                 stamp: _,
             } => {
                 let _term = self.typed(term, scope, None)?;
-                Err(self.place.misplaced_stamp(at, *sign))
+                Err(self.context.misplaced_stamp(at, *sign))
             }
             Form::Sum(parts) => {
                 let _parts = self.parts(parts, 0, scope, &[])?;
@@ -154,7 +154,7 @@ impl Surroundings<'_> {
         }
     }
 
-    /// The parts from an index on, with the types that are wanted of them by place.
+    /// The parts from an index on, with the types that are wanted of each.
     #[cycle(check)]
     fn parts<'t>(
         &self,
@@ -163,7 +163,7 @@ impl Surroundings<'_> {
         scope: &mut Vec<Local<'t>>,
         wanted: &[Ty],
     ) -> Result<Parts, TypeError>
-        ensures exact { Answers parts_view result (typed_parts (decls_view self.now.decls.now) (place_view self.now.place) (asts_from (map ast_view (drop from parts.now))) (scope_view scope.old.items) (tys_view wanted.now)) }
+        ensures exact { Answers parts_view result (typed_parts (decls_view self.now.decls.now) (context_view self.now.context) (asts_from (map ast_view (drop from parts.now))) (scope_view scope.old.items) (tys_view wanted.now)) }
         ensures locals { scope.new.items ≡ scope.old.items }
     {
         let mut exprs = Vec::new(self.alloc);
@@ -184,7 +184,7 @@ impl Surroundings<'_> {
         scope: &mut Vec<Local<'t>>,
         wanted: Option<&Ty>,
     ) -> Result<Items, TypeError>
-        ensures exact { Answers items_view result (typed_items (decls_view self.now.decls.now) (place_view self.now.place) (asts_from (map ast_view items.now)) (scope_view scope.old.items) (wanted_view wanted.entry)) }
+        ensures exact { Answers items_view result (typed_items (decls_view self.now.decls.now) (context_view self.now.context) (asts_from (map ast_view items.now)) (scope_view scope.old.items) (wanted_view wanted.entry)) }
         ensures locals { scope.new.items ≡ scope.old.items }
     {
         let mut ty = copy_wanted(wanted)?;
@@ -309,7 +309,7 @@ impl Surroundings<'_> {
         scope: &mut Vec<Local<'t>>,
         spot: Spot<'_>,
     ) -> Result<Typed, TypeError>
-        ensures exact { Answers typed_view result (typed_form (decls_view self.now.decls.now) (place_view self.now.place) (case_of (ast_view subject.now) (arms_from (map arm_view arms.now))) spot.entry.at (scope_view scope.old.items) (wanted_view spot.entry.wanted)) }
+        ensures exact { Answers typed_view result (typed_form (decls_view self.now.decls.now) (context_view self.now.context) (case_of (ast_view subject.now) (arms_from (map arm_view arms.now))) spot.entry.at (scope_view scope.old.items) (wanted_view spot.entry.wanted)) }
         ensures locals { scope.new.items ≡ scope.old.items }
     {
         let subject = self.typed(subject, scope, None)?;
@@ -326,7 +326,7 @@ impl Surroundings<'_> {
         subject: &Ty,
         wanted: Option<&Ty>,
     ) -> Result<Arms, TypeError>
-        ensures exact { Answers arms_view result (typed_arms (decls_view self.now.decls.now) (place_view self.now.place) (arms_from (map arm_view arms.now)) (scope_view scope.old.items) (ty_view subject.now) (wanted_view wanted.entry)) }
+        ensures exact { Answers arms_view result (typed_arms (decls_view self.now.decls.now) (context_view self.now.context) (arms_from (map arm_view arms.now)) (scope_view scope.old.items) (ty_view subject.now) (wanted_view wanted.entry)) }
         ensures locals { scope.new.items ≡ scope.old.items }
     {
         let mut ty = copy_wanted(wanted)?;
@@ -375,7 +375,7 @@ impl Surroundings<'_> {
         scope: &mut Vec<Local<'t>>,
         wanted: Option<&Ty>,
     ) -> Result<Typed, TypeError>
-        ensures exact { Answers typed_view result (typed_let (decls_view self.now.decls.now) (place_view self.now.place) (locals_from (map local_view values.now)) (scope_view scope.old.items) (typed_then self.now body.now (wanted_view wanted.entry))) }
+        ensures exact { Answers typed_view result (typed_let (decls_view self.now.decls.now) (context_view self.now.context) (locals_from (map local_view values.now)) (scope_view scope.old.items) (typed_then self.now body.now (wanted_view wanted.entry))) }
         ensures locals { scope.new.items ≡ scope.old.items }
     {
         let depth = scope.len();
@@ -393,7 +393,7 @@ impl Surroundings<'_> {
         scope: &mut Vec<Local<'t>>,
         wanted: Option<&Ty>,
     ) -> Result<Typed, TypeError>
-        ensures exact { Answers typed_view result (typed_let (decls_view self.now.decls.now) (place_view self.now.place) (locals_from (map local_view values.now)) (scope_view scope.old.items) (typed_then self.now body.now (wanted_view wanted.entry))) }
+        ensures exact { Answers typed_view result (typed_let (decls_view self.now.decls.now) (context_view self.now.context) (locals_from (map local_view values.now)) (scope_view scope.old.items) (typed_then self.now body.now (wanted_view wanted.entry))) }
         ensures further { length scope.old.items ≤ length scope.new.items }
         ensures outer { take (length scope.old.items) scope.new.items ≡ scope.old.items }
     {
@@ -488,7 +488,7 @@ impl Surroundings<'_> {
     }
 
     /// A call of a predeclared function.
-    #[tactic(auto, using(crate::proofs::CallFronts::first_is, crate::proofs::CallFronts::place_is, crate::proofs::CallFronts::rest_is, crate::proofs::CallFronts::none_first))]
+    #[tactic(auto, using(crate::proofs::CallFronts::first_is, crate::proofs::CallFronts::offset_is, crate::proofs::CallFronts::rest_is, crate::proofs::CallFronts::none_first))]
     #[cycle(check)]
     fn predeclared<'t>(
         &self,

@@ -12,7 +12,7 @@ use Rattle.cpn_trees.specs.Trees.{PlainAst, ast, PlainForm, empty, let_in, infix
 use Rattle.cpn_trees.specs.Trees as tree
 use Rattle.cpn_typing.specs.Types.{PlainTy, bool_type, int_type}
 use Rattle.cpn_typing.specs.Names.{Scope, Checked, ok, refused, ◌>>=◌, local_of}
-use Rattle.cpn_typing.specs.Places.{Place}
+use Rattle.cpn_typing.specs.Contexts.{Context}
 use Rattle.cpn_typing.specs.PatternRules.{typed_pattern}
 use Rattle.cpn_typing.specs.Rules.{Typed}
 use Rattle.cpn_typing.specs.Expressions.{typed}
@@ -26,15 +26,15 @@ use Rattle.cpn_typing.proofs.RulesKept.{Sound}
 use Rattle.cpn_typing.proofs.Acceptance.{accepted}
 
 -- what is accepted as an inscription of one value
-record IsAccepted (g : World) (place : Place) (sc : Scope) (w : Option PlainTy) (r : Typed) : Type 0 where
+record IsAccepted (g : World) (context : Context) (sc : Scope) (w : Option PlainTy) (r : Typed) : Type 0 where
   wanted : IsWanted w r.type_of
-  readable : AllByRecursion (IsReadable g.declared place) (variables_of r.expr)
+  readable : AllByRecursion (IsReadable g.declared context) (variables_of r.expr)
   valued : Valued g sc r.expr r.type_of
 
-accepted_is : (g : World) (place : Place) (a : PlainAst) (sc : Scope) (w : Option PlainTy) → Accepts (IsAccepted g place sc w) (typed g.declared place a sc w)
-accepted_is g place a sc w = split (typed g.declared place a sc w) (λ r is. accepted g place a sc w r is)
+accepted_is : (g : World) (context : Context) (a : PlainAst) (sc : Scope) (w : Option PlainTy) → Accepts (IsAccepted g context sc w) (typed g.declared context a sc w)
+accepted_is g context a sc w = split (typed g.declared context a sc w) (λ r is. accepted g context a sc w r is)
   where
-    split : (c : Checked Typed) → ((r : Typed) → c ≡ ok r → Sound g place sc w r) → Accepts (IsAccepted g place sc w) c
+    split : (c : Checked Typed) → ((r : Typed) → c ≡ ok r → Sound g context sc w r) → Accepts (IsAccepted g context sc w) c
     split (ok r) h = let sound = h r refl in record { wanted = sound.wanted; readable = sound.meaningful.reads; valued = sound.meaningful.means }
     split (refused r) h = tt
 

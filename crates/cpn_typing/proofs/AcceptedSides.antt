@@ -11,7 +11,7 @@ use Rattle.cpn_trees.specs.declared.operators.Prefix.TheVariants as front
 use Rattle.cpn_trees.specs.Trees.{PlainAst, ast, PlainForm, number, text, truth, empty, time, name, call, unit, tuple, list, let_in, prefixed, infixed, stamped, sum, if_else, case_of, fold, PlainAsts, no_local, more_locals}
 use Rattle.cpn_typing.specs.Types.{PlainTy, bool_type, int_type, text_type, unit_type, enumeration, union, tuples, lists, PlainTys, no_types, more_types, same_type}
 use Rattle.cpn_typing.specs.Names.{Name, a_variable, a_constant, a_constructor, a_function, Scope, Found, a_local, found, declared, Declared, Refusal, mismatch, Checked, ok, refused, ◌>>=◌, required}
-use Rattle.cpn_typing.specs.Places.{Place, is_closed, misplaced_delay, may_tell_time}
+use Rattle.cpn_typing.specs.Contexts.{Context, is_closed, misplaced_delay, may_tell_time}
 use Rattle.cpn_typing.specs.Rules.{Typed, Sides, Part, Spot, part, meets, item_wanted, list_wanted, parts_wanted, two, alike, sides, waits, any_type, ordered, a_list, item_of, part_of, part_number, both_of, on_two_of, equated, compared, joined, put_in_front, both_truths, misplaced, infix_rule, on_one_of, prefix_rule, variable_rule, name_rule, time_rule, Called, does, constructs, calls, nothing_called, called_as, Arguments, all_of, parts_of_types, on_list, predeclared_rule, argument_rule, call_rule, list_rule, if_rule, case_rule}
 use Rattle.cpn_typing.specs.Expressions.{spot_at, typed, typed_form, typed_parts, typed_items, typed_arms, typed_let}
 use Rattle.cpn_typing.proofs.Outcomes.{Accepts, accepts_then, accepts_if}
@@ -111,7 +111,7 @@ module _ (P : PlainExpr → Type 0) where
   infix_has sign.Orelse spot s a b p q k l = truths_have disjunction spot a b (λ d e g h. tt) k l
   infix_has sign.Cons spot s a b p q k l = front_has spot a b
   infix_has sign.Append spot s a b p q k l = joined_has spot a b
-  infix_has sign.Later spot s a b p q k l = misplaced_has None (Some int_type) (misplaced_delay spot.place spot.at s) a b
+  infix_has sign.Later spot s a b p q k l = misplaced_has None (Some int_type) (misplaced_delay spot.context spot.at s) a b
   infix_has sign.Times spot s a b p q k l = misplaced_has (Some int_type) None (mismatch spot.at) a b
 
   on_one_has : (t : PlainTy) (o : Operation) (spot : Spot) (a : Part) → IsOther o → Accepts Has (on_one_of t o spot a)
@@ -130,7 +130,7 @@ module _ (P : PlainExpr → Type 0) where
 
   name_has : (f : Found) (spot : Spot) (n : Name) → Accepts Has (name_rule f spot n)
   name_has (a_local k t) spot n = meets_has spot.wanted spot.at (local k) t tt
-  name_has (declared (a_variable x t)) spot n = variable_has (is_closed spot.place) x t spot n
+  name_has (declared (a_variable x t)) spot n = variable_has (is_closed spot.context) x t spot n
   name_has (declared (a_constant id k)) spot n = meets_has spot.wanted spot.at (literal (value.constant k)) (enumeration id) tt
   name_has (declared (a_constructor id k None)) spot n = meets_has spot.wanted spot.at (apply (constructing k) no_exprs) (union id) tt
   name_has (declared (a_function k no_types t)) spot n = meets_has spot.wanted spot.at (apply (calling k) no_exprs) t tt
@@ -176,35 +176,35 @@ module _ (P : PlainExpr → Type 0) where
 
   -- ---- the trees
 
-  module _ (ds : Declared) (place : Place) (sc : Scope) (each : (a : PlainAst) (w : Option PlainTy) → Accepts (λ (r : Typed). P r.expr) (typed ds place a sc w)) where
+  module _ (ds : Declared) (context : Context) (sc : Scope) (each : (a : PlainAst) (w : Option PlainTy) → Accepts (λ (r : Typed). P r.expr) (typed ds context a sc w)) where
     mutual
-      pub sides_have : (a : PlainAst) (w : Option PlainTy) → Accepts Has (typed ds place a sc w)
+      pub sides_have : (a : PlainAst) (w : Option PlainTy) → Accepts Has (typed ds context a sc w)
       sides_have (ast at form) w = form_has form at w
 
-      form_has : (form : PlainForm) (at : ℕ) (w : Option PlainTy) → Accepts Has (typed_form ds place form at sc w)
+      form_has : (form : PlainForm) (at : ℕ) (w : Option PlainTy) → Accepts Has (typed_form ds context form at sc w)
       form_has (number z) at w = meets_has w at (literal (value.int z)) int_type tt
       form_has (text bytes) at w = meets_has w at (literal (value.text bytes)) text_type tt
       form_has (truth b) at w = meets_has w at (literal (value.boolean b)) bool_type tt
       form_has unit at w = meets_has w at (literal value.unit) unit_type tt
-      form_has time at w = time_has (may_tell_time place) (spot_at place at w)
-      form_has (name n) at w = name_has (found n sc ds) (spot_at place at w) n
-      form_has (call n xs) at w = call_has (called_as (found n sc ds)) (spot_at place at w) n xs _
-      form_has (tuple xs) at w = then_any Has (typed_parts ds place xs sc (parts_wanted w)) _ (λ p. meets_has w at (apply tupling p.exprs) (tuples p.types) tt)
-      form_has (list xs) at w = then_any Has (typed_items ds place xs sc (item_wanted w)) _ (λ r. list_has (spot_at place at w) r.item_type r.items)
-      form_has (prefixed o a) at w = prefix_has o (spot_at place at w) (part a (typed ds place a sc))
+      form_has time at w = time_has (may_tell_time context) (spot_at context at w)
+      form_has (name n) at w = name_has (found n sc ds) (spot_at context at w) n
+      form_has (call n xs) at w = call_has (called_as (found n sc ds)) (spot_at context at w) n xs _
+      form_has (tuple xs) at w = then_any Has (typed_parts ds context xs sc (parts_wanted w)) _ (λ p. meets_has w at (apply tupling p.exprs) (tuples p.types) tt)
+      form_has (list xs) at w = then_any Has (typed_items ds context xs sc (item_wanted w)) _ (λ r. list_has (spot_at context at w) r.item_type r.items)
+      form_has (prefixed o a) at w = prefix_has o (spot_at context at w) (part a (typed ds context a sc))
       form_has (infixed o s a b) at w =
-          infix_has o (spot_at place at w) s (part a (typed ds place a sc)) (part b (typed ds place b sc)) (λ v. each a v) (λ v. each b v) (λ v. sides_have a v) (λ v. sides_have b v)
-      form_has (if_else c a b) at w = if_has w (part c (typed ds place c sc)) (part a (typed ds place a sc)) (part b (typed ds place b sc))
+          infix_has o (spot_at context at w) s (part a (typed ds context a sc)) (part b (typed ds context b sc)) (λ v. each a v) (λ v. each b v) (λ v. sides_have a v) (λ v. sides_have b v)
+      form_has (if_else c a b) at w = if_has w (part c (typed ds context c sc)) (part a (typed ds context a sc)) (part b (typed ds context b sc))
       form_has (case_of a arms) at w =
-          then_any Has (typed ds place a sc None) _ (λ subject. then_any Has (typed_arms ds place arms sc subject.type_of w) _ (λ r. arms_have at subject.expr r.arm_type r.arms))
+          then_any Has (typed ds context a sc None) _ (λ subject. then_any Has (typed_arms ds context arms sc subject.type_of w) _ (λ r. arms_have at subject.expr r.arm_type r.arms))
       form_has (let_in no_local body) at w = sides_have body w
       form_has (let_in (more_locals n a locals) body) at w =
-          then_any Has (typed ds place a sc None) _ (λ first. then_any Has (typed_let ds place locals _ _) _ (λ rest. tt))
+          then_any Has (typed ds context a sc None) _ (λ first. then_any Has (typed_let ds context locals _ _) _ (λ rest. tt))
       form_has (fold item total xs start body) at w =
-          then_any Has (typed ds place xs sc None) _ (λ over. then_any Has (item_of over.type_of _) _ (λ t. then_any Has (typed ds place start sc w) _ (λ s. then_any Has (typed ds place body _ (Some s.type_of)) _ (λ b. tt))))
+          then_any Has (typed ds context xs sc None) _ (λ over. then_any Has (item_of over.type_of _) _ (λ t. then_any Has (typed ds context start sc w) _ (λ s. then_any Has (typed ds context body _ (Some s.type_of)) _ (λ b. tt))))
       form_has empty at w = tt
-      form_has (sum xs) at w = then_any Has (typed_parts ds place xs sc no_types) _ (λ p. tt)
-      form_has (stamped a s z) at w = then_any Has (typed ds place a sc None) _ (λ r. tt)
+      form_has (sum xs) at w = then_any Has (typed_parts ds context xs sc no_types) _ (λ p. tt)
+      form_has (stamped a s z) at w = then_any Has (typed ds context a sc None) _ (λ r. tt)
 
 -- ---- an equation among the conjuncts
 

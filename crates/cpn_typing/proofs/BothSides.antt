@@ -10,9 +10,9 @@ use Rattle.cpn_trees.specs.Trees.{PlainAst, ast, PlainForm, number, text, truth,
 use Rattle.cpn_trees.specs.Trees as tree
 use Rattle.cpn_typing.specs.Types.{PlainTy, PlainTys, bool_type, int_type, text_type, lists, tuples, no_types, more_types, type_of_shape}
 use Rattle.cpn_typing.specs.Names.{Name, a_variable, a_constant, a_constructor, a_function, Declared, Scope, local_of, Found, a_local, predeclared, declared, nothing, found, Checked, ok, refused, ◌>>=◌}
-use Rattle.cpn_typing.specs.Places.{on_input, on_output}
+use Rattle.cpn_typing.specs.Contexts.{on_input, on_output}
 use Rattle.cpn_typing.specs.PatternRules.{typed_pattern}
-use Rattle.cpn_typing.specs.Rules.{Typed, Parts, Checker, Part, Spot, part, item_wanted, list_wanted, parts_wanted, first_wanted, later_wanted, waits, any_type, ordered, a_list, item_of, place_of, first_place, alike, sides, both_of, on_two_of, equated, compared, both_truths, infix_rule, on_one_of, prefix_rule, name_rule, Called, does, constructs, calls, nothing_called, called_as, Arguments, all_of, parts_of_types, on_list, predeclared_rule, argument_rule, call_rule}
+use Rattle.cpn_typing.specs.Rules.{Typed, Parts, Checker, Part, Spot, part, item_wanted, list_wanted, parts_wanted, first_wanted, later_wanted, waits, any_type, ordered, a_list, item_of, offset_of, first_offset, alike, sides, both_of, on_two_of, equated, compared, both_truths, infix_rule, on_one_of, prefix_rule, name_rule, Called, does, constructs, calls, nothing_called, called_as, Arguments, all_of, parts_of_types, on_list, predeclared_rule, argument_rule, call_rule}
 use Rattle.cpn_typing.specs.Expressions.{spot_at, typed, typed_form, typed_first, typed_rest, typed_parts, typed_items, typed_arms, typed_let}
 use Rattle.cpn_typing.specs.Multisets.{input, output, Site, marked, marked_form, marked_each, marked_arms, marked_let, checked_arc}
 use Rattle.cpn_typing.proofs.Outcomes.{Accepts, accepts_at}
@@ -171,7 +171,7 @@ mutual
   form_carries ds time at sc w = tt
   form_carries ds (name n) at sc w = name_carries (found n sc ds) at w n
   form_carries ds (call n xs) at sc w =
-      call_carries (called_as (found n sc ds)) at w n xs (record { first = record { at = first_place at xs; is_empty = false; check = typed_first ds on_input xs at sc }; rest = typed_rest ds on_input xs sc }) (typed_first ds on_output xs at sc) (typed_rest ds on_output xs sc)
+      call_carries (called_as (found n sc ds)) at w n xs (record { first = record { at = first_offset at xs; is_empty = false; check = typed_first ds on_input xs at sc }; rest = typed_rest ds on_input xs sc }) (typed_first ds on_output xs at sc) (typed_rest ds on_output xs sc)
       (λ v. first_carries ds xs at sc v) (λ ts. rest_carries ds xs sc ts)
   form_carries ds (tuple xs) at sc w =
       carries_then (typed_parts ds on_input xs sc (parts_wanted w)) (typed_parts ds on_output xs sc (parts_wanted w)) _ _ (parts_carry ds xs sc (parts_wanted w)) (λ p. carries_same _)
@@ -191,7 +191,7 @@ mutual
       let_carries ds locals sc (λ inner. typed ds on_input body inner w) (λ inner. typed ds on_output body inner w) (λ inner. typed_carries ds body inner w)
   form_carries ds (fold item total xs start body) at sc w =
       carries_then (typed ds on_input xs sc None) (typed ds on_output xs sc None) _ _ (typed_carries ds xs sc None)
-      (λ over. carries_then (item_of over.type_of (place_of xs)) (item_of over.type_of (place_of xs)) _ _ (carries_same (item_of over.type_of (place_of xs)))
+      (λ over. carries_then (item_of over.type_of (offset_of xs)) (item_of over.type_of (offset_of xs)) _ _ (carries_same (item_of over.type_of (offset_of xs)))
       (λ t. carries_then (typed ds on_input start sc w) (typed ds on_output start sc w) _ _ (typed_carries ds start sc w)
       (λ s. carries_then (typed ds on_input body (sc ++ local_of item t ∷ local_of total s.type_of ∷ []) (Some s.type_of)) (typed ds on_output body (sc ++ local_of item t ∷ local_of total s.type_of ∷ []) (Some s.type_of)) _ _
       (typed_carries ds body (sc ++ local_of item t ∷ local_of total s.type_of ∷ []) (Some s.type_of)) (λ b. refl))))

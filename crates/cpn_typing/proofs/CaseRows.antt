@@ -5,7 +5,7 @@ use Rattle.cpn_definitions.specs.Inscription.{listing, variable, local, apply, s
 use Rattle.cpn_trees.specs.Trees.{PlainPat, pat, any, pat_number, pat_text, pat_truth, pat_call, pat_unit, pat_tuple, pat_list, pat_cons, pats_from}
 use Rattle.cpn_typing.specs.Types.{PlainTy, unit_type, bool_type, int_type, text_type, enumeration, union, lists}
 use Rattle.cpn_typing.specs.Names.{local_of, unknown, duplicate, mismatch, Checked, ok, refused}
-use Rattle.cpn_typing.specs.Places.{in_guard}
+use Rattle.cpn_typing.specs.Contexts.{in_guard}
 use Rattle.cpn_typing.specs.PatternRules.{BoundPattern, typed_pattern}
 use Rattle.cpn_typing.specs.Expressions.{typed}
 use Rattle.cpn_typing.proofs.WorkedNames.{names, pair_type, type_wanted, type_of, num, word, empty_at, let_at, case_at, case_two, pat_word}

@@ -10,7 +10,7 @@ use Rattle.cpn_trees.specs.Trees.{PlainAst}
 use Rattle.cpn_trees.specs.DeclTrees.{PlainBody, PlainDecl, decl, PlainDeclForm, colour_set, variables, value, function}
 use Rattle.cpn_typing.specs.Types.{PlainTy, type_of_shape}
 use Rattle.cpn_typing.specs.Names.{Name, Meant, a_variable, a_constant, a_constructor, a_function, Refusal, NamedMeaning, Declared, nothing_declared, colour_named, meant_among, unknown, Scope, types_of_scope, Checked, ok, refused, ◌>>=◌, required}
-use Rattle.cpn_typing.specs.Places.{in_function}
+use Rattle.cpn_typing.specs.Contexts.{in_function}
 use Rattle.cpn_typing.specs.Rules.{Typed}
 use Rattle.cpn_typing.specs.Expressions.{typed}
 use Rattle.cpn_typing.specs.TypedValues.{Sets, HasSetsOf}

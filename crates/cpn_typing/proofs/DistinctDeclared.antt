@@ -16,7 +16,7 @@ use Rattle.cpn_trees.specs.DeclaredNames.{names_in_body, names_in_form, declared
 use Rattle.cpn_typing.specs.Types.{PlainTy}
 use Rattle.cpn_typing.specs.Names.{Name, NamedMeaning, NamedConstructor, Declared, nothing_declared, predeclared_named, duplicate, Scope, ok, accepted_if}
 use Rattle.cpn_typing.specs.ColourSets.{is_there, with_new, with_all_new, colour_names, other_names, component, components, Alternatives, alternative_of, alternatives_of, Shaped, limited, shape_of_body, with_colour}
-use Rattle.cpn_typing.specs.Places.{in_function}
+use Rattle.cpn_typing.specs.Contexts.{in_function}
 use Rattle.cpn_typing.specs.Rules.{Typed}
 use Rattle.cpn_typing.specs.Expressions.{typed}
 use Rattle.cpn_typing.specs.Declarations.{colour_of, coloured_as, variables_from, with_variables, scope_of, type_named, with_function, with_new_name, declared_form, declared}

@@ -5,7 +5,7 @@ use Rattle.cpn_trees.specs.declared.operators.Infix.TheVariants as sign
 use Rattle.cpn_trees.specs.Trees.{ast, if_else, fold, pat, any}
 use Rattle.cpn_typing.specs.Types.{bool_type, int_type, tuples, lists, types_from}
 use Rattle.cpn_typing.specs.Names.{unknown, mismatch, ok, refused}
-use Rattle.cpn_typing.specs.Places.{in_guard}
+use Rattle.cpn_typing.specs.Contexts.{in_guard}
 use Rattle.cpn_typing.specs.Rules.{two}
 use Rattle.cpn_typing.specs.Expressions.{typed}
 use Rattle.cpn_typing.proofs.WorkedNames.{names, type_wanted, type_of, num, word, between, called, tuple_at, list_at, empty_at, let_at, case_at}

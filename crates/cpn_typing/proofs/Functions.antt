@@ -12,7 +12,7 @@ use Rattle.cpn_definitions.proofs.RisingLists.{each_implied}
 use Rattle.cpn_trees.specs.Trees.{PlainAst}
 use Rattle.cpn_typing.specs.Types.{PlainTy}
 use Rattle.cpn_typing.specs.Names.{Name, Meant, a_variable, a_constant, a_constructor, a_function, NamedMeaning, Declared, meant_among, Scope, types_of_scope, ok}
-use Rattle.cpn_typing.specs.Places.{Place, in_function, is_closed}
+use Rattle.cpn_typing.specs.Contexts.{Context, in_function, is_closed}
 use Rattle.cpn_typing.specs.Rules.{Typed}
 use Rattle.cpn_typing.specs.Expressions.{typed}
 use Rattle.cpn_typing.specs.TypedValues.{Sets, of_more}
@@ -51,13 +51,13 @@ as_many sets (l ∷ sc) [] h = elim h [ ]
 as_many sets (l ∷ sc) (v ∷ vs) (of_more w ws t ts h k) = ap suc (as_many sets sc vs k)
 
 -- in a closed text no variable is read
-pub closed_reads : (ds : Declared) (place : Place) (P : ℕ → Type 0) → is_closed place ≡ true → (xs : List ℕ) → AllByRecursion (IsReadable ds place) xs → AllByRecursion P xs
-closed_reads ds place P c xs h = each_implied (IsReadable ds place) P xs (λ x r. absurd (let e : is_closed place ≡ false = r.0 in cc)) h
+pub closed_reads : (ds : Declared) (context : Context) (P : ℕ → Type 0) → is_closed context ≡ true → (xs : List ℕ) → AllByRecursion (IsReadable ds context) xs → AllByRecursion P xs
+closed_reads ds context P c xs h = each_implied (IsReadable ds context) P xs (λ x r. absurd (let e : is_closed context ≡ false = r.0 in cc)) h
 
 -- so there is none in it
-pub closed_has_no_variables : (ds : Declared) (place : Place) → is_closed place ≡ true → (xs : List ℕ) → AllByRecursion (IsReadable ds place) xs → xs ≡ []
-closed_has_no_variables ds place c [] h = refl
-closed_has_no_variables ds place c (x ∷ xs) h = absurd (let e : is_closed place ≡ false = h.0.0 in cc)
+pub closed_has_no_variables : (ds : Declared) (context : Context) → is_closed context ≡ true → (xs : List ℕ) → AllByRecursion (IsReadable ds context) xs → xs ≡ []
+closed_has_no_variables ds context c [] h = refl
+closed_has_no_variables ds context c (x ∷ xs) h = absurd (let e : is_closed context ≡ false = h.0.0 in cc)
 
 called_means : (sets : Sets) (f : Option PlainFunction) (g : PlainFunction) (s : World) (vs : List PlainValue) (t : PlainTy) → f ≡ Some g → length vs ≡ g.parameters → Gives sets t (meant g.body s.setting vs) → Gives sets t (called f s.setting vs)
 called_means sets (Some f) g s vs t e l h =

@@ -28,7 +28,7 @@ mod EmptyListRows
 mod OperatorRows
 mod CaseRows
 mod NameRows
-mod PlaceRows
+mod ContextRows
 mod BindableRows
 pub mod MeaningfulTransitions
 pub mod Answered

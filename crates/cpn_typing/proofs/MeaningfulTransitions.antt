@@ -12,7 +12,7 @@ use Rattle.cpn_trees.specs.Trees.{PlainAsts, no_ast, more_asts}
 use Rattle.cpn_trees.specs.DeclTrees.{PlainDecl}
 use Rattle.cpn_typing.specs.Types.{bool_type, int_type}
 use Rattle.cpn_typing.specs.Names.{Declared, nothing_declared, ok}
-use Rattle.cpn_typing.specs.Places.{in_guard, in_delay}
+use Rattle.cpn_typing.specs.Contexts.{in_guard, in_delay}
 use Rattle.cpn_typing.specs.Expressions.{typed}
 use Rattle.cpn_typing.specs.Declarations.{all_declared}
 use Rattle.cpn_typing.specs.Multisets.{Side, input, output}

@@ -18,7 +18,7 @@ use Rattle.cpn_definitions.proofs.RisingLists.{IsIn}
 use Rattle.cpn_trees.specs.Trees.{PlainAst, PlainAsts, no_ast, more_asts}
 use Rattle.cpn_typing.specs.Types.{PlainTy, bool_type, int_type}
 use Rattle.cpn_typing.specs.Names.{Declared, Scope, ok}
-use Rattle.cpn_typing.specs.Places.{Place, in_guard, in_delay, in_monitor}
+use Rattle.cpn_typing.specs.Contexts.{Context, in_guard, in_delay, in_monitor}
 use Rattle.cpn_typing.specs.Rules.{Typed}
 use Rattle.cpn_typing.specs.Expressions.{typed}
 use Rattle.cpn_typing.specs.TypedValues.{Sets, sets_of, HasType, of_bool, of_int}
@@ -141,10 +141,10 @@ means_so P Q (faults k) f h = tt
 means_so P Q no_meaning f h = absurd h
 
 -- an inscription that is accepted at a wanted type
-value_means : (ds : Declared) (good : IsConsistent ds) (n : PlainNet) → IsNetOf ds n → (place : Place) (a : PlainAst) (t : PlainTy) (r : Typed) → typed ds place a [] (Some t) ≡ ok r
+value_means : (ds : Declared) (good : IsConsistent ds) (n : PlainNet) → IsNetOf ds n → (context : Context) (a : PlainAst) (t : PlainTy) (r : Typed) → typed ds context a [] (Some t) ≡ ok r
     → (vars : List ℕ) → AreAmong (variables_of r.expr) vars → (b : PlainBinding) (time : ℕ) → binds n vars b ≡ true → Means (λ v. HasType (sets_of ds) v t) (meaning n.functions r.expr b time)
-value_means ds good n of place a t r is vars among b time bound =
-    let sound = accepted (world_of ds good b time) place a [] (Some t) r is in
+value_means ds good n of context a t r is vars among b time bound =
+    let sound = accepted (world_of ds good b time) context a [] (Some t) r is in
     subst (λ funs. Means (λ v. HasType (sets_of ds) v t) (meaning funs r.expr b time)) (sym of.functions_are)
     (subst (λ u. Means (λ v. HasType (sets_of ds) v u) (meaning ds.functions r.expr b time)) sound.wanted
     (sound.meaningful.means [] tt (are_bound ds good n vars b (variables_of r.expr) of bound among)))
@@ -213,14 +213,14 @@ delay_has_meaning ds good n of a delay is vars among b time bound =
 
 -- ---- what is read is declared
 
-numbered_below : (ds : Declared) → IsConsistent ds → (place : Place) (xs : List ℕ) → AllByRecursion (IsReadable ds place) xs → AllByRecursion (λ x. x < length ds.variables) xs
-numbered_below ds good place [] h = tt
-numbered_below ds good place (x ∷ xs) h = ((good.numbered h.0.1.0 x h.0.1.1.0 h.0.1.1.1).is_below, numbered_below ds good place xs h.1)
+numbered_below : (ds : Declared) → IsConsistent ds → (context : Context) (xs : List ℕ) → AllByRecursion (IsReadable ds context) xs → AllByRecursion (λ x. x < length ds.variables) xs
+numbered_below ds good context [] h = tt
+numbered_below ds good context (x ∷ xs) h = ((good.numbered h.0.1.0 x h.0.1.1.0 h.0.1.1.1).is_below, numbered_below ds good context xs h.1)
 
 -- the variables of an arc's inscription are variables that are declared
 pub arc_reads_declared : (ds : Declared) → IsConsistent ds → (side : Side) (colour : PlainColour) (a : PlainAst) (m : ArcInscription) → checked_arc ds side colour a ≡ ok m → AllByRecursion (λ x. x < length ds.variables) (inscription_variables m)
 arc_reads_declared ds good side colour a m is = numbered_below ds good (inside side) (inscription_variables m) (arc_is_readable (world_of ds good [] 0) side colour a m is)
 
 -- and so are those of an inscription of one value
-pub text_reads_declared : (ds : Declared) → IsConsistent ds → (place : Place) (a : PlainAst) (sc : Scope) (w : Option PlainTy) (r : Typed) → typed ds place a sc w ≡ ok r → AllByRecursion (λ x. x < length ds.variables) (variables_of r.expr)
-text_reads_declared ds good place a sc w r is = numbered_below ds good place (variables_of r.expr) (accepted (world_of ds good [] 0) place a sc w r is).meaningful.reads
+pub text_reads_declared : (ds : Declared) → IsConsistent ds → (context : Context) (a : PlainAst) (sc : Scope) (w : Option PlainTy) (r : Typed) → typed ds context a sc w ≡ ok r → AllByRecursion (λ x. x < length ds.variables) (variables_of r.expr)
+text_reads_declared ds good context a sc w r is = numbered_below ds good context (variables_of r.expr) (accepted (world_of ds good [] 0) context a sc w r is).meaningful.reads

@@ -6,7 +6,7 @@ use Rattle.cpn_trees.specs.declared.operators.Infix.TheVariants as sign
 use Rattle.cpn_trees.specs.Trees.{ast, text, truth, let_in, no_local, more_locals, fold}
 use Rattle.cpn_typing.specs.Types.{bool_type, int_type, text_type, enumeration, union, lists}
 use Rattle.cpn_typing.specs.Names.{unknown, mismatch, ok, refused}
-use Rattle.cpn_typing.specs.Places.{in_guard}
+use Rattle.cpn_typing.specs.Contexts.{in_guard}
 use Rattle.cpn_typing.specs.Rules.{two}
 use Rattle.cpn_typing.specs.Expressions.{typed}
 use Rattle.cpn_typing.proofs.WorkedNames.{names, pair_type, type_wanted, type_of, num, word, between, called, tuple_at, list_at, let_at}

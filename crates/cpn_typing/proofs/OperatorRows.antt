@@ -7,7 +7,7 @@ use Rattle.cpn_trees.specs.declared.operators.Prefix.TheVariants as prefix
 use Rattle.cpn_trees.specs.Trees.{ast, text, truth, unit, if_else}
 use Rattle.cpn_typing.specs.Types.{unit_type, bool_type, int_type, text_type, lists}
 use Rattle.cpn_typing.specs.Names.{unknown, mismatch, ok, refused}
-use Rattle.cpn_typing.specs.Places.{in_guard}
+use Rattle.cpn_typing.specs.Contexts.{in_guard}
 use Rattle.cpn_typing.specs.Rules.{two}
 use Rattle.cpn_typing.specs.Expressions.{typed}
 use Rattle.cpn_typing.proofs.WorkedNames.{names, type_wanted, type_of, num, word, between, front, tuple_at}

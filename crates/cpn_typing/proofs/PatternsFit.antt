@@ -139,7 +139,7 @@ applied_fits sets bound t (takes k u) inside h f =
     (λ b l. record { inner = l.inner; locals_are = l.locals_are; matches = λ v d. applied_matches sets l.inner h.0 k b.pattern u h.2 l.matches v (subst (HasType sets v) h.1 d) })
 applied_fits sets bound t (refuses r) inside h f = tt
 
--- several, against types by place and against one type
+-- several, each against its own type and all against one type
 none_match : (sets : Sets) (vs : PlainValues) → HaveTypes sets vs no_types → IfSome (matched_each no_patterns vs) (Fits sets [])
 none_match sets vs of_none = tt
 

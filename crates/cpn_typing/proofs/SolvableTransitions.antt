@@ -12,7 +12,7 @@ use Rattle.cpn_trees.specs.Trees.{PlainAst, PlainAsts, no_ast, more_asts}
 use Rattle.cpn_trees.specs.DeclTrees.{PlainDecl}
 use Rattle.cpn_typing.specs.Types.{PlainTy, bool_type}
 use Rattle.cpn_typing.specs.Names.{Declared, nothing_declared, Checked, ok, refused}
-use Rattle.cpn_typing.specs.Places.{Place, in_guard}
+use Rattle.cpn_typing.specs.Contexts.{Context, in_guard}
 use Rattle.cpn_typing.specs.Rules.{Typed}
 use Rattle.cpn_typing.specs.Expressions.{typed}
 use Rattle.cpn_typing.specs.TypedValues.{sets_of, HasType}
@@ -41,11 +41,11 @@ accepts_each P (ok x) h = h x refl
 accepts_each P (refused r) h = tt
 
 module _ (ds : Declared) (good : IsConsistent ds) (n : PlainNet) (of : IsNetOf ds n) where
-  text_has_meaning : (place : Place) (a : PlainAst) (w : Option PlainTy) (r : Typed) → typed ds place a [] w ≡ ok r → HasMeaningWhereBound n r.expr
-  text_has_meaning place a w r is xs b bound among =
+  text_has_meaning : (context : Context) (a : PlainAst) (w : Option PlainTy) (r : Typed) → typed ds context a [] w ≡ ok r → HasMeaningWhereBound n r.expr
+  text_has_meaning context a w r is xs b bound among =
       subst (λ funs. HasMeaning (meaning funs r.expr b 0)) (sym of.functions_are)
       (there_is_meaning (λ v. HasType (sets_of ds) v r.type_of) (meaning ds.functions r.expr b 0)
-      (accepted_has_meaning (world_of ds good b 0) place a [] w r [] is tt
+      (accepted_has_meaning (world_of ds good b 0) context a [] w r [] is tt
       (are_bound ds good n xs b (variables_of r.expr) of bound (λ x here. in_from_contains xs x (among x (contains_from_in (variables_of r.expr) x here))))))
 
   -- so have both sides of an equation in a conjunct of a guard

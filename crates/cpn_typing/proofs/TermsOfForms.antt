@@ -31,7 +31,7 @@ there_is_meaning P (gives x) h is = cc
 there_is_meaning P (faults f) h is = cc
 there_is_meaning P no_meaning h is = absurd h
 
--- an inscription of a multiset in a scope has terms or a fault, at each place and behind so many tokens
+-- an inscription of a multiset in a scope has terms or a fault, in each context and behind so many tokens
 abbrev pub Marked : World → Scope → ArcInscription → Type 0
 Marked g sc m = (ls : List PlainValue) → Fits g.sets sc ls → AreBound g (inscription_variables m) → (colour : PlainColour) (before : ℕ) → HasTerms (terms_behind m colour g.setting ls before)
 

@@ -5,7 +5,7 @@ use Rattle.cpn_trees.specs.declared.operators.Prefix.{Prefix}
 use Rattle.cpn_trees.specs.Trees.{PlainAst, ast, number, name, call, tuple, list, let_in, prefixed, infixed, case_of, asts_from, PlainPat, pat, pat_name, no_arm, more_arms, no_ast, no_local, more_locals}
 use Rattle.cpn_typing.specs.Types.{PlainTy, bool_type, int_type, text_type, enumeration, union, tuples, lists, types_from}
 use Rattle.cpn_typing.specs.Names.{Name, NamedMeaning, Meant, a_variable, a_constant, a_constructor, a_function, Declared, Checked, ok, ◌>>=◌}
-use Rattle.cpn_typing.specs.Places.{Place, in_guard}
+use Rattle.cpn_typing.specs.Contexts.{Context, in_guard}
 use Rattle.cpn_typing.specs.Expressions.{typed}
 
 -- colset PAIR = product INT * STRING;
@@ -35,12 +35,12 @@ names = record {
   functions = [];
 }
 
--- the type that is found of a tree at a place, at a wanted type or with none; in a guard
-abbrev pub type_wanted : Place → Option PlainTy → PlainAst → Checked PlainTy
-type_wanted place w a = typed names place a [] w >>= λ r. ok r.type_of
+-- the type that is found of a tree in a context, at a wanted type or with none; in a guard
+abbrev pub type_wanted : Context → Option PlainTy → PlainAst → Checked PlainTy
+type_wanted context w a = typed names context a [] w >>= λ r. ok r.type_of
 
-abbrev pub type_at : Place → PlainAst → Checked PlainTy
-type_at place a = type_wanted place None a
+abbrev pub type_at : Context → PlainAst → Checked PlainTy
+type_at context a = type_wanted context None a
 
 abbrev pub type_of : PlainAst → Checked PlainTy
 type_of a = type_at in_guard a

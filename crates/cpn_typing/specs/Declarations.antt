@@ -8,7 +8,7 @@ use Rattle.cpn_trees.specs.DeclTrees.{PlainParameter, PlainDecl, decl, PlainDecl
 use Rattle.cpn_typing.specs.Types.{PlainTy, type_of_shape}
 use Rattle.cpn_typing.specs.Names.{Name, a_variable, a_function, NamedMeaning, Declared, colour_named, Scope, types_of_scope, is_local, local_of, unknown, duplicate, Checked, ok, ◌>>=◌, accepted_if, required}
 use Rattle.cpn_typing.specs.ColourSets.{with_new, with_all_new, other_names, declared_colour}
-use Rattle.cpn_typing.specs.Places.{in_function}
+use Rattle.cpn_typing.specs.Contexts.{in_function}
 use Rattle.cpn_typing.specs.Rules.{Typed}
 use Rattle.cpn_typing.specs.Expressions.{typed}
 

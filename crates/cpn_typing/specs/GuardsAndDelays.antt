@@ -5,7 +5,7 @@ use Rattle.cpn_definitions.specs.Inscription.{PlainExpr}
 use Rattle.cpn_trees.specs.Trees.{PlainAst, PlainAsts, no_ast, more_asts}
 use Rattle.cpn_typing.specs.Types.{bool_type, int_type}
 use Rattle.cpn_typing.specs.Names.{Declared, Checked, ok, ◌>>=◌}
-use Rattle.cpn_typing.specs.Places.{in_guard, in_delay, in_monitor}
+use Rattle.cpn_typing.specs.Contexts.{in_guard, in_delay, in_monitor}
 use Rattle.cpn_typing.specs.Expressions.{typed}
 
 -- A guard: each of its conjuncts is a truth value.

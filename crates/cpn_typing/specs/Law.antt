@@ -9,7 +9,7 @@ use Rattle.cpn_definitions.specs.Bindable.{variables_of}
 use Rattle.cpn_trees.specs.Trees.{PlainAst}
 use Rattle.cpn_typing.specs.Types.{PlainTy, PlainTys}
 use Rattle.cpn_typing.specs.Names.{Name, Meant, a_variable, a_constant, a_constructor, a_function, NamedMeaning, Declared, meant_among, Scope, types_of_scope, Checked, ok}
-use Rattle.cpn_typing.specs.Places.{Place, in_function, is_closed}
+use Rattle.cpn_typing.specs.Contexts.{Context, in_function, is_closed}
 use Rattle.cpn_typing.specs.Rules.{Typed}
 use Rattle.cpn_typing.specs.Expressions.{typed}
 use Rattle.cpn_typing.specs.TypedValues.{Sets, HasType, HaveTypes}
@@ -56,23 +56,23 @@ IsBound sets names b x = (n : Name) (t : PlainTy) → meant_among n names ≡ So
 abbrev pub AreBound : World → List ℕ → Type 0
 AreBound g xs = AllByRecursion (IsBound g.sets g.declared.names g.setting.binding) xs
 
--- a variable of an inscription that is accepted at a place: it is declared, and the place is not closed
-abbrev pub IsReadable : Declared → Place → ℕ → Type 0
-IsReadable ds place x = (is_closed place ≡ false) × ((n : Name) × ((t : PlainTy) × (meant_among n ds.names ≡ Some (a_variable x t))))
+-- a variable of an inscription that is accepted in a context: it is declared, and the context is not closed
+abbrev pub IsReadable : Declared → Context → ℕ → Type 0
+IsReadable ds context x = (is_closed context ≡ false) × ((n : Name) × ((t : PlainTy) × (meant_among n ds.names ≡ Some (a_variable x t))))
 
 -- The law: what is accepted means a value of its type or a fault, where its variables and the locals have values of their
 -- types.
 abbrev pub AcceptedHasMeaning : Type 0
 AcceptedHasMeaning =
-    (g : World) (place : Place) (tree : PlainAst) (sc : Scope) (wanted : Option PlainTy) (r : Typed) (locals : List PlainValue) →
-    typed g.declared place tree sc wanted ≡ ok r → Fits g.sets sc locals → AreBound g (variables_of r.expr) →
+    (g : World) (context : Context) (tree : PlainAst) (sc : Scope) (wanted : Option PlainTy) (r : Typed) (locals : List PlainValue) →
+    typed g.declared context tree sc wanted ≡ ok r → Fits g.sets sc locals → AreBound g (variables_of r.expr) →
     Means (λ v. HasType g.sets v r.type_of) (meant r.expr g.setting locals)
 
 -- A tree has one answer: one typed inscription or one refusal.
 abbrev pub OneAnswer : Type 0
 OneAnswer =
-    (ds : Declared) (place : Place) (tree : PlainAst) (sc : Scope) (wanted : Option PlainTy) (a c : Checked Typed) →
-    typed ds place tree sc wanted ≡ a → typed ds place tree sc wanted ≡ c → a ≡ c
+    (ds : Declared) (context : Context) (tree : PlainAst) (sc : Scope) (wanted : Option PlainTy) (a c : Checked Typed) →
+    typed ds context tree sc wanted ≡ a → typed ds context tree sc wanted ≡ c → a ≡ c
 
 -- the type that is found is the wanted one
 abbrev pub IsWanted : Option PlainTy → PlainTy → Type 0

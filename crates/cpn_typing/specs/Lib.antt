@@ -1,6 +1,6 @@
 pub mod Types
 pub mod Names
-pub mod Places
+pub mod Contexts
 pub mod PatternRules
 pub mod Rules
 pub mod Expressions

@@ -10,7 +10,7 @@ use Rattle.cpn_trees.specs.Trees.{PlainAst, ast, PlainForm, empty, let_in, infix
 use Rattle.cpn_trees.specs.Trees as tree
 use Rattle.cpn_typing.specs.Types.{PlainTy, bool_type, int_type, type_of_shape}
 use Rattle.cpn_typing.specs.Names.{Declared, Scope, local_of, input_delay, time_not_allowed, Checked, ok, refused, ◌>>=◌}
-use Rattle.cpn_typing.specs.Places.{Place, on_input, on_output, in_marking}
+use Rattle.cpn_typing.specs.Contexts.{Context, on_input, on_output, in_marking}
 use Rattle.cpn_typing.specs.PatternRules.{typed_pattern}
 use Rattle.cpn_typing.specs.Expressions.{typed}
 
@@ -21,7 +21,7 @@ pub data Side : Type 0 where
   initial : Side
 
 -- the same, for an inscription inside it
-abbrev pub inside : Side → Place
+abbrev pub inside : Side → Context
 inside input = on_input
 inside output = on_output
 inside initial = in_marking

@@ -80,7 +80,7 @@ pub record Local : Type 0 where
   pub name : Name
   pub type_of : PlainTy
 
--- The locals of a place in the order of their numbers, the outermost first.
+-- The locals of a tree in the order of their numbers, the outermost first.
 abbrev pub Scope : Type 0
 Scope = List Local
 
@@ -107,7 +107,7 @@ abbrev pub is_local : Name → Scope → Bool
 is_local n [] = false
 is_local n (l ∷ ls) = bytes_eq n l.name || is_local n ls
 
--- What a name means at its place: a local, by its number; a predeclared function; what is declared; nothing.
+-- What a name means where it stands: a local, by its number; a predeclared function; what is declared; nothing.
 pub data Found : Type 0 where
   a_local : ℕ → PlainTy → Found
   predeclared : Operation → Found
@@ -132,7 +132,7 @@ pub data Limit : Type 0 where
   nodes : Limit
   variables : Limit
 
--- Why a text is not accepted: a name that is not there or is of another kind than its place needs; a name that its space or
+-- Why a text is not accepted: a name that is not there or is of another kind than its context needs; a name that its space or
 -- its pattern has already; a form, by its first token, whose type is not the wanted one; a variable in a closed text; a
 -- variable that is not bindable; `@+` on an input arc, by the sign; `@`, `@+` or `time` where none may stand, by the sign or
 -- word; more than a limit allows; a colour set of integers without a value.

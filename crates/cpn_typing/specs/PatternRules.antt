@@ -8,7 +8,7 @@ use Rattle.cpn_trees.specs.Trees.{PlainPat, pat, PlainPatForm, any, pat_name, pa
 use Rattle.cpn_typing.specs.Types.{PlainTy, unit_type, bool_type, int_type, text_type, enumeration, union, tuples, lists, PlainTys, no_types, more_types, same_type}
 use Rattle.cpn_typing.specs.Names.{Name, a_constant, a_constructor, Declared, Scope, local_of, Found, declared, found, is_local, Refusal, unknown, duplicate, mismatch, Checked, ok, refused, ◌>>=◌, accepted_if}
 
--- What is around a pattern: what is declared, and the locals of its place.
+-- What is around a pattern: what is declared, and its locals.
 pub record Around : Type 0 where
   pub declared : Declared
   pub scope : Scope
@@ -32,7 +32,7 @@ binding true around n t bound = refused (duplicate n)
 binding false around n t bound =
     ok (record { pattern = variable_pattern (length around.scope + length bound); locals = bound ++ local_of n t ∷ [] })
 
--- A lone name that means a constant of `with` or a constructor of `union` at its place is that one; any other binds a
+-- A lone name that means a constant of `with` or a constructor of `union` where it stands is that one; any other binds a
 -- local.
 abbrev pub name_pattern : Found → Around → ℕ → Name → PlainTy → Scope → Checked BoundPattern
 name_pattern (declared (a_constant id k)) around at n t bound =
@@ -108,7 +108,7 @@ abbrev mutual
   bound_by_first around no_pat at t bound = refused (mismatch at)
   bound_by_first around (more_pats p ps) at t bound = bound_by around p t bound
 
-  -- the parts against types by place; where there are too many or too few, the whole is refused
+  -- the parts, each against its own type; where there are too many or too few, the whole is refused
   pub bound_by_parts : Around → PlainPats → ℕ → PlainTys → Scope → Checked BoundPatterns
   bound_by_parts around no_pat at no_types bound = ok (record { patterns = no_patterns; locals = bound })
   bound_by_parts around (more_pats p ps) at (more_types t ts) bound =

@@ -1,4 +1,4 @@
--- The rule of each form of inscription, over its parts. A form is checked against a wanted type where its place gives one,
+-- The rule of each form of inscription, over its parts. A form is checked against a wanted type where its context gives one,
 -- else its type is found. The parts of a form come before its own rule, from left to right, and the first refusal counts.
 -- Source: own choice, after CPN ML.
 use Rattle.std.specs.Prelude.{ℕ, zero, suc, ℤ, pos, negsuc, Bool, true, false, not, ◌&&◌, Option, Some, None}
@@ -11,7 +11,7 @@ use Rattle.cpn_trees.specs.declared.operators.Prefix.TheVariants as front
 use Rattle.cpn_trees.specs.Trees.{PlainAst, ast, PlainForm, list, PlainAsts, no_ast, more_asts}
 use Rattle.cpn_typing.specs.Types.{PlainTy, bool_type, int_type, text_type, enumeration, union, tuples, lists, PlainTys, no_types, more_types, same_type, same_types, type_at}
 use Rattle.cpn_typing.specs.Names.{Name, a_variable, a_constant, a_constructor, a_function, Found, a_local, predeclared, declared, Refusal, unknown, mismatch, not_closed, time_not_allowed, Checked, ok, refused, ◌>>=◌, accepted_if, required}
-use Rattle.cpn_typing.specs.Places.{Place, is_closed, misplaced_delay}
+use Rattle.cpn_typing.specs.Contexts.{Context, is_closed, misplaced_delay}
 
 -- A typed inscription with its type.
 pub record Typed : Type 0 where
@@ -38,7 +38,7 @@ pub record Sides : Type 0 where
   pub right : PlainExpr
   pub side : PlainTy
 
--- A part that waits for the wanted type that its place gives it, if it gives one.
+-- A part that waits for the wanted type that its context gives it, if it gives one.
 abbrev pub Checker : Type 0
 Checker = Option PlainTy → Checked Typed
 
@@ -49,9 +49,9 @@ pub record Part : Type 0 where
   pub is_empty : Bool
   pub check : Checker
 
--- Where a form stands: its place, the offset of its first token, and the type that is wanted of it, if one is.
+-- Where a form stands: its context, the offset of its first token, and the type that is wanted of it, if one is.
 pub record Spot : Type 0 where
-  pub place : Place
+  pub context : Context
   pub at : ℕ
   pub wanted : Option PlainTy
 
@@ -98,16 +98,16 @@ abbrev pub is_empty_list : PlainAst → Bool
 is_empty_list (ast at form) = is_empty_form form
 
 -- the offset of a tree's first token, and of the first of several
-abbrev pub place_of : PlainAst → ℕ
-place_of (ast at form) = at
+abbrev pub offset_of : PlainAst → ℕ
+offset_of (ast at form) = at
 
-abbrev pub first_place : ℕ → PlainAsts → ℕ
-first_place at no_ast = at
-first_place at (more_asts a xs) = place_of a
+abbrev pub first_offset : ℕ → PlainAsts → ℕ
+first_offset at no_ast = at
+first_offset at (more_asts a xs) = offset_of a
 
 -- a tree as a part
 abbrev pub part : PlainAst → Checker → Part
-part a check = record { at = place_of a; is_empty = is_empty_list a; check = check }
+part a check = record { at = offset_of a; is_empty = is_empty_list a; check = check }
 
 -- As one side of `= <> ^^` and as a branch of `if` it takes the type of the other: on the left it waits for the right, if
 -- that is not `[]` too.
@@ -211,7 +211,7 @@ infix_rule sign.Andalso spot s a b = both_truths conjunction spot a b
 infix_rule sign.Orelse spot s a b = both_truths disjunction spot a b
 infix_rule sign.Cons spot s a b = put_in_front spot a b
 infix_rule sign.Append spot s a b = joined spot a b
-infix_rule sign.Later spot s a b = misplaced None (Some int_type) (misplaced_delay spot.place spot.at s) a b
+infix_rule sign.Later spot s a b = misplaced None (Some int_type) (misplaced_delay spot.context spot.at s) a b
 infix_rule sign.Times spot s a b = misplaced (Some int_type) None (mismatch spot.at) a b
 
 -- `#k` of a product
@@ -239,7 +239,7 @@ variable_rule false x t spot n = meets spot.wanted spot.at (variable x) t
 -- A name alone: a local, a variable, a constant, a constructor without argument, a function without parameters.
 abbrev pub name_rule : Found → Spot → Name → Checked Typed
 name_rule (a_local k t) spot n = meets spot.wanted spot.at (local k) t
-name_rule (declared (a_variable x t)) spot n = variable_rule (is_closed spot.place) x t spot n
+name_rule (declared (a_variable x t)) spot n = variable_rule (is_closed spot.context) x t spot n
 name_rule (declared (a_constant id k)) spot n = meets spot.wanted spot.at (literal (value.constant k)) (enumeration id)
 name_rule (declared (a_constructor id k None)) spot n = meets spot.wanted spot.at (apply (constructing k) no_exprs) (union id)
 name_rule (declared (a_function k no_types t)) spot n = meets spot.wanted spot.at (apply (calling k) no_exprs) t
@@ -265,7 +265,7 @@ called_as (declared (a_constructor id k (Some t))) = constructs id k t
 called_as (declared (a_function k (more_types t ts) r)) = calls k (more_types t ts) r
 called_as f = nothing_called
 
--- The arguments of a call: the first, and those behind it, each at the type that is wanted of it by its place.
+-- The arguments of a call: the first, and those behind it, each at the type that is wanted of it.
 pub record Arguments : Type 0 where
   pub first : Part
   pub rest : PlainTys → Checked Parts

@@ -59,7 +59,7 @@ abbrev mutual
   types_of_shapes no_shapes = no_types
   types_of_shapes (more_shapes s ss) = more_types (type_of_shape s) (types_of_shapes ss)
 
--- the type at a place among several, from 0
+-- the type at an index among several, from 0
 abbrev pub type_at : PlainTys → ℕ → Option PlainTy
 type_at no_types k = None
 type_at (more_types t ts) zero = Some t

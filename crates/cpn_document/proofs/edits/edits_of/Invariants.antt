@@ -10,5 +10,5 @@ use Rattle.cpn_document.proofs.edits.edits_of.Given as goal
 abbrev pub invariant-loop-number : goal.invariant-loop-number
 invariant-loop-number l = record {
   values : map edit_view l.edits.items ++ map edit_in (map view (drop l.number l.list)) ≡ map edit_in (map view l.list);
-  rest : first_broken (each_item (edit_rules l.in_phase) l.number (map view (drop l.number l.list))) ≡ first_broken (each_edit l.in_phase (map view l.list));
+  rest : first_broken (each_item (edit_rules l.version l.in_phase) l.number (map view (drop l.number l.list))) ≡ first_broken (each_edit l.version l.in_phase (map view l.list));
 }

@@ -10,5 +10,5 @@ use Rattle.cpn_document.proofs.fusions.fusions_of.Given as goal
 abbrev pub invariant-loop-number : goal.invariant-loop-number
 invariant-loop-number l = record {
   values : map fusion_view l.fusions.items ++ map fusion_in (map view (drop l.number l.list)) ≡ map fusion_in (map view l.list);
-  rest : first_broken (each_named fusion_rules l.number l.names (map view (drop l.number l.list))) ≡ first_broken (each_fusion (map view l.list));
+  rest : first_broken (each_named (fusion_rules l.version) l.number l.names (map view (drop l.number l.list))) ≡ first_broken (each_fusion l.version (map view l.list));
 }

@@ -10,5 +10,5 @@ use Rattle.cpn_document.proofs.fusions.members_of.Given as goal
 abbrev pub invariant-loop-number : goal.invariant-loop-number
 invariant-loop-number l = record {
   values : map member_view l.members.items ++ map member_in (map view (drop l.number l.list)) ≡ map member_in (map view l.list);
-  rest : first_broken (each_item (member_rules l.in_fusion) l.number (map view (drop l.number l.list))) ≡ first_broken (each_member l.in_fusion (map view l.list));
+  rest : first_broken (each_item (member_rules l.version l.in_fusion) l.number (map view (drop l.number l.list))) ≡ first_broken (each_member l.version l.in_fusion (map view l.list));
 }

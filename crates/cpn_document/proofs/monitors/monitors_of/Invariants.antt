@@ -10,5 +10,5 @@ use Rattle.cpn_document.proofs.monitors.monitors_of.Given as goal
 abbrev pub invariant-loop-number : goal.invariant-loop-number
 invariant-loop-number l = record {
   values : map monitor_view l.monitors.items ++ map monitor_in (map view (drop l.number l.list)) ≡ map monitor_in (map view l.list);
-  rest : first_broken (each_named monitor_rules l.number l.names (map view (drop l.number l.list))) ≡ first_broken (each_monitor (map view l.list));
+  rest : first_broken (each_named (monitor_rules l.version) l.number l.names (map view (drop l.number l.list))) ≡ first_broken (each_monitor l.version (map view l.list));
 }

@@ -10,5 +10,5 @@ use Rattle.cpn_document.proofs.phases.phases_of.Given as goal
 abbrev pub invariant-loop-number : goal.invariant-loop-number
 invariant-loop-number l = record {
   values : map phase_view l.phases.items ++ map phase_in (map view (drop l.number l.list)) ≡ map phase_in (map view l.list);
-  rest : first_broken (each_item phase_rules l.number (map view (drop l.number l.list))) ≡ first_broken (each_phase (map view l.list));
+  rest : first_broken (each_item (phase_rules l.version) l.number (map view (drop l.number l.list))) ≡ first_broken (each_phase l.version (map view l.list));
 }

@@ -10,5 +10,5 @@ use Rattle.cpn_document.proofs.places.places_of.Given as goal
 abbrev pub invariant-loop-number : goal.invariant-loop-number
 invariant-loop-number l = record {
   values : map place_view l.places.items ++ map place_in (map view (drop l.number l.list)) ≡ map place_in (map view l.list);
-  rest : first_broken (each_named (place_rules l.in_module) l.number l.names (map view (drop l.number l.list))) ≡ first_broken (each_place l.in_module (map view l.list));
+  rest : first_broken (each_named (place_rules l.version l.in_module) l.number l.names (map view (drop l.number l.list))) ≡ first_broken (each_place l.version l.in_module (map view l.list));
 }

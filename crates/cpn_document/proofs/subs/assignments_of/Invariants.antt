@@ -10,5 +10,5 @@ use Rattle.cpn_document.proofs.subs.assignments_of.Given as goal
 abbrev pub invariant-loop-number : goal.invariant-loop-number
 invariant-loop-number l = record {
   values : map assignment_view l.assign.items ++ map assignment_in (map view (drop l.number l.list)) ≡ map assignment_in (map view l.list);
-  rest : first_broken (each_item (assignment_rules l.in_module l.in_sub) l.number (map view (drop l.number l.list))) ≡ first_broken (each_assignment l.in_module l.in_sub (map view l.list));
+  rest : first_broken (each_item (assignment_rules l.version l.in_module l.in_sub) l.number (map view (drop l.number l.list))) ≡ first_broken (each_assignment l.version l.in_module l.in_sub (map view l.list));
 }

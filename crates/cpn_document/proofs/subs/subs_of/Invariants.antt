@@ -10,5 +10,5 @@ use Rattle.cpn_document.proofs.subs.subs_of.Given as goal
 abbrev pub invariant-loop-number : goal.invariant-loop-number
 invariant-loop-number l = record {
   values : map sub_view l.subs.items ++ map sub_in (map view (drop l.number l.list)) ≡ map sub_in (map view l.list);
-  rest : first_broken (each_named (sub_rules l.in_module) l.number l.names (map view (drop l.number l.list))) ≡ first_broken (each_sub l.in_module l.fn.names (map view l.list));
+  rest : first_broken (each_named (sub_rules l.version l.in_module) l.number l.names (map view (drop l.number l.list))) ≡ first_broken (each_sub l.version l.in_module l.fn.names (map view l.list));
 }

@@ -3,7 +3,7 @@ use Rattle.cpn_trees.specs.ParsedViews.{inscription_view}
 use Rattle.cpn_core.specs.Colours.{colour_view}
 use Rattle.cpn_declared.specs.Answers.{refusal_of}
 use Rattle.cpn_declared.specs.DeclsViews.{decls_view}
-use Rattle.cpn_forms.specs.PlaceViews.{side_view}
+use Rattle.cpn_forms.specs.ContextViews.{side_view}
 use Rattle.cpn_typing.specs.Multisets.{checked_arc}
 use Rattle.cpn_module_nets.specs.Answers.{net_refusal_of}
 use Rattle.cpn_module_nets.specs.Accepted.{arc_at}

@@ -1,5 +1,5 @@
 -- The steps are those of the definition.
-use Rattle.std.proofs.Common.{◌≡◌, ◌<◌, map, true, refl, sym, subst}
+use Rattle.std.proofs.Common.{◌≡◌, ℕ, ◌<◌, length, map, true, refl, sym, subst}
 use Rattle.std.proofs.lemmas.List.{length-map}
 use Rattle.std.proofs.lemmas.Result.{err_from_is_err_and}
 use Rattle.std.specs.List.{AllByRecursion}
@@ -9,13 +9,15 @@ use Rattle.cpn_module.specs.Hierarchy.{PlainEnds}
 use Rattle.cpn_module.specs.Views.{structure_view}
 use Rattle.cpn_module_trees.specs.TreesViews.{tree_view, transition_trees_view, module_trees_view}
 use Rattle.cpn_readings.specs.ItemByItem.{EachIs}
-use Rattle.cpn_module_nets.specs.Accepted.{bare_transition, arc_of, joined_from}
+use Rattle.cpn_module_nets.specs.Accepted.{Sides, bare_transition, arc_of, joined_from}
 use Rattle.cpn_module_nets.specs.AcceptedViews.{sides_views}
 use Rattle.cpn_module_nets.specs.Answers.{Refuses, RefusesBy, net_refusal_of}
+use Rattle.cpn_module_nets.specs.Joining.{IsAtOneOf}
 use Rattle.cpn_module_nets.specs.Nets.{net_from}
 use Rattle.cpn_module_nets.specs.Reading.{read, each_from}
 use Rattle.cpn_module_nets.specs.Transitions.{IsCompleted, HasItsTerms, AreBindable}
 use Rattle.cpn_module_nets.proofs.AcceptedTransitions.{transitions_good, good_have_terms}
+use Rattle.cpn_module_nets.proofs.ArcNodes.{at_transitions}
 use Rattle.cpn_module_nets.proofs.ReadNets.{bares_refused, arcs_refused, variables_refused, transitions_read}
 use Rattle.cpn_module_nets.proofs.nets.transitions_of.Goals as goal
 
@@ -45,6 +47,21 @@ returns-in_err-arcs c =
     record {
       reads = rw (p.1, p.2) (arcs_refused ds places m s (module_trees_view c.args.trees.now) bares bares_are o
           (subst (λ texts. Refuses o (each_from (arc_of ds places m s) 0 (map tree_view texts))) c.as_slice-2.ensures.value c.in_err-arcs.ensures.reads));
+    }
+
+pub join_arcs-requires : goal.join_arcs-requires
+join_arcs-requires c =
+    let ds = decls_view c.args.decls.now in
+    let places = map place_view c.args.places.now in
+    let m = c.args.of_module in
+    let s = structure_view c.args.structure.now in
+    let trees = module_trees_view c.args.trees.now in
+    let bares = map transition_view c.in_ok-bares.bares.items in
+    let arcs = sides_views c.in_ok-arcs.arcs.items in
+    let bares_are : each_from (bare_transition ds m) 0 trees.transitions ≡ read bares = subst (λ xs. each_from (bare_transition ds m) 0 (map transition_trees_view xs) ≡ read bares) c.as_slice.ensures.value c.in_ok-bares.ensures.reads in
+    let arcs_are : each_from (arc_of ds places m s) 0 trees.arcs ≡ read arcs = subst (λ texts. each_from (arc_of ds places m s) 0 (map tree_view texts) ≡ read arcs) c.as_slice-2.ensures.value c.in_ok-arcs.ensures.reads in
+    record {
+      there = subst (λ (many : ℕ). AllByRecursion (λ (arc : Sides). IsAtOneOf many arc.node) arcs) (length-map c.in_ok-bares.bares.items transition_view) (at_transitions ds places m s trees c.requires.together bares bares_are arcs arcs_are);
     }
 
 pub check_variables-requires : goal.check_variables-requires

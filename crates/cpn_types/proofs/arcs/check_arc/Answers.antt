@@ -3,7 +3,7 @@ use Rattle.cpn_core.specs.Colours.{colour_view}
 use Rattle.cpn_core.specs.Inscriptions.{multiset_view}
 use Rattle.cpn_trees.specs.ParsedViews.{inscription_view}
 use Rattle.cpn_declared.specs.DeclsViews.{decls_view}
-use Rattle.cpn_forms.specs.PlaceViews.{side_view}
+use Rattle.cpn_forms.specs.ContextViews.{side_view}
 use Rattle.cpn_types.proofs.TokenMeanings.{arc_has_meaning}
 use Rattle.cpn_types.proofs.arcs.check_arc.Goals as goal
 

@@ -5,7 +5,7 @@ use Rattle.cpn_trees.specs.AstViews.{local_view, locals_from, arms_from, ast_vie
 use Rattle.cpn_typing.specs.Expressions.{typed_let, typed_arms, typed_parts, typed_form, spot_at, typed_items}
 use Rattle.cpn_declared.specs.DeclsViews.{decls_view}
 use Rattle.cpn_forms.specs.ScopeViews.{scope_view}
-use Rattle.cpn_forms.specs.PlaceViews.{place_view}
+use Rattle.cpn_forms.specs.ContextViews.{context_view}
 use Rattle.cpn_forms.specs.FormViews.{wanted_view, spot_view}
 use Rattle.cpn_types.specs.Around.{typed_then, arguments_in, typed_in}
 use Rattle.cpn_types.proofs.ValueFronts.{values_step, take_front, further_front}
@@ -31,8 +31,8 @@ use Rattle.cpn_types.proofs.surroundings.Surroundings.+check.Goals as goal
 
 pub among_values-loop-local-preserved : goal.among_values-loop-local-preserved
 among_values-loop-local-preserved t c = record {
-  all = values_step (decls_view c.args.self.now.decls.now) (place_view c.args.self.now.place) c.loop-local.scope.items c.typed.new.scope.items c.push-in-loop-local.new.self.items c.args.values.now c.loop-local.local-index c.local-item.result c.loop-local.exprs.items c.push.new.self.items c.in_ok-typed.typed c.as_str.result (typed_then c.args.self.now c.args.body.now (wanted_view c.args.wanted))
-      (typed_let (decls_view c.args.self.now.decls.now) (place_view c.args.self.now.place) (locals_from (map local_view c.args.values.now)) (scope_view c.args.scope.now.items) (typed_then c.args.self.now c.args.body.now (wanted_view c.args.wanted)))
+  all = values_step (decls_view c.args.self.now.decls.now) (context_view c.args.self.now.context) c.loop-local.scope.items c.typed.new.scope.items c.push-in-loop-local.new.self.items c.args.values.now c.loop-local.local-index c.local-item.result c.loop-local.exprs.items c.push.new.self.items c.in_ok-typed.typed c.as_str.result (typed_then c.args.self.now c.args.body.now (wanted_view c.args.wanted))
+      (typed_let (decls_view c.args.self.now.decls.now) (context_view c.args.self.now.context) (locals_from (map local_view c.args.values.now)) (scope_view c.args.scope.now.items) (typed_then c.args.self.now c.args.body.now (wanted_view c.args.wanted)))
       (omega arith) c.local-item.is c.in_ok-typed.ensures.exact c.in_ok-push.ensures.items c.typed.ensures.locals c.in_ok-push-2.ensures.items c.as_str.ensures.value c.loop-local.invariant.all;
   further = further_front (length c.args.scope.now.items) c.loop-local.scope.items c.typed.new.scope.items c.push-in-loop-local.new.self.items _ c.loop-local.invariant.further c.typed.ensures.locals c.in_ok-push-2.ensures.items;
   outer = take_front (length c.args.scope.now.items) c.loop-local.scope.items c.typed.new.scope.items c.push-in-loop-local.new.self.items c.args.scope.now.items _ c.loop-local.invariant.further c.typed.ensures.locals c.in_ok-push-2.ensures.items c.loop-local.invariant.outer;
@@ -53,8 +53,8 @@ argument-returns-clause-exact t c =
 
 pub arms-loop-arm-preserved : goal.arms-loop-arm-preserved
 arms-loop-arm-preserved t c = record {
-  all = arms_step (decls_view c.args.self.now.decls.now) (place_view c.args.self.now.place) (scope_view c.args.scope.now.items) (scope_view c.loop-arm.scope.items) (ty_view c.args.subject.now) c.args.arms.now c.loop-arm.arm-index c.arm-item.result (wanted_view c.lent.result) (option_map ty_view c.loop-arm.ty) c.loop-arm.typed_arms.items c.push.new.self.items (record { pat = c.in_ok-pattern.pattern.pattern; result = c.in_ok-result.result.expr }) c.in_ok-pattern.pattern.locals.items c.in_ok-result.result
-      (typed_arms (decls_view c.args.self.now.decls.now) (place_view c.args.self.now.place) (arms_from (map trees.arm_view c.args.arms.now)) (scope_view c.args.scope.now.items) (ty_view c.args.subject.now) (wanted_view c.args.wanted))
+  all = arms_step (decls_view c.args.self.now.decls.now) (context_view c.args.self.now.context) (scope_view c.args.scope.now.items) (scope_view c.loop-arm.scope.items) (ty_view c.args.subject.now) c.args.arms.now c.loop-arm.arm-index c.arm-item.result (wanted_view c.lent.result) (option_map ty_view c.loop-arm.ty) c.loop-arm.typed_arms.items c.push.new.self.items (record { pat = c.in_ok-pattern.pattern.pattern; result = c.in_ok-result.result.expr }) c.in_ok-pattern.pattern.locals.items c.in_ok-result.result
+      (typed_arms (decls_view c.args.self.now.decls.now) (context_view c.args.self.now.context) (arms_from (map trees.arm_view c.args.arms.now)) (scope_view c.args.scope.now.items) (ty_view c.args.subject.now) (wanted_view c.args.wanted))
       (ap scope_view c.loop-arm.invariant.locals) c.lent.ensures.same c.in_ok-push.ensures.items refl (omega arith) c.arm-item.is (ap (λ s. typed_pattern (decls_view c.args.self.now.decls.now) (pat_view c.arm-item.result.pattern) (scope_view s) (ty_view c.args.subject.now)) (sym c.deref.ensures.value) ∙ c.in_ok-pattern.ensures.exact) c.in_ok-result.ensures.exact c.loop-arm.invariant.all;
   locals = c.inside.ensures.locals ∙ c.loop-arm.invariant.locals;
 }
@@ -62,7 +62,7 @@ arms-loop-arm-preserved t c = record {
 pub arms-returns-clause-exact : goal.arms-returns-clause-exact
 arms-returns-clause-exact t c =
     sym c.loop-arm.invariant.all
-    ∙ arms_done (decls_view c.args.self.now.decls.now) (place_view c.args.self.now.place) (scope_view c.args.scope.now.items) (ty_view c.args.subject.now) c.args.arms.now c.loop-arm.arm-index (option_map ty_view c.loop-arm.ty) (map inscriptions.arm_view c.loop-arm.typed_arms.items) (omega arith)
+    ∙ arms_done (decls_view c.args.self.now.decls.now) (context_view c.args.self.now.context) (scope_view c.args.scope.now.items) (ty_view c.args.subject.now) c.args.arms.now c.loop-arm.arm-index (option_map ty_view c.loop-arm.ty) (map inscriptions.arm_view c.loop-arm.typed_arms.items) (omega arith)
 
 pub call-returns-in-Predeclared-clause-exact : goal.call-returns-in-Predeclared-clause-exact
 call-returns-in-Predeclared-clause-exact t c =
@@ -80,18 +80,18 @@ call-returns-in_ok-arguments-in-Function-clause-exact t c =
     (subst (Answers typed_view c.function_called.result)
     (sym (function_is c.args.self.now c.args.arguments.now.items c.deref-in-Function.result.now c.args.spot.at c.args.scope.now.items c.in-Function.number (tys_view c.in-Function.parameters.now.items) (ty_view c.in-Function.given.now) (spot_view c.args.spot) c.args.name.now (some_there c.args.arguments.now.items (search rules)) c.deref-in-Function.ensures.value
     ∙ ap (λ p. p >>= function_makes c.in-Function.number (spot_view c.args.spot) (tys_view c.in-Function.parameters.now.items) (ty_view c.in-Function.given.now))
-    (ap (λ ts. typed_parts (decls_view c.args.self.now.decls.now) (place_view c.args.self.now.place) (asts_from (map ast_view (drop 0 c.deref-in-Function.result.now))) (scope_view c.args.scope.now.items) (tys_view ts)) (sym c.deref-in-Function-2.ensures.value) ∙ c.in_ok-arguments-in-Function.ensures.exact)))
+    (ap (λ ts. typed_parts (decls_view c.args.self.now.decls.now) (context_view c.args.self.now.context) (asts_from (map ast_view (drop 0 c.deref-in-Function.result.now))) (scope_view c.args.scope.now.items) (tys_view ts)) (sym c.deref-in-Function-2.ensures.value) ∙ c.in_ok-arguments-in-Function.ensures.exact)))
     c.function_called.ensures.exact)
 
 pub form-returns-in-Call-clause-exact : goal.form-returns-in-Call-clause-exact
 form-returns-in-Call-clause-exact t c =
-    subst (λ f. Answers typed_view c.call.result (typed_form (decls_view c.args.self.now.decls.now) (place_view c.args.self.now.place) f c.args.at (scope_view c.args.scope.now.items) (wanted_view c.args.wanted)))
+    subst (λ f. Answers typed_view c.call.result (typed_form (decls_view c.args.self.now.decls.now) (context_view c.args.self.now.context) f c.args.at (scope_view c.args.scope.now.items) (wanted_view c.args.wanted)))
     (sym (call_is c.args.form.now c.in-Call.function c.in-Call.arguments c.deref-in-Call.result.now c.in-Call.is c.deref-in-Call.ensures))
     c.call.ensures.exact
 
 pub form-returns-in-Let-clause-exact : goal.form-returns-in-Let-clause-exact
 form-returns-in-Let-clause-exact t c =
-    subst (λ f. Answers typed_view c.with_values.result (typed_form (decls_view c.args.self.now.decls.now) (place_view c.args.self.now.place) f c.args.at (scope_view c.args.scope.now.items) (wanted_view c.args.wanted)))
+    subst (λ f. Answers typed_view c.with_values.result (typed_form (decls_view c.args.self.now.decls.now) (context_view c.args.self.now.context) f c.args.at (scope_view c.args.scope.now.items) (wanted_view c.args.wanted)))
     (sym (let_is c.args.form.now c.in-Let.values c.in-Let.body c.deref-in-Let.result.now c.deref-in-Let-2.result.now c.in-Let.is c.deref-in-Let.ensures.value c.deref-in-Let-2.ensures))
     c.with_values.ensures.exact
 
@@ -99,40 +99,40 @@ pub form-returns-in-Infix-clause-exact : goal.form-returns-in-Infix-clause-exact
 form-returns-in-Infix-clause-exact t c =
     let left = part (ast_view c.deref-in-Infix.result.now) (typed_in c.args.self.now c.deref-in-Infix.result.now c.args.scope.now.items) in
     let right = part (ast_view c.deref-in-Infix-2.result.now) (typed_in c.args.self.now c.deref-in-Infix-2.result.now c.args.scope.now.items) in
-    subst (λ f. Answers typed_view c.infix.result (typed_form (decls_view c.args.self.now.decls.now) (place_view c.args.self.now.place) f c.args.at (scope_view c.args.scope.now.items) (wanted_view c.args.wanted)))
+    subst (λ f. Answers typed_view c.infix.result (typed_form (decls_view c.args.self.now.decls.now) (context_view c.args.self.now.context) f c.args.at (scope_view c.args.scope.now.items) (wanted_view c.args.wanted)))
     (sym (infix_is c.args.form.now c.in-Infix.operator c.in-Infix.sign c.in-Infix.left c.in-Infix.right c.deref-in-Infix.result.now c.deref-in-Infix-2.result.now c.in-Infix.is c.deref-in-Infix.ensures c.deref-in-Infix-2.ensures))
     (subst (Answers typed_view c.infix.result)
-    (sym (infix_apart c.in-Infix.operator (spot_at (place_view c.args.self.now.place) c.args.at (wanted_view c.args.wanted)) c.in-Infix.sign left right))
+    (sym (infix_apart c.in-Infix.operator (spot_at (context_view c.args.self.now.context) c.args.at (wanted_view c.args.wanted)) c.in-Infix.sign left right))
     c.infix.ensures.exact)
 
 pub form-returns-in-If-clause-exact : goal.form-returns-in-If-clause-exact
 form-returns-in-If-clause-exact t c =
-    subst (λ f. Answers typed_view c.branches.result (typed_form (decls_view c.args.self.now.decls.now) (place_view c.args.self.now.place) f c.args.at (scope_view c.args.scope.now.items) (wanted_view c.args.wanted)))
+    subst (λ f. Answers typed_view c.branches.result (typed_form (decls_view c.args.self.now.decls.now) (context_view c.args.self.now.context) f c.args.at (scope_view c.args.scope.now.items) (wanted_view c.args.wanted)))
     (sym (if_is c.args.form.now c.in-If.condition c.in-If.consequence c.in-If.alternative c.deref-in-If.result.now c.deref-in-If-2.result.now c.deref-in-If-3.result.now c.in-If.is c.deref-in-If.ensures c.deref-in-If-2.ensures c.deref-in-If-3.ensures))
     c.branches.ensures.exact
 
 pub form-returns-in-Prefix-clause-exact : goal.form-returns-in-Prefix-clause-exact
 form-returns-in-Prefix-clause-exact t c =
-    subst (λ f. Answers typed_view c.prefix.result (typed_form (decls_view c.args.self.now.decls.now) (place_view c.args.self.now.place) f c.args.at (scope_view c.args.scope.now.items) (wanted_view c.args.wanted)))
+    subst (λ f. Answers typed_view c.prefix.result (typed_form (decls_view c.args.self.now.decls.now) (context_view c.args.self.now.context) f c.args.at (scope_view c.args.scope.now.items) (wanted_view c.args.wanted)))
     (sym (prefix_is c.args.form.now c.in-Prefix.operator c.in-Prefix.operand c.deref-in-Prefix.result.now c.in-Prefix.is c.deref-in-Prefix.ensures))
     c.prefix.ensures.exact
 
 pub form-returns-in-Case-clause-exact : goal.form-returns-in-Case-clause-exact
 form-returns-in-Case-clause-exact t c =
-    subst (λ f. Answers typed_view c.case.result (typed_form (decls_view c.args.self.now.decls.now) (place_view c.args.self.now.place) f c.args.at (scope_view c.args.scope.now.items) (wanted_view c.args.wanted)))
+    subst (λ f. Answers typed_view c.case.result (typed_form (decls_view c.args.self.now.decls.now) (context_view c.args.self.now.context) f c.args.at (scope_view c.args.scope.now.items) (wanted_view c.args.wanted)))
     (sym (case_is c.args.form.now c.in-Case.subject c.in-Case.arms c.deref-in-Case.result.now c.deref-in-Case-2.result.now c.in-Case.is c.deref-in-Case.ensures c.deref-in-Case-2.ensures.value))
     c.case.ensures.exact
 
 pub form-returns-in-Fold-clause-exact : goal.form-returns-in-Fold-clause-exact
 form-returns-in-Fold-clause-exact t c =
-    subst (λ f. Answers typed_view c.fold.result (typed_form (decls_view c.args.self.now.decls.now) (place_view c.args.self.now.place) f c.args.at (scope_view c.args.scope.now.items) (wanted_view c.args.wanted)))
+    subst (λ f. Answers typed_view c.fold.result (typed_form (decls_view c.args.self.now.decls.now) (context_view c.args.self.now.context) f c.args.at (scope_view c.args.scope.now.items) (wanted_view c.args.wanted)))
     (sym (fold_is c.args.form.now c.in-Fold.item c.in-Fold.sum c.in-Fold.list c.in-Fold.start c.in-Fold.body c.deref-in-Fold.result.now c.deref-in-Fold-2.result.now c.deref-in-Fold-3.result.now c.deref-in-Fold-4.result.now c.deref-in-Fold-5.result.now c.in-Fold.is c.deref-in-Fold.ensures c.deref-in-Fold-2.ensures c.deref-in-Fold-3.ensures c.deref-in-Fold-4.ensures c.deref-in-Fold-5.ensures))
     c.fold.ensures.exact
 
 pub items-loop-tree-preserved : goal.items-loop-tree-preserved
 items-loop-tree-preserved t c = record {
-  all = items_step (decls_view c.args.self.now.decls.now) (place_view c.args.self.now.place) (scope_view c.args.scope.now.items) (scope_view c.loop-tree.scope.items) c.args.items.now c.loop-tree.tree-index c.tree-item.result (wanted_view c.lent.result) (option_map ty_view c.loop-tree.ty) c.loop-tree.exprs.items c.in_ok-typed.typed c.push.new.self.items
-      (typed_items (decls_view c.args.self.now.decls.now) (place_view c.args.self.now.place) (asts_from (map ast_view c.args.items.now)) (scope_view c.args.scope.now.items) (wanted_view c.args.wanted))
+  all = items_step (decls_view c.args.self.now.decls.now) (context_view c.args.self.now.context) (scope_view c.args.scope.now.items) (scope_view c.loop-tree.scope.items) c.args.items.now c.loop-tree.tree-index c.tree-item.result (wanted_view c.lent.result) (option_map ty_view c.loop-tree.ty) c.loop-tree.exprs.items c.in_ok-typed.typed c.push.new.self.items
+      (typed_items (decls_view c.args.self.now.decls.now) (context_view c.args.self.now.context) (asts_from (map ast_view c.args.items.now)) (scope_view c.args.scope.now.items) (wanted_view c.args.wanted))
       (ap scope_view c.loop-tree.invariant.locals) c.lent.ensures.same c.in_ok-push.ensures.items (omega arith) c.tree-item.is c.in_ok-typed.ensures.exact c.loop-tree.invariant.all;
   locals = c.typed.ensures.locals ∙ c.loop-tree.invariant.locals;
 }
@@ -140,13 +140,13 @@ items-loop-tree-preserved t c = record {
 pub items-returns-clause-exact : goal.items-returns-clause-exact
 items-returns-clause-exact t c =
     sym c.loop-tree.invariant.all
-    ∙ items_done (decls_view c.args.self.now.decls.now) (place_view c.args.self.now.place) (scope_view c.args.scope.now.items) c.args.items.now c.loop-tree.tree-index (option_map ty_view c.loop-tree.ty) c.loop-tree.exprs.items (omega arith)
+    ∙ items_done (decls_view c.args.self.now.decls.now) (context_view c.args.self.now.context) (scope_view c.args.scope.now.items) c.args.items.now c.loop-tree.tree-index (option_map ty_view c.loop-tree.ty) c.loop-tree.exprs.items (omega arith)
 
 pub parts-loop-index-preserved : goal.parts-loop-index-preserved
 parts-loop-index-preserved t c = record {
   behind = omega arith;
-  all = parts_step (decls_view c.args.self.now.decls.now) (place_view c.args.self.now.place) (scope_view c.args.scope.now.items) (scope_view c.loop-index.scope.items) c.args.parts.now c.loop-index.index (c.loop-index.index - c.args.from) (c.loop-index.index + 1) (c.loop-index.index + 1 - c.args.from) c.index-parts-index.result c.args.wanted.now (wanted_view c.wanted_at.result) c.loop-index.exprs.items c.loop-index.types.items c.in_ok-typed.typed c.push.new.self.items c.push-in-loop-index.new.self.items
-      (typed_parts (decls_view c.args.self.now.decls.now) (place_view c.args.self.now.place) (asts_from (map ast_view (drop c.args.from c.args.parts.now))) (scope_view c.args.scope.now.items) (tys_view c.args.wanted.now))
+  all = parts_step (decls_view c.args.self.now.decls.now) (context_view c.args.self.now.context) (scope_view c.args.scope.now.items) (scope_view c.loop-index.scope.items) c.args.parts.now c.loop-index.index (c.loop-index.index - c.args.from) (c.loop-index.index + 1) (c.loop-index.index + 1 - c.args.from) c.index-parts-index.result c.args.wanted.now (wanted_view c.wanted_at.result) c.loop-index.exprs.items c.loop-index.types.items c.in_ok-typed.typed c.push.new.self.items c.push-in-loop-index.new.self.items
+      (typed_parts (decls_view c.args.self.now.decls.now) (context_view c.args.self.now.context) (asts_from (map ast_view (drop c.args.from c.args.parts.now))) (scope_view c.args.scope.now.items) (tys_view c.args.wanted.now))
       (ap scope_view c.loop-index.invariant.locals) c.wanted_at.ensures.exact c.in_ok-push.ensures.items c.in_ok-push-2.ensures.items (omega arith) (omega arith) (omega arith) c.index-parts-index.is c.in_ok-typed.ensures.exact c.loop-index.invariant.all;
   locals = c.typed.ensures.locals ∙ c.loop-index.invariant.locals;
 }
@@ -154,7 +154,7 @@ parts-loop-index-preserved t c = record {
 pub parts-returns-clause-exact : goal.parts-returns-clause-exact
 parts-returns-clause-exact t c =
     sym c.loop-index.invariant.all
-    ∙ parts_done (decls_view c.args.self.now.decls.now) (place_view c.args.self.now.place) (scope_view c.args.scope.now.items) c.args.parts.now c.loop-index.index (tys_view (drop (c.loop-index.index - c.args.from) c.args.wanted.now)) c.loop-index.exprs.items c.loop-index.types.items (omega arith)
+    ∙ parts_done (decls_view c.args.self.now.decls.now) (context_view c.args.self.now.context) (scope_view c.args.scope.now.items) c.args.parts.now c.loop-index.index (tys_view (drop (c.loop-index.index - c.args.from) c.args.wanted.now)) c.loop-index.exprs.items c.loop-index.types.items (omega arith)
 
 pub fold-returns-in_err-body-clause-exact : goal.fold-returns-in_err-body-clause-exact
 fold-returns-in_err-body-clause-exact t c =

@@ -6,7 +6,7 @@ use Rattle.cpn_core.specs.Inscriptions.{expr_view}
 use Rattle.cpn_typing.specs.Expressions.{typed_let, typed_arms, typed_items, typed_parts}
 use Rattle.cpn_declared.specs.DeclsViews.{decls_view}
 use Rattle.cpn_forms.specs.ScopeViews.{scope_view}
-use Rattle.cpn_forms.specs.PlaceViews.{place_view}
+use Rattle.cpn_forms.specs.ContextViews.{context_view}
 use Rattle.cpn_forms.specs.FormViews.{wanted_view}
 use Rattle.cpn_types.specs.Around.{typed_then}
 use Rattle.cpn_types.proofs.ValueFronts.{around_rest}
@@ -25,31 +25,31 @@ use Rattle.cpn_types.proofs.surroundings.Surroundings.+check.Given as goal
 
 abbrev pub invariant-among_values-loop-local : goal.invariant-among_values-loop-local
 invariant-among_values-loop-local l = record {
-  all : around_rest (map expr_view l.exprs.items) (typed_let (decls_view l.self.decls.now) (place_view l.self.place) (locals_from (map local_view (drop l.local-index l.values))) (scope_view l.scope.items) (typed_then l.self l.body (wanted_view l.fn.wanted)))
-      ≡ typed_let (decls_view l.self.decls.now) (place_view l.self.place) (locals_from (map local_view l.values)) (scope_view l.fn.scope.items) (typed_then l.self l.body (wanted_view l.fn.wanted));
+  all : around_rest (map expr_view l.exprs.items) (typed_let (decls_view l.self.decls.now) (context_view l.self.context) (locals_from (map local_view (drop l.local-index l.values))) (scope_view l.scope.items) (typed_then l.self l.body (wanted_view l.fn.wanted)))
+      ≡ typed_let (decls_view l.self.decls.now) (context_view l.self.context) (locals_from (map local_view l.values)) (scope_view l.fn.scope.items) (typed_then l.self l.body (wanted_view l.fn.wanted));
   further : length l.fn.scope.items ≤ length l.scope.items;
   outer : take (length l.fn.scope.items) l.scope.items ≡ l.fn.scope.items;
 }
 
 abbrev pub invariant-arms-loop-arm : goal.invariant-arms-loop-arm
 invariant-arms-loop-arm l = record {
-  all : before_arms (map inscriptions.arm_view l.typed_arms.items) (typed_arms (decls_view l.self.decls.now) (place_view l.self.place) (arms_from (map trees.arm_view (drop l.arm-index l.arms))) (scope_view l.fn.scope.items) (ty_view l.subject) (option_map ty_view l.ty))
-      ≡ typed_arms (decls_view l.self.decls.now) (place_view l.self.place) (arms_from (map trees.arm_view l.arms)) (scope_view l.fn.scope.items) (ty_view l.subject) (wanted_view l.fn.wanted);
+  all : before_arms (map inscriptions.arm_view l.typed_arms.items) (typed_arms (decls_view l.self.decls.now) (context_view l.self.context) (arms_from (map trees.arm_view (drop l.arm-index l.arms))) (scope_view l.fn.scope.items) (ty_view l.subject) (option_map ty_view l.ty))
+      ≡ typed_arms (decls_view l.self.decls.now) (context_view l.self.context) (arms_from (map trees.arm_view l.arms)) (scope_view l.fn.scope.items) (ty_view l.subject) (wanted_view l.fn.wanted);
   locals : l.scope.items ≡ l.fn.scope.items;
 }
 
 abbrev pub invariant-items-loop-tree : goal.invariant-items-loop-tree
 invariant-items-loop-tree l = record {
-  all : before_items (map expr_view l.exprs.items) (typed_items (decls_view l.self.decls.now) (place_view l.self.place) (asts_from (map ast_view (drop l.tree-index l.items))) (scope_view l.fn.scope.items) (option_map ty_view l.ty))
-      ≡ typed_items (decls_view l.self.decls.now) (place_view l.self.place) (asts_from (map ast_view l.items)) (scope_view l.fn.scope.items) (wanted_view l.fn.wanted);
+  all : before_items (map expr_view l.exprs.items) (typed_items (decls_view l.self.decls.now) (context_view l.self.context) (asts_from (map ast_view (drop l.tree-index l.items))) (scope_view l.fn.scope.items) (option_map ty_view l.ty))
+      ≡ typed_items (decls_view l.self.decls.now) (context_view l.self.context) (asts_from (map ast_view l.items)) (scope_view l.fn.scope.items) (wanted_view l.fn.wanted);
   locals : l.scope.items ≡ l.fn.scope.items;
 }
 
 abbrev pub invariant-parts-loop-index : goal.invariant-parts-loop-index
 invariant-parts-loop-index l = record {
   behind : l.from ≤ l.index;
-  all : before_parts (map expr_view l.exprs.items) (map ty_view l.types.items) (typed_parts (decls_view l.self.decls.now) (place_view l.self.place) (asts_from (map ast_view (drop l.index l.parts))) (scope_view l.fn.scope.items) (tys_view (drop (l.index - l.from) l.wanted)))
-      ≡ typed_parts (decls_view l.self.decls.now) (place_view l.self.place) (asts_from (map ast_view (drop l.from l.parts))) (scope_view l.fn.scope.items) (tys_view l.wanted);
+  all : before_parts (map expr_view l.exprs.items) (map ty_view l.types.items) (typed_parts (decls_view l.self.decls.now) (context_view l.self.context) (asts_from (map ast_view (drop l.index l.parts))) (scope_view l.fn.scope.items) (tys_view (drop (l.index - l.from) l.wanted)))
+      ≡ typed_parts (decls_view l.self.decls.now) (context_view l.self.context) (asts_from (map ast_view (drop l.from l.parts))) (scope_view l.fn.scope.items) (tys_view l.wanted);
   locals : l.scope.items ≡ l.fn.scope.items;
 }
 

@@ -3,10 +3,10 @@ use Rattle.std.specs.Prelude.{ℕ, suc, ◌==◌, Bool, if◌then◌else◌, Lis
 use Rattle.std.specs.Option.{option_map, is_some}
 use Rattle.cpn_stages.specs.Partial.{PlainPartial}
 
--- the place of a variable among the pairs, from 0
-abbrev pub place_in : ℕ → PlainPartial → Option ℕ
-place_in x [] = None
-place_in x (pair ∷ b) = if x == pair.0 then Some 0 else option_map (λ (k : ℕ). suc k) (place_in x b)
+-- the index of a variable among the pairs, from 0
+abbrev pub index_among : ℕ → PlainPartial → Option ℕ
+index_among x [] = None
+index_among x (pair ∷ b) = if x == pair.0 then Some 0 else option_map (λ (k : ℕ). suc k) (index_among x b)
 
 -- of which of the variables the value is known
 abbrev pub known_in : PlainPartial → List Bool

@@ -1,11 +1,11 @@
--- Rows: what may stand at a place: variables, `time`, and the forms of multisets, which are no inscriptions of one value.
+-- Rows: what may stand in a context: variables, `time`, and the forms of multisets, which are no inscriptions of one value.
 use Rattle.std.proofs.Common.{◌≡◌, refl, pos, [], ◌∷◌, Some, None, codes}
 use Rattle.cpn_definitions.specs.Inscription.{the_time}
 use Rattle.cpn_trees.specs.declared.operators.Infix.TheVariants as sign
 use Rattle.cpn_trees.specs.Trees.{PlainAst, ast, empty, time, stamped, sum, asts_from}
 use Rattle.cpn_typing.specs.Types.{bool_type, int_type}
 use Rattle.cpn_typing.specs.Names.{unknown, mismatch, not_closed, time_not_allowed, ok, refused}
-use Rattle.cpn_typing.specs.Places.{in_function, on_input, on_output, in_marking, in_guard, in_delay, in_monitor}
+use Rattle.cpn_typing.specs.Contexts.{in_function, on_input, on_output, in_marking, in_guard, in_delay, in_monitor}
 use Rattle.cpn_typing.specs.Expressions.{typed}
 use Rattle.cpn_typing.proofs.WorkedNames.{names, type_wanted, type_at, num, word, between, called, tuple_at}
 

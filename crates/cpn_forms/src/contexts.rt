@@ -1,6 +1,6 @@
 //! Where an inscription stands.
 
-/// The place of a multiset inscription.
+/// The context of a multiset inscription.
 #[derive(Clone, Copy, Debug, PartialEq, Eq)]
 pub enum Side {
     /// An arc into its transition.
@@ -11,9 +11,9 @@ pub enum Side {
     Initial,
 }
 
-/// The place of an inscription of one value.
+/// The context of an inscription of one value.
 #[derive(Clone, Copy, Debug, PartialEq, Eq)]
-pub enum Place {
+pub enum Context {
     /// The text of a `val` or a `fun`.
     Function,
     /// Within the inscription of an arc into its transition.

@@ -1,0 +1,12 @@
+-- The names are new, and the variables are added.
+use Rattle.std.proofs.Common.{map, string_bytes}
+use Rattle.cpn_core.specs.Colours.{colour_view}
+use Rattle.cpn_declared.specs.DeclsViews.{decls_view}
+use Rattle.cpn_declared.specs.TypeViews.{ty_view}
+use Rattle.cpn_colour_sets.proofs.NameLists.{variables_declared}
+use Rattle.cpn_colour_sets.proofs.colour_sets.declare_coloured.Goals as goal
+
+pub returns-clause-exact : goal.returns-clause-exact
+returns-clause-exact c =
+    variables_declared (decls_view c.args.decls.now) (decls_view c.add_names.new.decls) (decls_view c.add_coloured.new.decls) (map string_bytes c.args.names.now) (colour_view c.args.colour.now) (ty_view c.in_ok-ty.ty) c.in_ok-first.first _
+    c.in_ok-add_names.ensures.exact c.in_ok-add_names.ensures.added c.in_ok-add_coloured.ensures.added c.in_ok-ty.ensures.exact c.in_ok-first.ensures.number
