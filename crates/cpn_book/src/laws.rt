@@ -13,8 +13,8 @@ pub fn one_answer()
     ensures moves { MovesHaveOneAnswer }
 {}
 
-/// The law that a run may start where another ended, as long as they had together at most 1,000,000 occurrences since an initial marking
-/// with at most 65,536 tokens on each place. A call does nothing: it is there for what it ensures.
+/// The law of phases: after runs one after another, each from an initial marking or from where the one before it ended, a run may start from
+/// each setup of the next. A call does nothing: it is there for what it ensures.
 #[tactic(auto, using(cpn_runs::proofs::GrownRuns::phases_go_on))]
 pub fn phases_go_on()
     ensures phases { PhasesGoOn }
