@@ -18,6 +18,7 @@ mod BoundedBooks
 mod GoingAlone
 mod AloneRows
 mod AnswerRows
+mod BoundRows
 mod PlayedRounds
 mod AnsweredBooks
 mod AnsweredCompletions
