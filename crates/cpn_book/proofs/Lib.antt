@@ -19,6 +19,7 @@ mod GoingAlone
 mod AloneRows
 mod AnswerRows
 mod BoundRows
+mod FinishRows
 mod PlayedRounds
 mod AnsweredBooks
 mod AnsweredCompletions
