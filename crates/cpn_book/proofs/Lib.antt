@@ -18,6 +18,8 @@ mod BoundedBooks
 mod GoingAlone
 mod AloneRows
 mod AnswerRows
+mod BoundRows
+mod FinishRows
 mod PlayedRounds
 mod AnsweredBooks
 mod AnsweredCompletions

@@ -9,16 +9,19 @@ use Rattle.cpn_definitions.proofs.OneEnabledList.{enabled_is_unique}
 use Rattle.cpn_definitions.proofs.ListItems.{place_known}
 use Rattle.cpn_draw.specs.Draw.{word}
 use Rattle.cpn_runs.specs.HoleRun.{PlainClaim}
-use Rattle.cpn_runs.specs.State.{PlainSetup, PlainState, unclaimed_in, PlainCut, PlainEvent, owed_cut, claim_completed, MayClaim, MayMove}
+use Rattle.cpn_runs.specs.State.{PlainSetup, PlainState, unclaimed_in, PlainCut, PlainEvent, IsState, owed_cut, claim_completed, MayClaim, MayMove}
+use Rattle.cpn_runs.specs.declared.runs.Finished.{Finished}
+use Rattle.cpn_runs.specs.FinishedViews.{finished_view}
+use Rattle.cpn_runs.proofs.OneRun.{run_of_journal}
 use Rattle.cpn_runs.proofs.States.{one_state, claim_is_unique, completion_is_unique, least_is_unique, move_is_unique}
 use Rattle.cpn_book.specs.Held.{held_from}
 use Rattle.cpn_book.proofs.HeldClaims.{held_none}
 use Rattle.cpn_book.proofs.OpenClaims.{some_counted}
 use Rattle.cpn_book.specs.States.{open_claims, IsFull, IsIndex, AreReady, claimed_job, cut_events}
 use Rattle.cpn_book.specs.Tickets.{number_of, evaluated_number}
-use Rattle.cpn_book.specs.Answers.{AnswersClaim, IsNotCut, AnswersCompletion, AnswersAdvance}
-use Rattle.cpn_book.specs.Books.{setup_in, journal_in}
-use Rattle.cpn_book.specs.OneAnswers.{BooksHaveOneState, IsSameClaimed, IsSameCompleted, ClaimsHaveOneAnswer, CompletionsHaveOneAnswer, MovesHaveOneAnswer}
+use Rattle.cpn_book.specs.Answers.{AnswersClaim, IsNotCut, AnswersCompletion, AnswersAdvance, AnswersFinish}
+use Rattle.cpn_book.specs.Books.{setup_in, journal_in, is_spent_in}
+use Rattle.cpn_book.specs.OneAnswers.{BooksHaveOneState, IsSameClaimed, IsSameCompleted, IsSameFinish, ClaimsHaveOneAnswer, CompletionsHaveOneAnswer, MovesHaveOneAnswer, FinishesHaveOneAnswer}
 use Rattle.cpn_book.specs.declared.answers.Claimed.{Claimed}
 use Rattle.cpn_book.specs.declared.answers.Claimed.TheVariants as claims
 use Rattle.cpn_book.specs.declared.tickets.Evaluated.{Evaluated}
@@ -26,6 +29,9 @@ use Rattle.cpn_book.specs.declared.answers.Completed.{Completed}
 use Rattle.cpn_book.specs.declared.answers.Completed.TheVariants as completions
 use Rattle.cpn_book.specs.declared.answers.Advanced.{Advanced}
 use Rattle.cpn_book.specs.declared.answers.Advanced.TheVariants as moves
+use Rattle.cpn_book.specs.declared.answers.Finish.{Finish}
+use Rattle.cpn_book.specs.declared.answers.Finish.TheVariants as finishes
+use Rattle.cpn_book.specs.declared.books.Book.{Book}
 use Rattle.cpn_book.proofs.DrawnElements.{drawn_covered}
 
 -- ---- one index
@@ -273,6 +279,29 @@ one_advance_answer setup state moves.Dead moves.Spent x y = absurd y
 one_advance_answer setup state (moves.Until time) moves.Spent x y = absurd y
 one_advance_answer setup state (moves.Moved time) moves.Spent x y = absurd y
 
+-- ---- the end
+
+-- a book is spent or not
+spent_or_not : (book : Book) → is_spent_in book ≡ true → is_spent_in book ≡ false → ⊥
+spent_or_not book spent not_spent = let e : true ≡ false = sym spent ∙ not_spent in cc
+
+-- a run that is shown has an end in the book's state, and a book that is running has none
+running_or_ended : (book : Book) (same : Book) (finished : Finished) → AnswersFinish book (finishes.Running same) → AnswersFinish book (finishes.Ended finished) → ⊥
+running_or_ended book same finished running ended =
+    let P : List PlainEvent → Type 0 = λ events. IsState (setup_in book) events ended.1.state in
+    running.2 ended.1.state (subst P ended.2 ended.1.reached) (finished_view finished).cause ended.1.ends
+
+one_finish_answer : (book : Book) (a b : Finish) → AnswersFinish book a → AnswersFinish book b → IsSameFinish a b
+one_finish_answer book finishes.Spent finishes.Spent x y = tt
+one_finish_answer book finishes.Spent (finishes.Running same) x y = absurd (spent_or_not book x y.0)
+one_finish_answer book finishes.Spent (finishes.Ended finished) x y = absurd (spent_or_not book x y.0)
+one_finish_answer book (finishes.Running same) finishes.Spent x y = absurd (spent_or_not book y x.0)
+one_finish_answer book (finishes.Running same) (finishes.Running same') x y = x.1 ∙ sym y.1
+one_finish_answer book (finishes.Running same) (finishes.Ended finished) x y = absurd (running_or_ended book same finished x y)
+one_finish_answer book (finishes.Ended finished) finishes.Spent x y = absurd (spent_or_not book y x.0)
+one_finish_answer book (finishes.Ended finished) (finishes.Running same) x y = absurd (running_or_ended book same finished y x)
+one_finish_answer book (finishes.Ended finished) (finishes.Ended finished') x y = (x.3 ∙ sym y.3, run_of_journal (setup_in book) (finished_view finished) (finished_view finished') (x.2 ∙ sym y.2) x.1 y.1)
+
 -- ---- the laws
 
 pub books_have_one_state : BooksHaveOneState
@@ -291,3 +320,6 @@ completions_have_one_answer setup state seat done events events' a b x y =
 
 pub moves_have_one_answer : MovesHaveOneAnswer
 moves_have_one_answer setup state a b x y = one_advance_answer setup state a b x y
+
+pub finishes_have_one_answer : FinishesHaveOneAnswer
+finishes_have_one_answer book a b x y = one_finish_answer book a b x y

@@ -3,7 +3,8 @@ use Rattle.std.specs.Prelude.{◌≡◌, ℕ, List}
 use Rattle.std.specs.Option.{option_map}
 use Rattle.cpn_jobs.specs.Views.{job_view}
 use Rattle.cpn_runs.specs.State.{PlainSetup, PlainState, PlainEvent, IsState}
-use Rattle.cpn_book.specs.Answers.{AnswersClaim, AnswersCompletion, AnswersAdvance}
+use Rattle.cpn_runs.specs.FinishedViews.{setup_view, finished_view}
+use Rattle.cpn_book.specs.Answers.{AnswersClaim, AnswersCompletion, AnswersAdvance, AnswersFinish}
 use Rattle.cpn_book.specs.Books.{setup_in, journal_in, IsBook}
 use Rattle.cpn_book.specs.Tickets.{number_of, job_of}
 use Rattle.cpn_book.specs.declared.tickets.Evaluated.{Evaluated}
@@ -13,6 +14,8 @@ use Rattle.cpn_book.specs.declared.answers.Claimed.TheVariants as claims
 use Rattle.cpn_book.specs.declared.answers.Completed.{Completed}
 use Rattle.cpn_book.specs.declared.answers.Completed.TheVariants as completions
 use Rattle.cpn_book.specs.declared.answers.Advanced.{Advanced}
+use Rattle.cpn_book.specs.declared.answers.Finish.{Finish}
+use Rattle.cpn_book.specs.declared.answers.Finish.TheVariants as finishes
 
 -- ---- one state
 
@@ -44,6 +47,13 @@ IsSameCompleted (completions.Stranger kept brought) (completions.Stranger kept' 
     (option_map (λ job. job_view job.value) kept ≡ option_map (λ job. job_view job.value) kept') × (brought ≡ brought')
 IsSameCompleted a b = ⊥
 
+-- the same answer where a book is asked to finish: of one kind, with the same book, or with the same run of one setup
+abbrev pub IsSameFinish : Finish → Finish → Type 0
+IsSameFinish finishes.Spent finishes.Spent = Unit {0}
+IsSameFinish (finishes.Running book) (finishes.Running book') = book ≡ book'
+IsSameFinish (finishes.Ended finished) (finishes.Ended finished') = (setup_view finished.setup ≡ setup_view finished'.setup) × (finished_view finished ≡ finished_view finished')
+IsSameFinish a b = ⊥
+
 -- In a state a seat that makes a claim has one answer. So each answer comes exactly where what it says holds.
 abbrev pub ClaimsHaveOneAnswer : Type 0
 ClaimsHaveOneAnswer = (setup : PlainSetup) (state : PlainState) (seat : ℕ) (a b : Claimed) → AnswersClaim setup state seat a → AnswersClaim setup state seat b → IsSameClaimed a b
@@ -56,3 +66,7 @@ CompletionsHaveOneAnswer = (setup : PlainSetup) (state : PlainState) (seat : ℕ
 -- In a state the clock that is to move has one answer.
 abbrev pub MovesHaveOneAnswer : Type 0
 MovesHaveOneAnswer = (setup : PlainSetup) (state : PlainState) (a b : Advanced) → AnswersAdvance setup state a → AnswersAdvance setup state b → a ≡ b
+
+-- A book that is asked to finish has one answer. So it is running exactly where no cause ends its state, and ends otherwise with one run.
+abbrev pub FinishesHaveOneAnswer : Type 0
+FinishesHaveOneAnswer = (book : Book) (a b : Finish) → AnswersFinish book a → AnswersFinish book b → IsSameFinish a b

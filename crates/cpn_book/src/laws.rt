@@ -1,20 +1,21 @@
 // Laws of books, and of runs one after another.
 
-ghost use Rattle.cpn_book.specs.OneAnswers.{BooksHaveOneState, ClaimsHaveOneAnswer, CompletionsHaveOneAnswer, MovesHaveOneAnswer};
+ghost use Rattle.cpn_book.specs.OneAnswers.{BooksHaveOneState, ClaimsHaveOneAnswer, CompletionsHaveOneAnswer, MovesHaveOneAnswer, FinishesHaveOneAnswer};
 ghost use Rattle.cpn_runs.specs.Phases.{PhasesGoOn};
 
 /// The laws that a book has one state, and a call on it one answer in that state. So each answer comes exactly where what it says holds. A
 /// call does nothing: it is there for what it ensures.
-#[tactic(auto, using(crate::proofs::OneAnswers::books_have_one_state, crate::proofs::OneAnswers::claims_have_one_answer, crate::proofs::OneAnswers::completions_have_one_answer, crate::proofs::OneAnswers::moves_have_one_answer))]
+#[tactic(auto, using(crate::proofs::OneAnswers::books_have_one_state, crate::proofs::OneAnswers::claims_have_one_answer, crate::proofs::OneAnswers::completions_have_one_answer, crate::proofs::OneAnswers::moves_have_one_answer, crate::proofs::OneAnswers::finishes_have_one_answer))]
 pub fn one_answer()
     ensures state { BooksHaveOneState }
     ensures claims { ClaimsHaveOneAnswer }
     ensures completions { CompletionsHaveOneAnswer }
     ensures moves { MovesHaveOneAnswer }
+    ensures finishes { FinishesHaveOneAnswer }
 {}
 
-/// The law that a run may start where another ended, as long as they had together at most 1,000,000 occurrences since an initial marking
-/// with at most 65,536 tokens on each place. A call does nothing: it is there for what it ensures.
+/// The law of phases: after runs one after another, each from an initial marking or from where the one before it ended, a run may start from
+/// each setup of the next. A call does nothing: it is there for what it ensures.
 #[tactic(auto, using(cpn_runs::proofs::GrownRuns::phases_go_on))]
 pub fn phases_go_on()
     ensures phases { PhasesGoOn }

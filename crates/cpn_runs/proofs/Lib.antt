@@ -22,4 +22,6 @@ mod WorkedNet
 mod TwoSeats
 mod FaultyRuns
 mod MovedRows
+mod GrownRows
 mod PlayableRows
+mod PhaseRows

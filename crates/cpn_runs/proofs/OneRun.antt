@@ -1,4 +1,4 @@
--- With one seat a setup has one run.
+-- A journal is that of one run; and with one seat a setup has one run.
 use Rattle.std.proofs.Common.{◌≡◌, ℕ, ◌≤◌, true, false, List, length, Some, None, Option, refl, sym, ap, ◌∙◌, subst, inl}
 use Rattle.std.specs.Option.{MatchOption}
 use Rattle.std.proofs.Math.Path.{ap₂}
@@ -9,7 +9,7 @@ use Rattle.cpn_definitions.specs.Enabled.{ready, next_time, IsDead}
 use Rattle.cpn_runs.specs.State.{PlainSetup, PlainEvent, PlainEnd, dead, steps_made, until_passed, fault_end, PlainCut, PlainState, first_state, IsState, HasCause, EndsBy, committed_occurrences, settled_in}
 use Rattle.cpn_runs.specs.Run.{PlainFinished, IsRun, Outlook, HasOutlook}
 use Rattle.cpn_definitions.proofs.OneEnabledList.{enabled_is_unique}
-use Rattle.cpn_runs.proofs.States.{least_is_unique}
+use Rattle.cpn_runs.proofs.States.{one_state, least_is_unique}
 use Rattle.cpn_runs.proofs.OneJournal.{IsSameEnd, same_journal}
 
 -- with one seat there is at most one journal that has an end, and it leads to one state
@@ -65,17 +65,22 @@ same_finished r r' a j o m c e z =
     ∙ ap₂ (λ clock cause. record { opening = r'.opening; journal = r'.journal; occurrences = r'.occurrences; marking = r'.marking; clock = clock; cause = cause; closing = r.closing }) c e
     ∙ ap (λ closing. record r' { closing = closing }) z
 
--- with one seat a setup whose clock is one that the run may reach has one run
-pub one_run : (setup : PlainSetup) (r r' : PlainFinished) → setup.limits.seats ≡ 1 → setup.clock ≤ setup.limits.until → IsRun setup r → IsRun setup r' → r ≡ r'
-one_run setup r r' one in_time a b =
-    let same = one_journal setup r.journal r'.journal a.state b.state r.cause r'.cause one in_time a.reached a.ends b.reached b.ends in
+-- a journal is that of one run
+pub run_of_journal : (setup : PlainSetup) (r r' : PlainFinished) → r.journal ≡ r'.journal → IsRun setup r → IsRun setup r' → r ≡ r'
+run_of_journal setup r r' journals a b =
+    let J : List PlainEvent → Type 0 = λ events. IsState setup events a.state in
+    let states : a.state ≡ b.state = one_state setup r'.journal a.state b.state (subst J journals a.reached) b.reached in
     let P : PlainState → Type 0 = λ s. EndsBy setup s r.cause in
-    let ends : EndsBy setup b.state r.cause = subst P same.states a.ends in
+    let ends : EndsBy setup b.state r.cause = subst P states a.ends in
     let causes : r.cause ≡ r'.cause = one_end setup b.state r.cause r'.cause ends b.ends in
     let Q : PlainState → Type 0 = λ s. settled_in setup s ≡ Some r.marking in
-    let markings : r.marking ≡ r'.marking = same_Some r.marking r'.marking (sym (subst Q same.states a.marking_is) ∙ b.marking_is) in
-    let clocks : r.clock ≡ r'.clock = a.clock_is ∙ ap (λ (s : PlainState). s.clock) same.states ∙ sym b.clock_is in
+    let markings : r.marking ≡ r'.marking = same_Some r.marking r'.marking (sym (subst Q states a.marking_is) ∙ b.marking_is) in
+    let clocks : r.clock ≡ r'.clock = a.clock_is ∙ ap (λ (s : PlainState). s.clock) states ∙ sym b.clock_is in
     let R : Marking → ℕ → Type 0 = λ m clock. HasOutlook setup m clock r.closing in
     let closing : HasOutlook setup r'.marking r'.clock r.closing = subst (λ clock. R r'.marking clock) clocks (subst (λ m. R m r.clock) markings a.closing) in
-    same_finished r r' (one_outlook setup setup.start setup.clock r.opening r'.opening a.opening b.opening) same.journals (a.occurrences_are ∙ ap (committed_occurrences setup) same.states ∙ sym b.occurrences_are) markings clocks causes
+    same_finished r r' (one_outlook setup setup.start setup.clock r.opening r'.opening a.opening b.opening) journals (a.occurrences_are ∙ ap (committed_occurrences setup) states ∙ sym b.occurrences_are) markings clocks causes
     (one_outlook setup r'.marking r'.clock r.closing r'.closing closing b.closing)
+
+-- with one seat a setup whose clock is one that the run may reach has one run
+pub one_run : (setup : PlainSetup) (r r' : PlainFinished) → setup.limits.seats ≡ 1 → setup.clock ≤ setup.limits.until → IsRun setup r → IsRun setup r' → r ≡ r'
+one_run setup r r' one in_time a b = run_of_journal setup r r' (one_journal setup r.journal r'.journal a.state b.state r.cause r'.cause one in_time a.reached a.ends b.reached b.ends).journals a b

@@ -1,5 +1,5 @@
--- Setups of the worked net from which a run may start, and from which none may; and a run of it, after which another may start.
-use Rattle.std.proofs.Common.{ℕ, zero, suc, ◌+◌, ◌<◌, ◌≤◌, ◌^◌, [], ◌∷◌, length, replicate, Contains, refl, inl, inr, arith}
+-- Setups of the worked net from which a run may start, and from which none may.
+use Rattle.std.proofs.Common.{ℕ, zero, suc, ◌+◌, ◌<◌, ◌≤◌, ◌^◌, [], ◌∷◌, length, replicate, Contains, refl, arith}
 use Rattle.std.proofs.lemmas.List.{length-replicate}
 use Rattle.cpn_definitions.specs.Bounds.{last_stamp, IsBounded}
 use Rattle.cpn_definitions.specs.Marking.{Marking, token_at}
@@ -11,11 +11,9 @@ use Rattle.cpn_definitions.specs.Sound.{IsSoundTransition, IsSound, IsMarking}
 use Rattle.cpn_definitions.specs.Terms.{terms_of}
 use Rattle.cpn_definitions.specs.Times.{last_time}
 use Rattle.cpn_runs.specs.Bounds.{most_steps, most_at_start}
-use Rattle.cpn_runs.specs.Phases.{IsPhase, IsNextStart}
 use Rattle.cpn_runs.specs.Playable.{IsPlayable}
 use Rattle.cpn_runs.specs.State.{PlainSetup}
-use Rattle.cpn_runs.proofs.MovedRows.{setup, moved_shown, moved_run}
-use Rattle.cpn_runs.proofs.WorkedNet.{seven, digits, move_transition, worked, seven_at_three, moved}
+use Rattle.cpn_runs.proofs.WorkedNet.{seven, digits, move_transition, worked}
 
 -- ---- the net is sound
 
@@ -44,19 +42,19 @@ move_is_sound = record {
   outputs_sound = (record { place_known = omega arith; colour_is = refl; means = λ b time binding early. seven_means b time }, tt);
 }
 
-worked_is_sound : IsSound worked
+pub worked_is_sound : IsSound worked
 worked_is_sound = record { transitions_sound = (move_is_sound, tt); functions_closed = tt; few_places = omega arith; few_transitions = omega arith; few_variables = omega arith }
 
 -- ---- setups from which a run may start
 
 -- a 7 with a stamp on place 0
-abbrev seven_at : ℕ → Marking
+abbrev pub seven_at : ℕ → Marking
 seven_at stamp = (token_at seven stamp ∷ []) ∷ [] ∷ []
 
 abbrev starting_at : ℕ → PlainSetup
 starting_at stamp = record { net = worked; start = seven_at stamp; clock = 9; limits = record { steps = 1000000; until = 2 ^ 62; seats = 64 }; seed = 11 }
 
-seven_is_marking : (stamp : ℕ) → IsMarking worked.places (seven_at stamp)
+pub seven_is_marking : (stamp : ℕ) → IsMarking worked.places (seven_at stamp)
 seven_is_marking stamp = ((tt, tt), refl, (tt, refl, tt))
 
 seven_is_bounded : (stamp : ℕ) → IsBounded most_at_start (seven_at stamp)
@@ -106,27 +104,3 @@ tokens_too_many number more is =
     let few : length (replicate number (token_at seven 3)) ≤ most_at_start = is.bounded 0 in
     let many = length-replicate number (token_at seven 3) in
     absurd (omega (arith, few, many, more))
-
--- ---- a run may start where another ended
-
-moved_is_playable : IsPlayable (setup 2 3)
-moved_is_playable = record {
-  sound = worked_is_sound;
-  marking = seven_is_marking 3;
-  bounded = seven_is_bounded 3;
-  clock = omega arith;
-  until = omega arith;
-  steps = omega arith;
-  some_seat = omega arith;
-  few_seats = omega arith;
-}
-
-one_phase : IsPhase worked.places seven_at_three 1 moved
-one_phase = record { setup = setup 2 3; run = moved_shown; playable = moved_is_playable; is_run = moved_run; places_are = refl; start_is = refl; occurrences_are = refl; last_is = refl }
-
--- the next starts where it ended, or anew
-where_it_ended : IsNextStart worked.places seven_at_three (1 ∷ []) moved
-where_it_ended = inr (seven_at_three, refl, one_phase)
-
-anew : IsNextStart worked.places seven_at_three (1 ∷ []) seven_at_three
-anew = inl refl

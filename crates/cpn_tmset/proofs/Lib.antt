@@ -20,3 +20,4 @@ pub mod ChangeOrder
 mod ChangedRows
 mod RoomLeft
 mod Rows
+mod SubtractedRows
