@@ -12,7 +12,7 @@ use Rattle.cpn_trees.specs.DeclTrees.{PlainAlternative, PlainBody, unit, bool, i
 use Rattle.cpn_trees.specs.DeclaredBounds.{bounds_in_body, bounds_in_form, declared_bounds}
 use Rattle.cpn_typing.specs.Names.{Name, NamedColour, Declared, nothing_declared, colour_among, colour_named, unknown, empty_colour, Scope, ok, required}
 use Rattle.cpn_typing.specs.ColourSets.{with_new, with_all_new, colour_names, other_names, component, components, Alternatives, alternative_of, alternatives_of, Shaped, limited, shape_of_body, with_colour}
-use Rattle.cpn_typing.specs.Places.{in_function}
+use Rattle.cpn_typing.specs.Contexts.{in_function}
 use Rattle.cpn_typing.specs.Rules.{Typed}
 use Rattle.cpn_typing.specs.Expressions.{typed}
 use Rattle.cpn_typing.specs.Declarations.{colour_of, coloured_as, with_variables, scope_of, type_named, with_function, with_new_name, declared_form, declared}
