@@ -1,1 +1,6 @@
+mod FittingRows
+mod NotedRuns
 mod Rows
+mod ToldRuns
+mod ValueLists
+mod ValueViews

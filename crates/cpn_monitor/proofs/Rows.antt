@@ -3,8 +3,8 @@
 use Rattle.std.proofs.Common.{◌≡◌, ℕ, pos, negsuc, List, [], ◌∷◌, Some, None, refl}
 use Rattle.std.specs.Prelude.{codes}
 use Rattle.cpn_definitions.specs.Inscription.{PlainExpr, Functions, literal, variable, apply, operation, calling, division, subtraction, more_exprs, no_exprs}
-use Rattle.cpn_definitions.specs.Marking.{Tokens, Marking, token_at}
-use Rattle.cpn_definitions.specs.Value.{PlainValue, int}
+use Rattle.cpn_definitions.specs.Marking.{Tokens, token_at}
+use Rattle.cpn_definitions.specs.Value.{int}
 use Rattle.cpn_monitor.specs.Monitors.{PlainMonitor, PlainMeasure, counts, sizes, values, stops_by_count, stops_by_size, at_least, at_most}
 use Rattle.cpn_monitor.specs.Steps.{PlainStep, MeasuredRun}
 use Rattle.cpn_monitor.specs.MonitorValues.{counted, sized, valued, counted_to_stop, sized_to_stop, measured, values_of}

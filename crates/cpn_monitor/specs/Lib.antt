@@ -2,4 +2,6 @@ pub mod Monitors
 pub mod Steps
 pub mod MonitorValues
 pub mod Stops
+pub mod Fitting
+pub mod Noted
 pub mod Views

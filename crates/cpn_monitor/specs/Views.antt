@@ -1,8 +1,12 @@
 -- The plain monitors and values that those of the program stand for.
 use Rattle.std.specs.Prelude.{List, map, string_bytes}
 use Rattle.cpn_core.specs.Inscriptions.{expr_view}
+use Rattle.cpn_core.specs.Elements.{element_view}
+use Rattle.cpn_core.specs.declared.occurrences.Occurrence.{Occurrence}
+use Rattle.cpn_definitions.specs.Marking.{Marking}
 use Rattle.cpn_monitor.specs.Monitors.{PlainMonitor, PlainMeasure, counts, sizes, values, stops_by_count, stops_by_size, PlainBound, at_least, at_most}
 use Rattle.cpn_monitor.specs.MonitorValues.{PlainMeasured, counted, sized, valued, counted_to_stop, sized_to_stop, PlainMonitorValue}
+use Rattle.cpn_monitor.specs.Steps.{PlainStep}
 use Rattle.cpn_monitor.specs.declared.monitors.Bound.{Bound}
 use Rattle.cpn_monitor.specs.declared.monitors.Bound.TheVariants as bounds
 use Rattle.cpn_monitor.specs.declared.monitors.Measure.{Measure}
@@ -34,8 +38,8 @@ monitors_view monitors = map monitor_view monitors.monitors.items
 -- what was measured
 abbrev pub measured_view : Measured → PlainMeasured
 measured_view (numbers.Count n) = counted n
-measured_view (numbers.Size least greatest last sum until) = sized least greatest last sum until
-measured_view (numbers.Value count sum least greatest faulted) = valued count sum least greatest faulted
+measured_view (numbers.Size those) = sized those.least those.greatest those.last those.sum those.until
+measured_view (numbers.Value those) = valued those.count those.sum those.least those.greatest those.faulted
 measured_view (numbers.StopCount n) = counted_to_stop n
 measured_view (numbers.StopSize last) = sized_to_stop last
 
@@ -44,3 +48,7 @@ value_view value = record { name = string_bytes value.name; measured = measured_
 
 abbrev pub values_view : Values14 → List PlainMonitorValue
 values_view all = map value_view all.values.items
+
+-- the step of an occurrence, after which the marking is this one
+abbrev pub step_view : Occurrence → Marking → PlainStep
+step_view o after = record { occurrence = record { element = element_view o.element.value; time = o.time }; after = after }

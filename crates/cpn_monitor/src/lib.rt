@@ -1,11 +1,15 @@
 //! Monitors: what is to be measured of a run, and what was measured.
 //!
 //! `specs/` says what a monitor's values are, as functions of the occurrences of a run with the marking after each, of its start and its
-//! last clock; the data of the program stands for the plain data there. The crate has no function: it reads no text, makes no run, and
-//! knows nothing of claims.
+//! last clock; the data of the program stands for the plain data there. Monitors are told a run from its start on, one occurrence after
+//! another, and have its values at each moment. The crate reads no text, makes no run, and knows nothing of claims.
 #![tactic(auto)]
 
 mod monitors;
+mod noting;
+mod starting;
+mod stopping;
+mod telling;
 mod values;
 
 pub use monitors::{Bound, Measure, Monitor, Monitors};

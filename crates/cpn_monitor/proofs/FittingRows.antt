@@ -1,0 +1,79 @@
+-- Worked cases of what monitors may measure in a net: one with a place of integers, and a transition with a variable of integers.
+use Rattle.std.proofs.Common.{◌≡◌, false, pos, negsuc, List, [], ◌∷◌, refl, arith}
+use Rattle.std.specs.Prelude.{codes}
+use Rattle.cpn_definitions.specs.Colour.{PlainColour, int_shape}
+use Rattle.cpn_definitions.specs.Inscription.{literal, variable}
+use Rattle.cpn_definitions.specs.Marking.{token_at}
+use Rattle.cpn_definitions.specs.Net.{PlainNet, PlainTransition, no_transition}
+use Rattle.cpn_definitions.specs.Value.{int, text}
+use Rattle.cpn_monitor.specs.Fitting.{IsMeasurable, FitNet}
+use Rattle.cpn_monitor.specs.Monitors.{PlainMonitor, counts, sizes, values, stops_by_count, stops_by_size, at_least}
+use Rattle.cpn_monitor.specs.Steps.{MeasuredRun, PlainStep, begun, with_step, at_clock, IsTimely}
+
+abbrev integers : PlainColour
+integers = record { shape = int_shape (negsuc 99) (pos 99); timed = false }
+
+abbrev transition : PlainTransition
+transition = record no_transition { vars = 0 ∷ [] }
+
+abbrev net : PlainNet
+net = record {
+  places = record { name = codes "A"; colour = integers } ∷ [];
+  transitions = transition ∷ [];
+  variables = record { name = codes "x"; colour = integers } ∷ [];
+  constants = [];
+  constructors = [];
+  functions = [];
+}
+
+-- ---- what is in the net
+
+its_transition : IsMeasurable net (counts 0)
+its_transition = omega arith
+
+no_transition_there : IsMeasurable net (stops_by_count 1 3) → ⊥
+no_transition_there h = omega (arith, h)
+
+its_place : IsMeasurable net (stops_by_size 0 at_least 3)
+its_place = omega arith
+
+no_place_there : IsMeasurable net (sizes 1) → ⊥
+no_place_there h = omega (arith, h)
+
+-- an integer that is written out, and a string
+an_integer : IsMeasurable net (values 0 (literal (int (pos 7))))
+an_integer = (omega arith, λ b time bound in_time. tt)
+
+a_string : IsMeasurable net (values 0 (literal (text []))) → ⊥
+a_string h = h.1 ((0, int (pos 7)) ∷ []) 0 refl (omega arith)
+
+-- a variable that the transition does not have
+another_variable : IsMeasurable net (values 0 (variable 1)) → ⊥
+another_variable h = h.1 ((0, int (pos 7)) ∷ []) 0 refl (omega arith)
+
+-- functions of their own are not the net's
+abbrev of_net : List PlainMonitor
+of_net = record { name = codes "m"; measure = counts 0 } ∷ []
+
+they_fit : FitNet net [] of_net
+they_fit = record { functions_are = refl; measurable = (its_transition, tt) }
+
+by_another_function : FitNet net (record { parameters = 0; body = literal (int (pos 7)) } ∷ []) of_net → ⊥
+by_another_function h = let e = h.functions_are in cc
+
+-- ---- a run, told on
+
+abbrev step : PlainStep
+step = record { occurrence = record { element = record { transition = 0; binding = (0, int (pos 7)) ∷ [] }; time = 5 }; after = [] ∷ [] }
+
+abbrev told : MeasuredRun
+told = with_step step (begun ((token_at (int (pos 7)) 0 ∷ []) ∷ []) 3)
+
+its_steps : told ≡ record { start = (token_at (int (pos 7)) 0 ∷ []) ∷ []; clock = 3; steps = step ∷ []; last_clock = 5 }
+its_steps = refl
+
+at_its_clock : IsTimely (at_clock 5 told)
+at_its_clock = omega arith
+
+before_its_clock : IsTimely (at_clock 4 told) → ⊥
+before_its_clock h = omega (arith, h)
