@@ -6,6 +6,7 @@ mod ArcCounts
 mod OneReading
 mod FewArcs
 mod WellNamed
+pub mod WellFormed
 mod Rows
 mod MonitorRows
 mod PhaseRows

@@ -232,7 +232,7 @@ module _ (d : RawDocument) (a : PlainAccepted) (well_named : AreWellNamed d) (ha
 
 -- ---- what is meant
 
-unfolded_is : (a : PlainAccepted) (reading : Reading (List PlainInstance)) (is : List PlainInstance) → IsUnfoldedAs a.hierarchy reading → reading ≡ read is → IsUnfolded a.hierarchy is
+pub unfolded_is : (a : PlainAccepted) (reading : Reading (List PlainInstance)) (is : List PlainInstance) → IsUnfoldedAs a.hierarchy reading → reading ≡ read is → IsUnfolded a.hierarchy is
 unfolded_is a reading is (unfolded made made_so) e = subst (IsUnfolded a.hierarchy) (same_read made is e) made_so
 unfolded_is a reading is (not_unfolded refusal refused_so) e = cc
 

@@ -25,3 +25,4 @@ mod SharedTokens
 mod SharedMarkings
 mod StartedMarkings
 mod StartedWell
+pub mod WellFlat
