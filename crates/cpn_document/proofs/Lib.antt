@@ -7,6 +7,7 @@ mod OneReading
 mod FewArcs
 mod WellNamed
 mod NamedRows
+pub mod WellFormed
 mod Rows
 mod MonitorRows
 mod PhaseRows

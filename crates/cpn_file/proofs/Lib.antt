@@ -1,2 +1,3 @@
 mod LoadedDocuments
 mod ReadBytes
+pub mod WellRead

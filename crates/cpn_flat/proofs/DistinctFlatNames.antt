@@ -258,7 +258,7 @@ pub record IsWellWritten (n : PlainNet) : Type 0 where
   pub flat : HasFlatNames n
   pub short : HasShortIntegers n
 
-unfolded_is : (a : PlainAccepted) (reading : Reading (List PlainInstance)) (is : List PlainInstance) → IsUnfoldedAs a.hierarchy reading → reading ≡ read is → IsUnfolded a.hierarchy is
+pub unfolded_is : (a : PlainAccepted) (reading : Reading (List PlainInstance)) (is : List PlainInstance) → IsUnfoldedAs a.hierarchy reading → reading ≡ read is → IsUnfolded a.hierarchy is
 unfolded_is a reading is (unfolded made made_so) e = subst (IsUnfolded a.hierarchy) (same_read made is e) made_so
 unfolded_is a reading is (not_unfolded refusal refused_so) e = cc
 

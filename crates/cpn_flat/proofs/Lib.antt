@@ -28,3 +28,4 @@ mod SharedTokens
 mod SharedMarkings
 mod StartedMarkings
 mod StartedWell
+pub mod WellFlat

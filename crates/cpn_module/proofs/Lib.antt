@@ -3,6 +3,7 @@ mod NamedHierarchy
 mod KeptRules
 mod KnownNames
 mod KnownNumbers
+pub mod NumberedHierarchy
 mod FoundPlaces
 mod NumberedPlaces
 mod CheckedItems

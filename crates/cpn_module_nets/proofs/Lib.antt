@@ -22,7 +22,7 @@ mod SoundNets
 mod KeptRules
 mod JoinedColours
 mod WellNets
-mod WellAccepted
+pub mod WellAccepted
 mod DeclaredNames
 pub mod AcceptedNames
 mod OneTree

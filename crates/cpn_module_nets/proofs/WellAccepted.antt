@@ -9,6 +9,7 @@ use Rattle.cpn_module.specs.Checked.{IsChecked}
 use Rattle.cpn_module.specs.Hierarchy.{PlainHierarchy, structure_at, IsAcyclic}
 use Rattle.cpn_module.specs.Named.{no_module}
 use Rattle.cpn_module.specs.Ranges.{HasItsNumbers}
+use Rattle.cpn_module.proofs.NumberedHierarchy.{hierarchy_is_numbered}
 use Rattle.cpn_module_trees.specs.Trees.{DocumentTrees, AreTrees}
 use Rattle.cpn_readings.specs.Reading as readings
 use Rattle.cpn_readings.specs.Relations.{just, such_that, refused_by, each_so}
@@ -100,6 +101,19 @@ module _ (ds : Declared) (d : RawDocument) (few : HaveFewArcs d) (trees : Docume
 same_well : (a made : PlainAccepted) → a ≡ made → (HasItsNumbers made.hierarchy → IsWellAccepted made) → HasItsNumbers a.hierarchy → IsWellAccepted a
 same_well a made e well = subst (λ (x : PlainAccepted). HasItsNumbers x.hierarchy → IsWellAccepted x) (sym e) well
 
+-- what is accepted has its numbers
+its_numbers : (d : RawDocument) (a : PlainAccepted) → accepted_in d (read a) → HasItsNumbers a.hierarchy
+unfolding accepted_in
+its_numbers d a h =
+    let trees = step_parts (such_that (AreTrees d)) _ a h in
+    let ds = step_parts (just (declared_from 0 nothing_declared trees.0.declarations)) _ a trees.2 in
+    let places = step_parts (just (each_from (places_of ds.0) 0 trees.0.modules)) _ a ds.2 in
+    let hierarchy = step_parts (refused_by of_modules (IsChecked ds.0 d)) _ a places.2 in
+    let nets = step_parts (nets_so ds.0 places.0 hierarchy.0 trees.0.modules) _ a hierarchy.2 in
+    let checked = kept ds.0 d hierarchy.0 (checked_read of_modules (IsChecked ds.0 d) hierarchy.0 hierarchy.1) in
+    let same : a.hierarchy ≡ hierarchy.0 = ap (λ (x : PlainAccepted). x.hierarchy) (same_read a (record { declared = ds.0; hierarchy = hierarchy.0; modules = nets.0 }) nets.2) in
+    subst HasItsNumbers (sym (same ∙ checked.is)) (hierarchy_is_numbered d checked.named)
+
 -- What is accepted is well.
 well_accepted : (d : RawDocument) → HaveFewArcs d → (a : PlainAccepted) → accepted_in d (read a) → HasItsNumbers a.hierarchy → IsWellAccepted a
 unfolding accepted_in
@@ -112,6 +126,10 @@ well_accepted d few a h =
     let are = such_holds (AreTrees d) trees.0 trees.1 in
     let checked = kept ds.0 d hierarchy.0 (checked_read of_modules (IsChecked ds.0 d) hierarchy.0 hierarchy.1) in
     same_well a (record { declared = ds.0; hierarchy = hierarchy.0; modules = nets.0 }) (same_read a (record { declared = ds.0; hierarchy = hierarchy.0; modules = nets.0 }) nets.2) (λ numbers. all_well ds.0 d few trees.0 are (sym ds.1) places.0 (sym places.1) hierarchy.0 checked numbers nets.0 nets.1)
+
+-- The law: it is well, since its hierarchy has its numbers.
+pub accepted_is_well : (d : RawDocument) → HaveFewArcs d → (a : PlainAccepted) → accepted_in d (read a) → IsWellAccepted a
+accepted_is_well d few a h = well_accepted d few a h (its_numbers d a h)
 
 -- Whatever a call answers, what is accepted is well.
 pub well_answered : {X : Type 0} (view : X → PlainAccepted) (result : Result X NetError) (d : RawDocument) → HaveFewArcs d → LoadsBy view result (accepted_in d) → IfOk result (λ x. HasItsNumbers (view x).hierarchy) → IfOk result (λ x. IsWellAccepted (view x))

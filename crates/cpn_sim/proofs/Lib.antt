@@ -3,5 +3,7 @@ mod RefusalCauses
 mod RefusedDocuments
 mod OneReport
 mod WrittenReports
+mod OptionRanges
+mod AcceptedRuns
 mod OptionRows
 mod Rows

@@ -4,6 +4,7 @@ pub mod Words
 pub mod OptionsView
 pub mod Given
 pub mod Reported
+pub mod AcceptedRuns
 pub mod Causes
 pub mod RefusalViews
 pub mod Statuses

@@ -6,6 +6,7 @@
 #![tactic(auto)]
 
 mod answers;
+mod laws;
 mod no_options;
 mod options;
 mod refusals;
@@ -14,6 +15,7 @@ mod statuses;
 mod words;
 
 use cpn_io::{Stdin, Stdout};
+pub use laws::accepted_runs;
 pub use no_options::NoOptions;
 pub use options::Options;
 pub use simulation::{refuse_words, simulate};

@@ -1,0 +1,9 @@
+-- A run may start from what is accepted; and reports tell their journals, since texts do.
+use Rattle.cpn_sim.proofs.AcceptedRuns.{accepted_is_playable, reports_tell_journals}
+use Rattle.cpn_sim.proofs.laws.accepted_runs.Goals as goal
+
+pub returns-clause-playable : goal.returns-clause-playable
+returns-clause-playable c = accepted_is_playable
+
+pub returns-clause-journals : goal.returns-clause-journals
+returns-clause-journals c = reports_tell_journals c.printable_runs.ensures.printable c.told_texts.ensures.journals

@@ -1,0 +1,14 @@
+// Laws of what is accepted.
+ghost use Rattle.cpn_sim.specs.AcceptedRuns.{AcceptedIsPlayable, ReportsTellJournals};
+
+use cpn_report::{printable_runs, told_texts};
+
+/// The laws of what is accepted: a run may start from whatever bytes are read as, under whatever options words give; and two reports with
+/// a trace that have the same text tell the same journal, but for the seats. A call does nothing: it is there for what it ensures.
+pub fn accepted_runs()
+    ensures playable { AcceptedIsPlayable }
+    ensures journals { ReportsTellJournals }
+{
+    printable_runs();
+    told_texts();
+}
