@@ -1,5 +1,5 @@
 -- A transition to which an arc of the document is joined.
-use Rattle.std.specs.Prelude.{ℕ, ◌<◌, [], ◌++◌, Unit}
+use Rattle.std.specs.Prelude.{ℕ, ◌<◌, [], ◌++◌}
 use Rattle.cpn_definitions.specs.Net.{PlainTransition}
 use Rattle.cpn_module.specs.declared.hierarchy.Node.{Node}
 use Rattle.cpn_module.specs.declared.hierarchy.Node.TheVariants as nodes

@@ -6,5 +6,5 @@ use Rattle.cpn_module_nets.proofs.joining.join_to.Goals as goal
 
 pub returns : goal.returns
 returns c = record {
-  joined = if_answered c.join.result (joined_among c.args.transitions.now.items (sides_view c.args.arc) c.args.number c.requires.at_transition c.index-transition.result.now c.join.new.transition c.requires.there c.index-transition.ensures) c.join.ensures.joined;
+  joined = if_answered c.join.result (joined_among c.args.transitions.now.items (sides_view c.args.arc) c.args.number c.requires.at_transition c.index_mut-transition.result.now c.join.new.transition c.requires.there c.index_mut-transition.ensures.value) c.join.ensures.joined;
 }
