@@ -26,7 +26,7 @@ use Rattle.cpn_book.specs.declared.standings.Standing.{Standing}
 use Rattle.cpn_book.proofs.ReadyEntries.{item_at, each_at}
 use Rattle.cpn_book.proofs.DrawnElements.{draw_is, transition_known, ready_job}
 
--- the work at a place among works is that of its transition
+-- the work at an index among works is that of its transition
 work_there : {W : Type 0} (view : W → PlainWork) (works : List W) (t : ℕ) (v right : PlainWork) → t < length works → IfSome (slice_get works t) (λ w. v ≡ view w) → ((w : PlainWork) → slice_get (map view works) t ≡ Some w → w ≡ right) → v ≡ right
 work_there view [] t v right within is each = absurd (omega arith)
 work_there view (w ∷ works) zero v right within is each = is ∙ each (view w) refl
@@ -79,7 +79,7 @@ module _ (setup : PlainSetup) (s : Standing) (entries : List EnabledElement) (el
 
 -- ---- what is drawn of the list
 
--- The element at a place, which the list shares.
+-- The element at an index, which the list shares.
 pub record IsSharedAt (setup : PlainSetup) (s : Standing) (entries : List EnabledElement) (position : ℕ) (element : Element) : Type 0 where
   pub is : IsAt setup s
   pub playable : IsPlayable setup

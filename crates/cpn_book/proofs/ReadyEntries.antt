@@ -20,7 +20,7 @@ same_there [] i x y is there = cc
 same_there (z ∷ xs) zero x y is there = is ∙ same_Some z y there
 same_there (z ∷ xs) (suc i) x y is there = same_there xs i x y is there
 
--- there is an item at a place within a list
+-- there is an item at an index within a list
 pub item_at : {A : Type 0} (xs : List A) (i : ℕ) → i < length xs → (x : A) × (slice_get xs i ≡ Some x)
 item_at [] i lt = absurd (omega arith)
 item_at (x ∷ xs) zero lt = (x, refl)
@@ -53,7 +53,7 @@ none_left clock entries i k le = ap (λ xs. slice_get (ready clock (map enabled_
 
 -- ---- what each element has
 
--- what holds of each item holds of the one at a place
+-- what holds of each item holds of the one at an index
 pub each_at : {A : Type 0} (P : A → Type 0) (xs : List A) (i : ℕ) (x : A) → AllByRecursion P xs → slice_get xs i ≡ Some x → P x
 each_at P [] i x all there = cc
 each_at P (y ∷ xs) zero x all there = subst P (same_Some y x there) all.0

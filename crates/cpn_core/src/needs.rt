@@ -5,7 +5,7 @@ ghost use Rattle.std.specs.Ordering.{is_lt};
 ghost use Rattle.cpn_definitions.specs.Lists.{with_item, IsInOrder};
 ghost use Rattle.cpn_definitions.specs.Occurrence.{needed_cmp};
 ghost use Rattle.cpn_core.specs.Views.{value_view};
-ghost use Rattle.cpn_definitions.specs.InsertPlaces.{IsInsertPlace};
+ghost use Rattle.cpn_definitions.specs.InsertIndexes.{IsInsertIndex};
 ghost use Rattle.cpn_core.specs.NeedsViews.{needed_view, needed_views};
 
 use crate::needed::Needed;
@@ -57,12 +57,12 @@ impl Needs {
         self.tokens.as_slice()
     }
 
-    /// Adds a token, at its place in the order. After `Memory` they are as they were.
+    /// Adds a token, where the order has it. After `Memory` they are as they were.
     pub fn add(&mut self, needed: Needed) -> Result<(), Memory>
         ensures added { OnOk result (self.new ≡ with_item needed_cmp (needed_view needed) self.old) }
         ensures unchanged { OnErr result (self.new ≡ self.old) }
     {
-        let at = place_among(self.tokens.as_slice(), &needed);
+        let at = index_among(self.tokens.as_slice(), &needed);
         self.tokens.insert(at, needed)?;
         Ok(())
     }
@@ -79,10 +79,10 @@ fn comes_before(needed: &Needed, other: &Needed) -> bool
 }
 
 // Where the token stands among tokens in order, after those that are equal to it.
-fn place_among(tokens: &[Needed], needed: &Needed) -> usize
+fn index_among(tokens: &[Needed], needed: &Needed) -> usize
     requires in_order { IsInOrder needed_cmp (needed_views tokens.now) }
     ensures within { result ≤ length tokens.now }
-    ensures place { IsInsertPlace needed_cmp (needed_view needed.now) (needed_views tokens.now) result }
+    ensures index { IsInsertIndex needed_cmp (needed_view needed.now) (needed_views tokens.now) result }
 {
     tokens.partition_point(|other| !comes_before(needed, other))
 }

@@ -5,7 +5,7 @@ ghost use Rattle.std.specs.Ordering.{is_lt};
 ghost use Rattle.cpn_definitions.specs.Lists.{with_item, IsInOrder};
 ghost use Rattle.cpn_definitions.specs.Occurrence.{made_cmp};
 ghost use Rattle.cpn_core.specs.Views.{value_view};
-ghost use Rattle.cpn_definitions.specs.InsertPlaces.{IsInsertPlace};
+ghost use Rattle.cpn_definitions.specs.InsertIndexes.{IsInsertIndex};
 ghost use Rattle.cpn_core.specs.OutputsViews.{made_view, made_views};
 
 use crate::values::Value;
@@ -74,12 +74,12 @@ impl Outputs {
         self.tokens
     }
 
-    /// Adds a token, at its place in the order. After `Memory` they are as they were.
+    /// Adds a token, where the order has it. After `Memory` they are as they were.
     pub fn add(&mut self, made: Made) -> Result<(), Memory>
         ensures added { OnOk result (self.new ≡ with_item made_cmp (made_view made) self.old) }
         ensures unchanged { OnErr result (self.new ≡ self.old) }
     {
-        let at = place_among(self.tokens.as_slice(), &made);
+        let at = index_among(self.tokens.as_slice(), &made);
         self.tokens.insert(at, made)?;
         Ok(())
     }
@@ -96,10 +96,10 @@ fn comes_before(made: &Made, other: &Made) -> bool
 }
 
 // Where the token stands among tokens in order, after those that are equal to it.
-fn place_among(tokens: &[Made], made: &Made) -> usize
+fn index_among(tokens: &[Made], made: &Made) -> usize
     requires in_order { IsInOrder made_cmp (made_views tokens.now) }
     ensures within { result ≤ length tokens.now }
-    ensures place { IsInsertPlace made_cmp (made_view made.now) (made_views tokens.now) result }
+    ensures index { IsInsertIndex made_cmp (made_view made.now) (made_views tokens.now) result }
 {
     tokens.partition_point(|other| !comes_before(made, other))
 }

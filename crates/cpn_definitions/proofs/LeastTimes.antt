@@ -15,7 +15,7 @@ use Rattle.cpn_definitions.proofs.TruthValues.{not_both}
 
 -- ---- thresholds that are not below others
 
--- each number of the first list is at most the one at its place in the second, and the lists are equally long
+-- each number of the first list is at most the one at its index in the second, and the lists are equally long
 abbrev pub AreAtMost : List ℕ → List ℕ → Type 0
 AreAtMost [] [] = Unit {0}
 AreAtMost (t ∷ ts) (u ∷ us) = (t ≤ u) × AreAtMost ts us

@@ -6,7 +6,7 @@ pub mod DistinctLists
 pub mod OneEnabledList
 mod EnabledTransitions
 pub mod OrderedLists
-pub mod InsertPlaces
+pub mod InsertIndexes
 pub mod TokenOrder
 pub mod Outcomes
 pub mod UntimedPlaces

@@ -23,7 +23,7 @@ map_more f (y ∷ xs) x = ap (λ ys. f y ∷ ys) (map_more f xs x)
 
 -- ---- one item of a list
 
--- An item at its place, with what stands before and behind it; another may be put there.
+-- An item at its index, with what stands before and behind it; another may be put there.
 pub record IsSplit {A : Type 0} (xs : List A) (i : ℕ) (x : A) : Type 0 where
   pub before : List A
   pub later : List A
@@ -39,7 +39,7 @@ split_at (y ∷ ys) (suc i) x is =
     let rest = split_at ys i x is in
     record { before = y ∷ rest.before; later = rest.later; is = ap (λ xs. y ∷ xs) rest.is; place = ap (λ (k : ℕ). suc k) rest.place; changed = λ z. ap (λ xs. y ∷ xs) (rest.changed z) }
 
--- what stands at a place is in the list, and the place is one of the list
+-- what stands at an index is in the list, and the index is below its length
 pub in_from_get : {A : Type 0} (xs : List A) (i : ℕ) (x : A) → slice_get xs i ≡ Some x → IsIn x xs
 in_from_get [] zero x is = cc
 in_from_get [] (suc i) x is = cc

@@ -1,7 +1,7 @@
 pub mod Value
 pub mod Order
 pub mod Lists
-pub mod InsertPlaces
+pub mod InsertIndexes
 pub mod Colour
 pub mod Marking
 pub mod ValueOrder

@@ -46,7 +46,7 @@ abbrev pub AreSorted : Tokens → Type 0
 AreSorted [] = Unit {0}
 AreSorted (t ∷ ts) = MayPrecede t ts × AreSorted ts
 
--- the tokens of a place with one more, at its place in the order
+-- the tokens of a place with one more, where the order has it
 abbrev pub add_token : PlainToken → Tokens → Tokens
 add_token t [] = t ∷ []
 add_token t (u ∷ us) = if is_lt (token_cmp t u) then t ∷ u ∷ us else u ∷ add_token t us
@@ -57,7 +57,7 @@ stamps v [] = []
 stamps v (t ∷ ts) = if same_value v t.value then t.stamp ∷ stamps v ts else stamps v ts
 
 -- The timed order, on sorted lists of numbers. Thresholds are covered by stamps where there are at
--- least as many stamps, and each threshold is at least the stamp at its place.
+-- least as many stamps, and each threshold is at least the stamp at its index.
 abbrev pub covers : List ℕ → List ℕ → Bool
 covers ss [] = true
 covers [] (t ∷ ts) = false

@@ -8,7 +8,7 @@ use Rattle.std.specs.Ordering.{ordering_then, nat_cmp, int_cmp, bool_cmp, is_eq}
 use Rattle.std.specs.Cmp.Lexicographic.{slice_cmp}
 use Rattle.cpn_definitions.specs.Value.{PlainValue, PlainValues, unit, boolean, int, constant, text, tuple, bare, applied, list, none, more}
 
--- the place of a value's kind among the kinds
+-- the position of a value's kind among the kinds
 abbrev pub kind_of : PlainValue → ℕ
 kind_of unit = 0
 kind_of (boolean b) = 1

@@ -2,8 +2,8 @@
 use Rattle.cpn_document.specs.declared.pointers.Pointer.{Pointer}
 use Rattle.cpn_document.specs.declared.refusals.Limit.{Limit}
 
--- They are no JSON value; at this place of it something has the wrong shape, is no whole number that may stand there, or is no
--- name or no new one; the version is another; there are too many of this kind; what stands at this place is not served yet.
+-- They are no JSON value; at this pointer something has the wrong shape, is no whole number that may stand there, or is no
+-- name or no new one; the version is another; there are too many of this kind; what stands at this pointer is not served yet.
 pub data FormRefusal : Type 0 where
   not_json : FormRefusal
   shape : Pointer → FormRefusal

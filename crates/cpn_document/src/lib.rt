@@ -2,7 +2,7 @@
 //!
 //! [`read_document`] says which document the bytes are: its declarations, its modules with their places, transitions, arcs and
 //! substitution transitions, its fusion sets, its monitors and its phases, as they are written; or the refusal of the first rule that is broken, with the
-//! place of it ([`Pointer`]). What the texts say is not looked into: the crate knows no colour set, no inscription and no net, and
+//! pointer to it ([`Pointer`]). What the texts say is not looked into: the crate knows no colour set, no inscription and no net, and
 //! joins no name to what it names. It reads and writes nothing outside the program.
 #![tactic(auto)]
 

@@ -1,6 +1,6 @@
-//! Places in a document, as JSON pointers.
+//! Pointers into a document.
 
-/// A place in a document. The items of its lists are numbered from 0.
+/// A JSON pointer to a part of a document. The items of its lists are numbered from 0.
 ///
 /// Source: own choice; JSON pointers are those of RFC 6901.
 #[derive(Clone, Copy, Debug, PartialEq, Eq)]

@@ -47,14 +47,14 @@ pub enum DocError {
     /// The bytes are no JSON value.
     #[error("not a JSON value")]
     NotJson,
-    /// Something at this place has the wrong shape: it is of another kind than it has to be, has a key that is no key of it, or
+    /// Something at this pointer has the wrong shape: it is of another kind than it has to be, has a key that is no key of it, or
     /// lacks one that has to be there.
     #[error("something of the wrong shape")]
     Shape(Pointer),
     /// What stands at this pointer is no whole number, or one out of its range.
     #[error("no whole number, or one out of its range")]
     BadNumber(Pointer),
-    /// What stands at this place is no name, or the name of something before it.
+    /// What stands at this pointer is no name, or the name of something before it.
     #[error("no name, or no new one")]
     BadName(Pointer),
     /// The version is another than 1.
@@ -63,7 +63,7 @@ pub enum DocError {
     /// There are too many of something.
     #[error("too many of something")]
     Limit(Limit),
-    /// What stands at this place is not served yet.
+    /// What stands at this pointer is not served yet.
     #[error("not served yet")]
     NotYet(Pointer),
 }

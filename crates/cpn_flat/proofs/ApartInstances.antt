@@ -15,7 +15,7 @@ use Rattle.cpn_fuse.specs.Instances.{PlainPart, PlainInstance, instance_at, part
 abbrev IsApart : PlainInstance → PlainInstance → Type 0
 IsApart x y = x.part_of ≡ y.part_of → ⊥
 
--- no two of these stand at one place
+-- no two of these are the same part
 abbrev AreApart : List PlainInstance → Type 0
 AreApart [] = Unit {0}
 AreApart (x ∷ xs) = AllByRecursion (IsApart x) xs × AreApart xs
@@ -106,7 +106,7 @@ apart_at (x ∷ xs) i zero lt in_j apart = absurd (omega arith)
 apart_at (x ∷ xs) zero (suc j) lt in_j apart = one_of (IsApart x) xs j (omega arith) apart.0
 apart_at (x ∷ xs) (suc i) (suc j) lt in_j apart = apart_at xs i j (omega arith) (omega arith) apart.1
 
--- Instances that stand at one place are one.
+-- Instances that are the same part are one.
 pub one_place : (h : PlainHierarchy) (is : List PlainInstance) → AreInstances h is → (i j : ℕ) → i < length is → j < length is → (instance_at is i).part_of ≡ (instance_at is j).part_of → i ≡ j
 one_place h is are i j in_i in_j same =
     elim (cases_order i j) [

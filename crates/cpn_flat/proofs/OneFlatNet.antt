@@ -25,7 +25,7 @@ use Rattle.cpn_flat.specs.Refusals.{FlatRefusal, Reading, read, refused, init}
 use Rattle.cpn_flat.specs.Names.{joined_name, sub_name_at, name_at, name_where, AreNames}
 use Rattle.cpn_flat.specs.Placed.{IsBehind, StandBehind}
 use Rattle.cpn_flat.specs.FlatNet.{flat_net}
-use Rattle.cpn_flat.specs.InitialMarking.{tokens_of, terms_so, value_so, values_so, IsShared, none_written, all_same, one_differs, evaluated, started}
+use Rattle.cpn_flat.specs.InitialMarking.{tokens_of, terms_so, value_so, values_so, IsShared, none_written, all_same, one_differs, evaluated, held_together, started}
 use Rattle.cpn_flat.specs.Flat.{IsUnfoldedAs, unfolded, not_unfolded, too_many, all_written, flat_in}
 
 -- ---- instances
@@ -98,9 +98,13 @@ evaluated_one : (n : PlainNet) (written : List (List Initial)) → HasOne (evalu
 evaluated_one n written =
     each_so_one (values_so n) (λ c initials. each_so_one (λ (k : ℕ). value_so n.functions (place_at n c)) (λ k initial. terms_one (place_at n c) (terms_of n.functions initial.expr initial.colour [] 0)) 0 initials) 0 written
 
+held_one : (n : PlainNet) (written : List (List Initial)) → HasOne (held_together n written)
+unfolding held_together
+held_one n written = then_one (evaluated n written) _ (evaluated_one n written) (λ values. each_so_one (λ c value. IsShared (place_at n c) value) (λ c value. shared_one (place_at n c) value) 0 values)
+
 started_one : (n : PlainNet) (written : List (List Initial)) → HasOne (started n written)
 unfolding started
-started_one n written = then_one (evaluated n written) _ (evaluated_one n written) (λ values. each_so_one (λ c value. IsShared (place_at n c) value) (λ c value. shared_one (place_at n c) value) 0 values)
+started_one n written r s h k = held_one n written r s h.1 k.1
 
 -- ---- the whole
 

@@ -1,6 +1,6 @@
 -- The initial marking: its two steps, and how many values there are, with how many tokens.
 use Rattle.std.proofs.Common.{◌≡◌, ℕ, suc, ◌≤◌, List, [], ◌∷◌, length, map, refl, sym, ap, ◌∙◌, subst}
-use Rattle.std.specs.Prelude.{Option}
+use Rattle.std.specs.Prelude.{Option, Some, None}
 use Rattle.std.proofs.lemmas.List.{length-map}
 use Rattle.cpn_definitions.specs.Colour.{PlainColour}
 use Rattle.cpn_definitions.specs.Inscription.{Functions, variable, one}
@@ -15,34 +15,50 @@ use Rattle.cpn_readings.proofs.Readings.{same_read}
 use Rattle.cpn_readings.proofs.RelatedLists.{AreRead, each_read}
 use Rattle.cpn_readings.proofs.RelatedReadings.{then_read, refused_first, refused_next}
 use Rattle.cpn_flat.specs.Refusals.{FlatRefusal, Reading, read}
-use Rattle.cpn_flat.specs.InitialMarking.{terms_so, value_so, values_so, evaluated, started}
+use Rattle.cpn_flat.specs.InitialMarking.{terms_so, value_so, values_so, AreAllMeant, evaluated, held_together, started}
 use Rattle.cpn_flat.specs.Values.{AreFew, AreAllFew}
 use Rattle.cpn_flat.proofs.SharedMarkings.{Shares}
 
 -- ---- the steps
 
-module _ (n : PlainNet) (written : List (List Initial)) where
+module _ (n : PlainNet) (written : List (List Initial)) (meant : AreAllMeant n.functions written) where
+  -- those that are held together are started with
+  all_meant : (o : Option FlatRefusal) → RefusesBy (held_together n written) o → RefusesBy (started n written) o
+  unfolding started
+  all_meant None h = tt
+  all_meant (Some refusal) h = (meant, h)
+
   -- an initial marking has a fault
   pub started_refused : (o : Option FlatRefusal) → RefusesBy (evaluated n written) o → RefusesBy (started n written) o
-  unfolding started
-  started_refused o h = refused_first (evaluated n written) _ o h
+  started_refused o h = all_meant o (refused_together o h)
+    where
+      refused_together : (o : Option FlatRefusal) → RefusesBy (evaluated n written) o → RefusesBy (held_together n written) o
+      unfolding held_together
+      refused_together o h = refused_first (evaluated n written) _ o h
 
   module _ (values : List (List (List PlainTerm))) (are : evaluated n written (read values)) where
     -- the members of each compound place share their tokens
     pub started_read : (m : Marking) → each_so (Shares n) 0 values (read m) → started n written (read m)
-    unfolding started
-    started_read m h = then_read (evaluated n written) _ values (read m) are h
+    unfolding started held_together
+    started_read m h = (meant, then_read (evaluated n written) _ values (read m) are h)
 
     -- those of one compound place do not
     pub started_apart : (o : Option FlatRefusal) → RefusesBy (each_so (Shares n) 0 values) o → RefusesBy (started n written) o
-    unfolding started
-    started_apart o h = refused_next (evaluated n written) _ values o are h
+    started_apart o h = all_meant o (apart_together o h)
+      where
+        apart_together : (o : Option FlatRefusal) → RefusesBy (each_so (Shares n) 0 values) o → RefusesBy (held_together n written) o
+        unfolding held_together
+        apart_together o h = refused_next (evaluated n written) _ values o are h
 
--- ---- where an initial marking has no meaning, there is no reading, as where it is a variable
+-- ---- where an initial marking has no meaning, there is no reading, as where it is a variable: alone, and after one with a fault
 
 a_variable_alone : (n : PlainNet) (colour : PlainColour) (r : Reading Marking) → started n ((record { expr = one (variable 0); colour = colour } ∷ []) ∷ []) r → ⊥
-unfolding started each_so
-a_variable_alone n colour r h = h.1.1.1
+unfolding started
+a_variable_alone n colour r h = h.0.0.0 refl
+
+a_variable_after : (n : PlainNet) (colour : PlainColour) (r : Reading Marking) (earlier : Initial) → started n ((earlier ∷ record { expr = one (variable 0); colour = colour } ∷ []) ∷ []) r → ⊥
+unfolding started
+a_variable_after n colour r earlier h = h.0.0.1.0 refl
 
 -- ---- the values
 

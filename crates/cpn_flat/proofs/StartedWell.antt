@@ -29,7 +29,7 @@ use Rattle.cpn_readings.proofs.Readings.{same_read}
 use Rattle.cpn_readings.proofs.RelatedReadings.{step_parts}
 use Rattle.cpn_readings.proofs.RelatedLists.{AreRead, each_read}
 use Rattle.cpn_flat.specs.Refusals.{Reading, read}
-use Rattle.cpn_flat.specs.InitialMarking.{token_of, tokens_of, terms_so, value_so, values_so, IsShared, none_written, all_same, one_differs, evaluated, started}
+use Rattle.cpn_flat.specs.InitialMarking.{token_of, tokens_of, terms_so, value_so, values_so, IsShared, none_written, all_same, one_differs, evaluated, held_together, started}
 use Rattle.cpn_flat.specs.Values.{AreOfColour, HaveColours}
 use Rattle.cpn_flat.proofs.SharedMarkings.{Shares}
 use Rattle.cpn_flat.proofs.StartedMarkings.{as_many_values}
@@ -189,9 +189,9 @@ marking_from n i [] (values ∷ lists) (tokens ∷ m) there long starts are = ab
 -- The law: the initial marking of a net is a marking of its places, and bounded, where each written initial marking is for the
 -- colour set of its compound place.
 pub started_well : (n : PlainNet) (written : List (List Initial)) (m : Marking) → length written ≡ length n.places → HaveColours n written → started n written (read m) → IsStartOf n.places m
-unfolding started
+unfolding started held_together
 started_well n written m long have h =
-    let first = step_parts (evaluated n written) _ m h in
+    let first = step_parts (evaluated n written) _ m h.1 in
     marking_from n 0 n.places first.0 m (λ k. ap (place_at n) (from_zero k)) (as_many_values n written first.0 first.1 ∙ long)
     (lists_start n 0 written first.0 (λ c lt. subst (λ k. AreOfColour (place_at n k).colour (slice_index_or written c [])) (from_zero c) (have c lt)) (each_read (values_so n) 0 written first.0 first.1))
     (each_read (Shares n) 0 first.0 m first.2)

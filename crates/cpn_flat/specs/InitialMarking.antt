@@ -87,9 +87,13 @@ pub data IsShared (place : Coloured) : List (List PlainTerm) → Reading Tokens 
   all_same : (value : List PlainTerm) (others : List (List PlainTerm)) → All (λ o. tokens_of place.colour.timed o ≡ tokens_of place.colour.timed value) others → IsShared place (value ∷ others) (read (tokens_of place.colour.timed value))
   one_differs : (value : List PlainTerm) (others : List (List PlainTerm)) (other : List PlainTerm) → Contains others other → (tokens_of place.colour.timed other ≡ tokens_of place.colour.timed value → ⊥) → IsShared place (value ∷ others) (refused (initial_differs place.name))
 
--- The initial marking of the flat net: first all initial markings are evaluated, then they are held against one another. It is
--- given the written initial markings of the members of each compound place.
-unfoldable pub started : PlainNet → List (List Initial) → Reading Marking → Type 0
-started n written = do
+-- All initial markings are evaluated, then those of each compound place are held against one another.
+unfoldable pub held_together : PlainNet → List (List Initial) → Reading Marking → Type 0
+held_together n written = do
   values ← evaluated n written
   each_so (λ c value. IsShared (place_at n c) value) 0 values
+
+-- The initial marking of the flat net, given the written initial markings of the members of each compound place: all of them have a meaning,
+-- also those after one with a fault, and this is what they are, held together.
+unfoldable pub started : PlainNet → List (List Initial) → Reading Marking → Type 0
+started n written marking = AreAllMeant n.functions written × held_together n written marking

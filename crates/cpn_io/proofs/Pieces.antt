@@ -7,7 +7,7 @@ use Rattle.std.proofs.KnownBytes.{Appends-trans}
 use Rattle.std.specs.declared.option.Option.{Option}
 use Rattle.std.specs.Io.KnownBytes.{Appends, Consumes, IsAtEnd, Keeps}
 
--- the first n bytes from a place on, copied to the front of a buffer, and those from n on, make the rest
+-- the first n bytes from an index on, copied to the front of a buffer, and those from n on, make the rest
 pub front_and_rest : (n at : ℕ) (bytes left piece tail : List ℕ)
     → left ≡ drop at bytes → n ≤ length left → piece ≡ take n left
     → left ≡ take n (piece ++ tail) ++ drop (at + n) bytes

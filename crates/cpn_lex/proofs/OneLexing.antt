@@ -11,7 +11,7 @@ use Rattle.cpn_lex.proofs.FirstBytes.{after_blank, after_quote, not_empty}
 use Rattle.cpn_lex.proofs.StringEnds.{closed_or_broken, broken_once}
 use Rattle.cpn_lex.proofs.FrontTokens.{token_once}
 
--- ---- at one place
+-- ---- at one offset
 
 quote_or_blank : (byte : ℕ) → is_quote byte ≡ true → is_blank byte ≡ true → ⊥
 quote_or_blank byte q b = grind (arith, nat_tests)

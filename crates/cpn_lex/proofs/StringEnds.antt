@@ -1,4 +1,4 @@
--- A string is closed at one place alone, means one text, and isn't both closed and broken.
+-- A string is closed at one offset alone, means one text, and isn't both closed and broken.
 use Rattle.std.proofs.Common.{◌≡◌, ℕ, ◌+◌, Bool, true, false, if◌then◌else◌, List, [], ◌∷◌, ◌++◌, length, refl, sym, ap, ◌∙◌, arith}
 use Rattle.std.specs.Prelude.{Result, Ok, Err}
 use Rattle.std.proofs.lemmas.List.{append-nil}

@@ -32,7 +32,7 @@ inside_starts at (quote ∷ rest) q = record {
 
 -- ---- what follows a byte
 
--- the bytes after the one at a place
+-- the bytes after the one at an offset
 abbrev pub after_byte : List ℕ → ℕ → List ℕ
 after_byte bytes read = take (length bytes - (read + 1)) (drop (read + 1) bytes)
 

@@ -1,4 +1,4 @@
--- What stands at one place in a string.
+-- What stands at one offset in a string.
 use Rattle.std.specs.Prelude.{◌≡◌, ℕ, ◌<◌, true, false, List, length, slice_index}
 use Rattle.cpn_lex.specs.declared.strings.Piece.{Piece}
 use Rattle.cpn_lex.specs.declared.strings.Piece.TheVariants.{Plain, Escaped, Quote, Bad, BadEscape, End}

@@ -8,7 +8,7 @@ use Rattle.cpn_lex.specs.Token.{PlainToken, number}
 use Rattle.cpn_lex.specs.Lexis.{is_blank, is_quote, is_backslash, is_escapable, is_plain, IsToken, HasNoToken}
 use Rattle.cpn_lex.specs.Tokens.{Goes}
 
--- In a string that opened at the first place, what stands from the second on breaks a rule: the text ends, or a
+-- In a string that opened at the first offset, what stands from the second on breaks a rule: the text ends, or a
 -- byte may not stand there.
 pub data BreaksString (opened : ℕ) : ℕ → List ℕ → LexError → Type 0 where
   ends : (at : ℕ) → BreaksString opened at [] (OpenString opened)
@@ -18,7 +18,7 @@ pub data BreaksString (opened : ℕ) : ℕ → List ℕ → LexError → Type 0 
   past : (at byte : ℕ) (rest : List ℕ) (refusal : LexError) → is_plain byte ≡ true → BreaksString opened (at + 1) rest refusal → BreaksString opened at (byte ∷ rest) refusal
   past_escaped : (at backslash byte : ℕ) (rest : List ℕ) (refusal : LexError) → is_backslash backslash ≡ true → is_escapable byte ≡ true → BreaksString opened (at + 1 + 1) rest refusal → BreaksString opened at (backslash ∷ byte ∷ rest) refusal
 
--- What stands at a place breaks a rule: no token begins there, or a string that isn't closed or has a bad byte,
+-- What stands at an offset breaks a rule: no token begins there, or a string that isn't closed or has a bad byte,
 -- or a number that isn't within 64 bits.
 pub data BreaksAt : ℕ → List ℕ → LexError → Type 0 where
   no_token : (at byte : ℕ) (rest : List ℕ) → is_blank byte ≡ false → is_quote byte ≡ false → HasNoToken (byte ∷ rest) → BreaksAt at (byte ∷ rest) (BadByte at)

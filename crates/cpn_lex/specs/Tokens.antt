@@ -3,7 +3,7 @@ use Rattle.std.specs.Prelude.{◌≡◌, ℕ, ◌+◌, true, List, [], ◌∷◌
 use Rattle.cpn_lex.specs.Token.{PlainKind, PlainToken}
 use Rattle.cpn_lex.specs.Lexis.{is_blank, IsToken, Fits}
 
--- From a place on, a text is these tokens, with blanks round them, up to an end from which the rest is left.
+-- From an offset on, a text is these tokens, with blanks round them, up to an end from which the rest is left.
 pub data Goes : ℕ → List ℕ → List PlainToken → ℕ → List ℕ → Type 0 where
   stops : (at : ℕ) (text : List ℕ) → Goes at text [] at text
   blank : (at byte : ℕ) (text : List ℕ) (tokens : List PlainToken) (end : ℕ) (rest : List ℕ) →

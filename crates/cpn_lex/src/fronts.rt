@@ -22,7 +22,7 @@ pub(crate) struct Front {
     pub(crate) length: usize,
 }
 
-/// The token at the front of a text that stands at the place and begins with no blank.
+/// The token at the front of a text that stands at the offset and begins with no blank.
 pub(crate) fn front_of(alloc: Global, text: &[u8], at: usize) -> Result<Front, LexError>
     requires some { 0 < length text.now }
     requires no_blank { begins_with blank text.now ≡ false }

@@ -66,7 +66,7 @@ fn signed(is_negative: bool, size: u64) -> Option<i64>
 }
 
 /// The number at the front of a text; where it is too large, an error at its first byte, which stands at
-/// the place.
+/// the offset.
 pub(crate) fn number_front(text: &[u8], at: usize) -> Result<Front, LexError>
     requires { begins text.now ≡ true }
     ensures ok { IfOk result (λ front. Begins text.now (kind_view front.kind) front.length) }

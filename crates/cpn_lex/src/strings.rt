@@ -13,7 +13,7 @@ use crate::refusals::LexError;
 use crate::tokens::Kind;
 use std::alloc::Global;
 
-/// What stands at one place in a string.
+/// What stands at one offset in a string.
 #[derive(Clone, Copy)]
 enum Piece {
     /// A byte that stands for itself.
@@ -50,7 +50,7 @@ fn piece_of(first: u8, rest: &[u8]) -> Piece
     }
 }
 
-/// The string at the front of a text that begins with a quote and stands at the place.
+/// The string at the front of a text that begins with a quote and stands at the offset.
 pub(crate) fn string_front(alloc: Global, text: &[u8], at: usize) -> Result<Front, LexError>
     requires quoted { begins_with quote text.now ≡ true }
     requires room { at + length text.now < 2 ^ 64 }

@@ -13,7 +13,7 @@ use Rattle.cpn_definitions.specs.Lists.{IsInOrder}
 use Rattle.cpn_definitions.specs.Occurrence.{Needed, Made, needed_cmp, made_cmp}
 use Rattle.cpn_definitions.proofs.RisingLists.{each_in, contains_from_in}
 use Rattle.cpn_definitions.proofs.NumberTests.{equals_itself}
-use Rattle.cpn_definitions.proofs.InsertPlaces.{not_after}
+use Rattle.cpn_definitions.proofs.InsertIndexes.{not_after}
 use Rattle.cpn_tmset.specs.Changed.{PlainChange, change_cmp}
 use Rattle.cpn_tmset.proofs.ChangeOrder.{change_cmp_total, change_same}
 use Rattle.cpn_log.specs.Gathered.{same_change, need_change, made_change}

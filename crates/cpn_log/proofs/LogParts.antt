@@ -56,7 +56,7 @@ made_is log within = let committed = committed_is log within in let behind = beh
 
 -- ---- what each claim says
 
--- the seat of the claim at a place
+-- the seat of the claim at an index
 pub seat_at : (log : Log) (number : ℕ) (claim : Claim) → slice_get log.claims.items number ≡ Some claim → slice_get (seats (log_view log)) number ≡ Some claim.seat
 seat_at log number claim is =
     ap (λ (hs : List PlainHead). slice_get (map (λ (h : PlainHead). h.seat) (map head_view (take log.committed log.claims.items) ++ hs)) number) (heads_behind (drop log.committed log.claims.items))
@@ -134,7 +134,7 @@ open_at log number is = ⊎_elim (λ lt. absurd (not_committed lt)) (λ ge. behi
 
 -- ---- a claim has another course
 
--- at a place of the claims behind
+-- at an index of the claims behind
 course_at : (course : Course) (p : ℕ) (cs : List Claim) → map claim_view (with_course course p cs) ≡ with_status (status_view course) p (map claim_view cs)
 course_at course p cs = split (slice_get cs p) refl
   where

@@ -60,7 +60,7 @@ pub Grows-insert_all : (xs ys : List ℕ) → Grows xs (insert_all nat_eq xs ys)
 Grows-insert_all xs [] = stays xs
 Grows-insert_all xs (y ∷ ys) = after xs _ _ (Grows-insert_key xs y) (Grows-insert_all (insert_key nat_eq xs y) ys)
 
--- the number at a place is there
+-- the number at an index is there
 pub among_at : (xs : List ℕ) (j : ℕ) → j < length xs → is_among (get_or xs j 0) xs ≡ true
 among_at xs j lt = list_any_at (nat_eq (get_or xs j 0)) xs j 0 lt (eq-eqb (get_or xs j 0) (get_or xs j 0) refl)
 

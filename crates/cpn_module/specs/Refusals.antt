@@ -1,7 +1,7 @@
 -- Why the modules of a document make no hierarchy. Source: Jensen and Kristensen, chapter 6; the order is an own choice.
 use Rattle.cpn_document.specs.declared.pointers.Pointer.{Pointer}
 
--- Each with the place in the document: no module has the name; no place (no port, in an assignment) has it; no transition and no
+-- Each with the pointer into the document: no module has the name; no place (no port, in an assignment) has it; no transition and no
 -- substitution transition has it; the module is part of itself; a socket and its port are of different types; their colour
 -- sets differ, or those of two members of a fusion set; the port has a socket already; the member is a port; the member is in
 -- a fusion set already.

@@ -25,12 +25,12 @@ pub enum NetError {
     /// The modules make no hierarchy.
     #[error("{0}")]
     Modules(ModuleError),
-    /// The text at this place, or the variables of the transition there, are not accepted.
+    /// The text at this pointer, or the variables of the transition there, are not accepted.
     #[error("{1}")]
     Inscription(Pointer, InscriptionError),
 }
 
-/// The refusal of the text at a place that has no tree.
+/// The refusal of the text at a pointer that has no tree.
 pub(crate) fn not_parsed(at: Pointer, error: Unparsed) -> NetError
     ensures refused { net_refusal_of result ≡ Some (inscription at (no_tree (unparsed_view error))) }
 {
@@ -40,7 +40,7 @@ pub(crate) fn not_parsed(at: Pointer, error: Unparsed) -> NetError
     }
 }
 
-/// The refusal of what stands at a place by a rule of typing.
+/// The refusal of what stands at a pointer by a rule of typing.
 pub(crate) fn not_accepted(at: Pointer, error: TypeError) -> NetError
     ensures refused { net_refusal_of result ≡ option_map (λ r. inscription at (typing r)) (type_refusal_of error) }
 {

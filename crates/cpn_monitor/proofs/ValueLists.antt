@@ -19,7 +19,7 @@ as_long [] vs = refl
 as_long (m ∷ ms) [] = refl
 as_long (m ∷ ms) (v ∷ vs) = ap (λ (n : ℕ). suc n) (as_long ms vs)
 
--- the value at a place that has no number yet
+-- the value at an index that has no number yet
 pub behind : (ms : List PlainMeasured) (vs : List PlainMonitorValue) (i : ℕ) (e : PlainMonitorValue) → length ms ≡ i → get_or (with_measured ms vs) i e ≡ get_or vs i e
 behind [] vs i e is = refl
 behind (m ∷ ms) [] i e is = refl

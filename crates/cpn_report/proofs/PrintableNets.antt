@@ -14,7 +14,7 @@ use Rattle.cpn_report.specs.Printable.{is_bound, is_binding_element}
 
 -- ---- one item of a list
 
--- what was read at a place, among the items as they are seen
+-- what was read at an index, among the items as they are seen
 pub seen_at : {X Y : Type 0} (view : X → Y) (xs : List X) (i : ℕ) (x : X) (d : Y) → i < length xs → x ≡ get_or xs i x → get_or (map view xs) i d ≡ view x
 seen_at view xs i x d lt is = get_or-map view xs i x d lt ∙ ap view (sym is)
 

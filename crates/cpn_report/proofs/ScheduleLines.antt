@@ -48,7 +48,7 @@ unfolding line_end
 line_ends [] = refl
 line_ends (event ∷ journal) = subst (λ text. is_word_byte (get_or text 0 0) ≡ false) (sym (event_is event journal)) refl
 
--- texts that are the same have the same byte at each place
+-- texts that are the same have the same byte at each index
 byte_at : (i : ℕ) (text other : List ℕ) → text ≡ other → get_or text i 0 ≡ get_or other i 0
 byte_at i text other e = ap (λ bytes. get_or bytes i 0) e
 

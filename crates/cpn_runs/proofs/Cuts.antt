@@ -74,7 +74,7 @@ pub done_are_closed : (claims : List PlainClaim) → AreDone claims → list_any
 done_are_closed [] done = refl
 done_are_closed (claim ∷ claims) done = rw (done_is_not_open claim.status done.0) (done_are_closed claims done.1)
 
--- the claim at a place among them is done
+-- the claim at an index among them is done
 pub done_at : (claims : List PlainClaim) (i : ℕ) (claim : PlainClaim) → AreDone claims → slice_get claims i ≡ Some claim → is_done claim.status ≡ true
 done_at [] zero claim done is = cc
 done_at [] (suc i) claim done is = cc

@@ -1,4 +1,4 @@
--- What holds of each two items at one place of two lists.
+-- What holds of each two items at one index of two lists.
 use Rattle.std.proofs.Common.{List, [], ◌∷◌, ◌++◌}
 use Rattle.cpn_runs.specs.Filling.{EachTwo}
 

@@ -1,4 +1,4 @@
--- Filling a hole in a run of claims: a claim that added nothing adds outputs at its own place in the order. Every later claim
+-- Filling a hole in a run of claims: a claim that added nothing adds outputs where it stands in the order. Every later claim
 -- finds its needs still, and the run is `filled_run` of the one before.
 use Rattle.std.proofs.Common.{◌≡◌, List, [], ◌∷◌, ◌++◌, length, Some, refl, sym, ap, subst, ◌∙◌}
 use Rattle.std.specs.List.{AllByRecursion}

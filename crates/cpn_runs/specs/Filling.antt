@@ -1,4 +1,4 @@
--- Filling: a claim that added nothing adds its outputs, at its own place in the order of claims. What becomes of the picks of the
+-- Filling: a claim that added nothing adds its outputs, where it stands in the order of claims. What becomes of the picks of the
 -- claims behind it, and which tokens are left over. Source: own choice.
 use Rattle.std.specs.Prelude.{◌≡◌, ℕ, suc, ◌≤◌, ◌==◌, Bool, ◌&&◌, if◌then◌else◌, nat_lt, nat_le, List, [], ◌∷◌, ◌++◌, take, drop, Some}
 use Rattle.cpn_definitions.specs.Order.{same_value}

@@ -20,7 +20,7 @@ pub record PlainClaim : Type 0 where
   pub needs : List Needed
   pub status : Status
 
--- the tokens that a claim adds at its own place in the order: an open or faulted one adds nothing
+-- the tokens that a claim adds where it stands in the order: an open or faulted one adds nothing
 abbrev pub added : Status → List Made
 added open_claim = []
 added (done_with outputs) = outputs

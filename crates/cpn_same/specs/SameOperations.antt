@@ -35,7 +35,7 @@ abbrev pub component_of : Operation → ℕ
 component_of (component k) = k
 component_of o = 0
 
--- whether two operations are the same: at one place, and of the same component
+-- whether two operations are the same: at one index, and of the same component
 abbrev pub same_operation : Operation → Operation → Bool
 same_operation o other = (place_of o == place_of other) && (component_of o == component_of other)
 
@@ -50,7 +50,7 @@ same_head h g = false
 
 -- ---- laws
 
--- the operation at a place, with the number of its component
+-- the operation at an index, with the number of its component
 abbrev operation_at : ℕ → ℕ → Operation
 operation_at place k =
     get_or

@@ -13,7 +13,7 @@ use Rattle.cpn_definitions.specs.Occurrence.{needed_cmp}
 use Rattle.cpn_definitions.specs.ValueOrder.{value_cmp_total}
 use Rattle.cpn_definitions.proofs.DividedLists.{divided}
 use Rattle.cpn_definitions.proofs.TokenOrder.{needed_cmp_total}
-use Rattle.cpn_definitions.proofs.InsertPlaces.{turn_lt, not_after}
+use Rattle.cpn_definitions.proofs.InsertIndexes.{turn_lt, not_after}
 use Rattle.cpn_core.specs.declared.needed.Needed.{Needed}
 use Rattle.cpn_tmset.specs.NeedPositions.{need_before}
 use Rattle.cpn_core.specs.NeedsViews.{needed_view, needed_views}

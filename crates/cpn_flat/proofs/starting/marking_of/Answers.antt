@@ -38,7 +38,7 @@ shared_marking-requires-clause-few c =
 
 pub returns : goal.returns
 returns c = record {
-  started = started_read (net_view c.args.net.now) (lists_view c.args.written.now) (value_lists_view c.in_ok-values.values.items) c.in_ok-values.ensures.values c.in_ok-marking.marking
+  started = started_read (net_view c.args.net.now) (lists_view c.args.written.now) c.requires.meant (value_lists_view c.in_ok-values.values.items) c.in_ok-values.ensures.values c.in_ok-marking.marking
       (rw c.as_slice.ensures.value at c.in_ok-marking.ensures.shared);
 }
 
@@ -46,12 +46,12 @@ pub returns-in_err-values : goal.returns-in_err-values
 returns-in_err-values c = record {
   started = (
       let p = err_from_is_err_and c.from_residual.result c.from_residual.ensures.1 in
-      rw (p.1, p.2) (started_refused (net_view c.args.net.now) (lists_view c.args.written.now) (refusal_of c.in_err-values.field-0.0) c.in_err-values.ensures.values));
+      rw (p.1, p.2) (started_refused (net_view c.args.net.now) (lists_view c.args.written.now) c.requires.meant (refusal_of c.in_err-values.field-0.0) c.in_err-values.ensures.values));
 }
 
 pub returns-in_err-marking : goal.returns-in_err-marking
 returns-in_err-marking c = record {
   started = (
       let p = err_from_is_err_and c.from_residual-in_err-marking.result c.from_residual-in_err-marking.ensures.1 in
-      rw (p.1, p.2) (started_apart (net_view c.args.net.now) (lists_view c.args.written.now) (value_lists_view c.in_ok-values.values.items) c.in_ok-values.ensures.values (refusal_of c.in_err-marking.field-0.0) (rw c.as_slice.ensures.value at c.in_err-marking.ensures.shared)));
+      rw (p.1, p.2) (started_apart (net_view c.args.net.now) (lists_view c.args.written.now) c.requires.meant (value_lists_view c.in_ok-values.values.items) c.in_ok-values.ensures.values (refusal_of c.in_err-marking.field-0.0) (rw c.as_slice.ensures.value at c.in_err-marking.ensures.shared)));
 }

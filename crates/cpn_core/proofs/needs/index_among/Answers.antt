@@ -4,12 +4,12 @@ use Rattle.std.proofs.lemmas.List.Sorted.{IsPartitionPoint-from_clause}
 use Rattle.cpn_definitions.specs.Occurrence.{needed_cmp}
 use Rattle.cpn_definitions.proofs.TokenOrder.{needed_cmp_total}
 use Rattle.cpn_core.specs.NeedsViews.{needed_view}
-use Rattle.cpn_definitions.proofs.InsertPlaces.{divided_by_item, item_place}
-use Rattle.cpn_core.proofs.needs.place_among.Goals as goal
+use Rattle.cpn_definitions.proofs.InsertIndexes.{divided_by_item, item_index}
+use Rattle.cpn_core.proofs.needs.index_among.Goals as goal
 
-pub returns-clause-place : goal.returns-clause-place
-returns-clause-place c =
+pub returns-clause-index : goal.returns-clause-index
+returns-clause-index c =
     let split = divided_by_item needed_view needed_cmp needed_cmp_total (needed_view c.args.needed.now) c.args.tokens.now c.requires.in_order in
     let point =
     IsPartitionPoint-from_clause (λ y. not (is_lt (needed_cmp (needed_view c.args.needed.now) (needed_view y)))) c.args.tokens.now c.partition_point.result c.partition_point.ensures.partitioned split (λ a r f k. search rules) in
-    item_place needed_view needed_cmp (needed_view c.args.needed.now) c.args.tokens.now c.partition_point.result c.partition_point.ensures.bound point
+    item_index needed_view needed_cmp (needed_view c.args.needed.now) c.args.tokens.now c.partition_point.result c.partition_point.ensures.bound point
