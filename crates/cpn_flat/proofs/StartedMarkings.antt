@@ -29,12 +29,12 @@ module _ (n : PlainNet) (written : List (List Initial)) (meant : AreAllMeant n.f
   all_meant (Some refusal) h = (meant, h)
 
   -- an initial marking has a fault
+  refused_together : (o : Option FlatRefusal) → RefusesBy (evaluated n written) o → RefusesBy (held_together n written) o
+  unfolding held_together
+  refused_together o h = refused_first (evaluated n written) _ o h
+
   pub started_refused : (o : Option FlatRefusal) → RefusesBy (evaluated n written) o → RefusesBy (started n written) o
   started_refused o h = all_meant o (refused_together o h)
-    where
-      refused_together : (o : Option FlatRefusal) → RefusesBy (evaluated n written) o → RefusesBy (held_together n written) o
-      unfolding held_together
-      refused_together o h = refused_first (evaluated n written) _ o h
 
   module _ (values : List (List (List PlainTerm))) (are : evaluated n written (read values)) where
     -- the members of each compound place share their tokens
@@ -43,12 +43,12 @@ module _ (n : PlainNet) (written : List (List Initial)) (meant : AreAllMeant n.f
     started_read m h = (meant, then_read (evaluated n written) _ values (read m) are h)
 
     -- those of one compound place do not
+    apart_together : (o : Option FlatRefusal) → RefusesBy (each_so (Shares n) 0 values) o → RefusesBy (held_together n written) o
+    unfolding held_together
+    apart_together o h = refused_next (evaluated n written) _ values o are h
+
     pub started_apart : (o : Option FlatRefusal) → RefusesBy (each_so (Shares n) 0 values) o → RefusesBy (started n written) o
     started_apart o h = all_meant o (apart_together o h)
-      where
-        apart_together : (o : Option FlatRefusal) → RefusesBy (each_so (Shares n) 0 values) o → RefusesBy (held_together n written) o
-        unfolding held_together
-        apart_together o h = refused_next (evaluated n written) _ values o are h
 
 -- ---- where an initial marking has no meaning, there is no reading, as where it is a variable: alone, and after one with a fault
 
