@@ -19,7 +19,7 @@ abbrev still : PlainNet
 still = record { places = []; transitions = []; variables = []; constants = []; constructors = []; functions = [] }
 
 abbrev setup : ℕ → PlainSetup
-setup steps = record { net = still; start = []; clock = 0; limits = record { steps = steps; until = 9; seats = 4 }; seed = 0 }
+setup steps = record { net = still; start = []; clock = 0; limits = record { steps = steps; until = 9; seats = 4 }; functions = []; monitors = []; seed = 0 }
 
 abbrev claim_of : ℕ → Status → PlainClaim
 claim_of seat status = record { seat = seat; element = record { transition = 0; binding = [] }; time = 0; needs = []; status = status }

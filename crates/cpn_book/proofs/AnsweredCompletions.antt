@@ -12,6 +12,7 @@ use Rattle.cpn_jobs.specs.declared.work.Job.{Job}
 use Rattle.cpn_log.specs.Logs.{stands_open, standing_of, standings}
 use Rattle.cpn_log.specs.LogViews.{log_view, jobs_in}
 use Rattle.cpn_runs.specs.HoleRun.{PlainClaim, Status, open_claim, done_with, faulted_with, is_open}
+use Rattle.cpn_runs.specs.FinishedViews.{setup_view}
 use Rattle.cpn_runs.specs.State.{PlainSetup, PlainState, PlainEvent, PlainCut, claim_completed, cut_made, first_state, owed_cut, given_outputs, Leads}
 use Rattle.cpn_runs.specs.Filling.{IsFilled}
 use Rattle.cpn_runs.specs.Playable.{IsPlayable}
@@ -162,7 +163,7 @@ module _ (book : Book) (playable : IsPlayable (setup_in book)) (running : IsRunn
         after = led.0;
         may = led.1;
         fills = fills;
-        events_are = ap (λ es. claim_completed seat (evaluated_number done) ∷ es) (cut_is_owed (setup_in book) (option_map cut_view new.standing.cut) led.0 then.at.at.state led.2 then.at.none_owed);
+        events_are = ap (λ es. claim_completed seat (evaluated_number done) ∷ es) (cut_is_owed (setup_in book) (option_map cut_view new.standing.cut) led.0 then.at.at.state led.2 (subst (λ (s : PlainSetup). owed_cut s then.at.at.state ≡ None) (ap setup_view setup) then.at.none_owed));
       }
 
       done_answer : Answered new completions.Done

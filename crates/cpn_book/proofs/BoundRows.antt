@@ -22,7 +22,7 @@ abbrev one_place : PlainNet
 one_place = record { places = record { name = []; colour = digits } ∷ []; transitions = []; variables = []; constants = []; constructors = []; functions = [] }
 
 abbrev setup : Tokens → PlainSetup
-setup tokens = record { net = one_place; start = tokens ∷ []; clock = 0; limits = record { steps = 5; until = 9; seats = 1 }; seed = 0 }
+setup tokens = record { net = one_place; start = tokens ∷ []; clock = 0; limits = record { steps = 5; until = 9; seats = 1 }; functions = []; monitors = []; seed = 0 }
 
 -- what is shown of a run that ended at a clock with these tokens, after so many occurrences
 abbrev occurrence : PlainOccurrence
@@ -37,6 +37,7 @@ ended clock occurrences tokens = record {
   clock = clock;
   cause = dead;
   closing = record { ready_count = 0; next = None };
+  values = [];
 }
 
 -- so many times 7 at 0

@@ -1,5 +1,5 @@
 -- The bounds of a run: its clock is one that it may reach, and its markings are of the net's places, with few tokens on each.
-use Rattle.std.proofs.Common.{◌≡◌, ℕ, ◌-◌, ◌^◌, ◌≤◌, length, sym, subst, arith}
+use Rattle.std.proofs.Common.{[], ◌≡◌, ℕ, ◌-◌, ◌^◌, ◌≤◌, length, sym, subst, arith}
 use Rattle.cpn_definitions.specs.Bounds.{IsBounded}
 use Rattle.cpn_definitions.specs.Marking.{Marking}
 use Rattle.cpn_definitions.specs.Sound.{IsMarking}
@@ -55,7 +55,7 @@ module _ (book : Book) (is : IsBook book) (running : IsRunning book) where
   settled_kept =
       let m = (log_view book.standing.log).settled in
       let few = bounds.few_claims in
-      let first = no_more_committed state.claims in
+      let first = no_more_committed (setup_in book).monitors [] (setup_in book).start state.claims in
       few_claims_leave (setup_in book) (committed (setup_in book) state) m is.playable (omega (arith, few, first)) (bounds.settled m (settled_is book running))
 
 -- ---- a run
@@ -71,7 +71,7 @@ run_ends_in_bounds setup run playable is =
     let clock = bounds.clock in
     let clock_is = is.clock_is in
     let few = bounds.few_claims in
-    let first = no_more_committed is.state.claims in
+    let first = no_more_committed setup.monitors [] setup.start is.state.claims in
     let kept = few_claims_leave setup (committed setup is.state) run.marking playable (omega (arith, few, first)) (bounds.settled run.marking is.marking_is) in
     record {
       in_time = omega (arith, clock, clock_is);

@@ -11,22 +11,33 @@ use Rattle.cpn_jobs.specs.Work.{PlainJob}
 use Rattle.cpn_log.specs.Kept.{IsKept}
 use Rattle.cpn_log.specs.Logs.{head_of, heads, claims_made, opened}
 use Rattle.cpn_log.specs.LogViews.{log_view, jobs_in}
+use Rattle.cpn_definitions.proofs.RisingLists.{each_appended}
+use Rattle.cpn_monitor.specs.Views.{values_view}
+use Rattle.cpn_runs.specs.Commits.{marked_from, stop_at_last}
+use Rattle.cpn_runs.proofs.Cuts.{owes_none}
 use Rattle.cpn_runs.specs.HoleRun.{PlainClaim}
 use Rattle.cpn_runs.specs.State.{PlainSetup, PlainState, claim_made, IsDrawn, given_needs, new_claim, numbered}
 use Rattle.cpn_book.specs.Held.{held_from}
-use Rattle.cpn_book.specs.StandingRuns.{StandsAt}
+use Rattle.cpn_book.specs.StandingRuns.{GoesOn, StandsAt}
 use Rattle.cpn_book.proofs.MadeClaims.{IsNextClaim, stands_claimed}
-use Rattle.cpn_book.specs.Standings.{IsToldAt, IsAt, job_for, cut_view, events_in, occurrences_in}
+use Rattle.cpn_book.specs.Standings.{IsToldAt, IsAt, committed_of, job_for, cut_view, events_in, occurrences_in}
 use Rattle.cpn_book.specs.declared.standings.Standing.{Standing}
 use Rattle.cpn_book.proofs.CountedClaims.{claims_counted}
+use Rattle.cpn_book.proofs.MeasuredStandings.{measured_alike, WereMadeAt, made_at_same}
 
 -- where a run stands between two events
 pub stands_at : (setup : PlainSetup) (s : Standing) (is : IsAt setup s) → StandsAt setup (events_in s) is.at.state (log_view s.log) s.held.items
-stands_at setup s is = record { told = is.at.told; stops = is.stops; none_owed = is.none_owed }
+stands_at setup s is = record { told = is.at.told; all_committed = is.all_committed; none_owed = is.none_owed }
 
 -- no cut stands in the state where the program has none
 pub uncut_in : (setup : PlainSetup) (s : Standing) (at : IsToldAt setup s) → s.cut ≡ None → at.state.cut ≡ None
 uncut_in setup s at none = sym at.cut ∙ ap (option_map cut_view) none
+
+-- no monitor stops the run there after the last committed claim
+pub goes_on_at : (setup : PlainSetup) (s : Standing) (is : IsAt setup s) → s.cut ≡ None → GoesOn setup is.at.state (log_view s.log)
+goes_on_at setup s is none =
+    ap (λ k. stop_at_last setup.monitors (marked_from setup.start (take k is.at.state.claims))) (sym is.all_committed)
+    ∙ (owes_none setup is.at.state (uncut_in setup s is.at none) is.none_owed).0
 
 -- the claims of the state are those that the log counts
 pub counted : (setup : PlainSetup) (s : Standing) (at : IsToldAt setup s) → length at.state.claims ≡ claims_made (log_view s.log)
@@ -49,6 +60,7 @@ pub record HasClaimed (setup : PlainSetup) (old new : Standing) (seat : ℕ) : T
   pub clock : new.clock ≡ old.clock
   pub cut : new.cut ≡ old.cut
   pub occurrences : new.occurrences ≡ old.occurrences
+  pub values : new.values ≡ old.values
   pub claims : (log_view new.log).claims ≡ (log_view old.log).claims ++ opened seat drawn.element old.clock needs ∷ []
   pub committed : (log_view new.log).committed ≡ (log_view old.log).committed
   pub settled : (log_view new.log).settled ≡ (log_view old.log).settled
@@ -139,8 +151,16 @@ module _ (setup : PlainSetup) (old new : Standing) (seat : ℕ) (is : IsAt setup
           ap (λ v. occurrences_in (record new { occurrences = v })) did.occurrences ∙ is.at.occurrences
           ∙ ap (numbered 0) (sym (take-append-le (length (log_view old.log).committed) is.at.state.claims (made ∷ []) first_few))
           ∙ ap (λ hs. numbered 0 (take (length hs) (is.at.state.claims ++ made ∷ []))) (sym did.committed);
+      measured =
+          measured_alike setup old.clock new.clock (committed_of is.at.state old) (committed_of after new) (values_view old.values) (values_view new.values) did.clock
+          (ap (λ hs. take (length hs) (is.at.state.claims ++ made ∷ [])) did.committed ∙ take-append-le (length (log_view old.log).committed) is.at.state.claims (made ∷ []) first_few)
+          (ap values_view did.values) is.at.measured;
+      made_now =
+          subst (WereMadeAt new.clock) (sym claims_are)
+          (made_at_same old.clock new.clock ((log_view old.log).claims ++ made ∷ []) did.clock
+          (each_appended (λ k. k.time ≡ old.clock) (log_view old.log).claims (made ∷ []) is.at.made_now (sym is.at.clock, tt)));
       draw = λ none. did.draw ∙ ap (generator setup.seed) (let n = number_is in let more = length-append is.at.state.claims (made ∷ []) in omega (arith, n, more));
     };
-    stops = stands.stops;
+    all_committed = stands.all_committed;
     none_owed = stands.none_owed;
   }

@@ -1,25 +1,32 @@
 -- Where a run stands when what can be committed is committed, and when a cut is made.
-use Rattle.std.proofs.Common.{◌≡◌, ℕ, zero, suc, ◌+◌, ◌<◌, ◌⊎◌, inl, inr, true, false, List, [], ◌∷◌, ◌++◌, length, map, take, Some, None, refl, sym, ap, ◌∙◌, subst, arith, slice_get, length-append, append_assoc}
+use Rattle.std.proofs.Common.{◌≡◌, ℕ, zero, suc, ◌+◌, ◌<◌, ◌≤◌, ◌⊎◌, inl, inr, true, false, List, [], ◌∷◌, ◌++◌, length, map, take, Option, Some, None, refl, sym, ap, ◌∙◌, subst, arith, slice_get, length-append, append_assoc}
 use Rattle.std.specs.List.{AllByRecursion}
 use Rattle.std.specs.Option.{option_map}
 use Rattle.std.proofs.lemmas.List.{append-nil, take-map}
 use Rattle.std.proofs.Math.Seq.{take-append_seam}
 use Rattle.cpn_definitions.specs.Occurrence.{outputs_of}
-use Rattle.cpn_definitions.specs.Outcome.{Fault}
 use Rattle.cpn_definitions.proofs.ListItems.{all_parts}
 use Rattle.cpn_jobs.specs.Views.{job_view}
 use Rattle.cpn_log.specs.Kept.{IsKept}
-use Rattle.cpn_log.specs.Logs.{PlainLog, head_of, heads, begin_done, with_committed}
+use Rattle.cpn_log.specs.Logs.{PlainLog, head_of, heads, with_committed}
 use Rattle.cpn_log.specs.LogViews.{log_view, jobs_in}
+use Rattle.cpn_monitor.specs.Fitting.{AreMeasured}
+use Rattle.cpn_monitor.specs.MonitorValues.{values_of}
+use Rattle.cpn_monitor.specs.MeasuredRuns.{MarkedOccurrence, MeasuredRun, with_occurrence}
+use Rattle.cpn_monitor.specs.Stops.{stop_after}
+use Rattle.cpn_monitor.specs.Views.{values_view}
 use Rattle.cpn_runs.specs.HoleRun.{PlainClaim, Status, open_claim, done_with, faulted_with, is_done, is_open}
-use Rattle.cpn_runs.specs.State.{PlainSetup, PlainState, cut_made, cut_at, fault_end, status_after, numbered, committed_occurrences}
+use Rattle.cpn_runs.specs.MeasuredStates.{run_of, values_in}
+use Rattle.cpn_runs.specs.Playable.{IsPlayable}
+use Rattle.cpn_runs.specs.Commits.{marked_claim, marked_from, stop_at_last}
+use Rattle.cpn_runs.specs.State.{PlainSetup, PlainState, PlainEnd, cut_made, status_after, numbered, committed, owed_cut, committed_occurrences}
 use Rattle.cpn_runs.specs.Views.{event_view}
 use Rattle.cpn_runs.proofs.States.{IsClaimOf, every_state}
-use Rattle.cpn_book.specs.StandingRuns.{IsTold, StandsAt}
-use Rattle.cpn_book.proofs.CompletedClaims.{told_committed, stands_committed, stands_cut}
-use Rattle.cpn_book.proofs.LoggedClaims.{committed_is}
-use Rattle.cpn_book.specs.Standings.{IsToldAt, IsAt, IsDoneClaim, HasCommitted, StillCommitted, job_for, cut_view, events_in, occurrences_in}
+use Rattle.cpn_book.specs.StandingRuns.{IsTold, stop_behind, GoesOn, StandsAt}
+use Rattle.cpn_book.proofs.CompletedClaims.{told_committed, stands_cut}
+use Rattle.cpn_book.specs.Standings.{IsToldAt, IsAt, committed_of, IsDoneClaim, HasCommitted, StillCommitted, job_for, cut_view, events_in, occurrences_in}
 use Rattle.cpn_book.specs.declared.standings.Standing.{Standing}
+use Rattle.cpn_book.proofs.MeasuredStandings.{measured_alike, made_at_same, now, noted_measured, stop_noted}
 use Rattle.cpn_book.proofs.CountedClaims.{as_many, first_are, heads_are}
 
 -- ---- what is committed
@@ -42,14 +49,17 @@ done_claims setup (claim ∷ claims) each done = (record { done = done.0; needs 
     evaluated (faulted_with fault) is (inl opened) = absurd cc
     evaluated status is (inr after) = after
 
-pub has_committed_at : (setup : PlainSetup) (s : Standing) → IsToldAt setup s → HasCommitted setup s
-has_committed_at setup s at = record {
-  claims = at.told.has.committed;
-  each = done_claims setup at.told.has.committed (all_parts (IsClaimOf setup) at.told.has.committed (log_view s.log).claims (subst (AllByRecursion (IsClaimOf setup)) at.told.has.claims_are (every_state setup (events_in s) at.state at.told.reached).claims_are)).0 at.told.has.done;
-  heads_are = at.told.has.heads;
-  left = at.told.has.left;
-  occurrences = at.occurrences ∙ ap (numbered 0) (first_are setup.start at.state.claims (log_view s.log) at.told.has);
+has_committed : (setup : PlainSetup) (s : Standing) (state : PlainState) → IsTold setup (events_in s) state (log_view s.log) s.held.items → occurrences_in s ≡ numbered 0 (committed_of state s) → HasCommitted setup s
+has_committed setup s state told occurrences = record {
+  claims = told.has.committed;
+  each = done_claims setup told.has.committed (all_parts (IsClaimOf setup) told.has.committed (log_view s.log).claims (subst (AllByRecursion (IsClaimOf setup)) told.has.claims_are (every_state setup (events_in s) state told.reached).claims_are)).0 told.has.done;
+  heads_are = told.has.heads;
+  left = told.has.left;
+  occurrences = occurrences ∙ ap (numbered 0) (first_are setup.start state.claims (log_view s.log) told.has);
 }
+
+pub has_committed_at : (setup : PlainSetup) (s : Standing) → IsToldAt setup s → HasCommitted setup s
+has_committed_at setup s at = has_committed setup s at.state at.told at.occurrences
 
 -- where the committed part and its occurrences are as they were, they still stand
 pub still_same : (setup : PlainSetup) (old new : Standing) → HasCommitted setup old → (log_view new.log).committed ≡ (log_view old.log).committed → (log_view new.log).settled ≡ (log_view old.log).settled → occurrences_in new ≡ occurrences_in old → StillCommitted setup old new
@@ -74,12 +84,12 @@ still_through setup old mid new first second = record {
 
 module _ (setup : PlainSetup) (old new : Standing) (claim : PlainClaim) (rest : List PlainClaim) (first : (log_view old.log).claims ≡ claim ∷ rest) (done : is_done claim.status ≡ true)
     (log_is : log_view new.log ≡ with_committed (log_view old.log) claim rest) (kept : IsKept (log_view new.log)) (jobs_same : jobs_in new.log ≡ jobs_in old.log)
-    (others : new ≡ record old { log = new.log; occurrences = new.occurrences })
+    (others : new ≡ record old { log = new.log; occurrences = new.occurrences; values = new.values })
     (occurrences : occurrences_in new ≡ occurrences_in old ++ record { number = length (log_view old.log).committed; time = claim.time; element = claim.element } ∷ []) where
-  module _ (at : IsToldAt setup old) where
-    told : IsTold setup (events_in new) at.state (log_view new.log) new.held.items
+  module _ (at : IsToldAt setup old) (goes_on : GoesOn setup at.state (log_view old.log)) where
+    pub told : IsTold setup (events_in new) at.state (log_view new.log) new.held.items
     told =
-        let first_told = told_committed setup (events_in old) at.state (log_view old.log) old.held.items claim rest at.told first done (subst IsKept log_is kept) in
+        let first_told = told_committed setup (events_in old) at.state (log_view old.log) old.held.items claim rest at.told goes_on first done (subst IsKept log_is kept) in
         subst (λ l. IsTold setup (events_in new) at.state l new.held.items) (sym log_is)
         (subst (λ es. IsTold setup es at.state (with_committed (log_view old.log) claim rest) new.held.items) (sym (ap events_in others))
         (subst (λ hs. IsTold setup (events_in old) at.state (with_committed (log_view old.log) claim rest) hs) (sym (ap (λ (s : Standing). s.held.items) others)) first_told))
@@ -93,7 +103,7 @@ module _ (setup : PlainSetup) (old new : Standing) (claim : PlainClaim) (rest : 
     many : length front ≡ length (log_view old.log).committed
     many = as_many setup.start at.state.claims (log_view old.log) at.told.has
 
-    one_more : take (length (log_view new.log).committed) at.state.claims ≡ front ++ claim ∷ []
+    pub one_more : take (length (log_view new.log).committed) at.state.claims ≡ front ++ claim ∷ []
     one_more =
         first_are setup.start at.state.claims (log_view new.log) told.has ∙ by
       where
@@ -102,33 +112,57 @@ module _ (setup : PlainSetup) (old new : Standing) (claim : PlainClaim) (rest : 
             let long : length (log_view new.log).committed ≡ length (front ++ claim ∷ []) = ap (λ (l : PlainLog). length l.committed) log_is ∙ length-append (log_view old.log).committed (head_of claim ∷ []) ∙ ap (λ (k : ℕ). k + 1) (sym many) ∙ sym (length-append front (claim ∷ [])) in
             sym (first_are setup.start at.state.claims (log_view new.log) told.has) ∙ ap (λ k. take k at.state.claims) long ∙ ap (take (length (front ++ claim ∷ []))) (claims_are ∙ sym (append_assoc front (claim ∷ []) rest)) ∙ take-append_seam (front ++ claim ∷ []) rest
 
-    -- the run is told there still
-    pub committed_told : IsToldAt setup new
-    committed_told = record {
-      state = at.state;
-      told = told;
-      clock = ap (λ (s : Standing). s.clock) others ∙ at.clock;
-      cut = ap (λ (s : Standing). option_map cut_view s.cut) others ∙ at.cut;
-      jobs = ap (map job_view) jobs_same ∙ at.jobs ∙ ap (map (job_for setup.net)) (heads_are setup.start at.state.claims (log_view old.log) at.told.has ∙ sym (heads_are setup.start at.state.claims (log_view new.log) told.has));
-      occurrences =
-          occurrences
-          ∙ ap (λ os. os ++ record { number = length (log_view old.log).committed; time = claim.time; element = claim.element } ∷ []) (at.occurrences ∙ ap (numbered 0) (first_are setup.start at.state.claims (log_view old.log) at.told.has))
-          ∙ ap (λ (k : ℕ). numbered 0 front ++ record { number = k; time = claim.time; element = claim.element } ∷ []) (sym many ∙ (let e : length front ≡ 0 + length front = omega arith in e))
-          ∙ sym (numbered_more 0 front claim)
-          ∙ ap (numbered 0) (sym one_more);
-      draw = λ none. ap (λ (s : Standing). s.draw) others ∙ at.draw none;
+    pub occurrences_more : occurrences_in new ≡ numbered 0 (committed_of at.state new)
+    occurrences_more =
+        occurrences
+        ∙ ap (λ os. os ++ record { number = length (log_view old.log).committed; time = claim.time; element = claim.element } ∷ []) (at.occurrences ∙ ap (numbered 0) (first_are setup.start at.state.claims (log_view old.log) at.told.has))
+        ∙ ap (λ (k : ℕ). numbered 0 front ++ record { number = k; time = claim.time; element = claim.element } ∷ []) (sym many ∙ (let e : length front ≡ 0 + length front = omega arith in e))
+        ∙ sym (numbered_more 0 front claim)
+        ∙ ap (numbered 0) (sym one_more)
+
+    -- what was committed stands, with it
+    pub committed_still : StillCommitted setup old new
+    committed_still = record {
+      committed = has_committed setup new at.state told occurrences_more;
+      more = record { number = length (log_view old.log).committed; time = claim.time; element = claim.element } ∷ [];
+      occurrences = occurrences;
     }
+
+    module _ (marked : MarkedOccurrence) (marked_so : marked ≡ marked_claim (log_view old.log).settled claim)
+        (noted : (run : MeasuredRun) → AreMeasured setup.functions setup.monitors run (values_view old.values) → run.last_clock ≤ marked.occurrence.time → AreMeasured setup.functions setup.monitors (with_occurrence marked run) (values_view new.values)) where
+      -- where monitors have noted it, the run is told there still
+      abbrev pub committed_told : IsToldAt setup new
+      committed_told = record {
+        state = at.state;
+        told = told;
+        clock = ap (λ (s : Standing). s.clock) others ∙ at.clock;
+        cut = ap (λ (s : Standing). option_map cut_view s.cut) others ∙ at.cut;
+        jobs = ap (map job_view) jobs_same ∙ at.jobs ∙ ap (map (job_for setup.net)) (heads_are setup.start at.state.claims (log_view old.log) at.told.has ∙ sym (heads_are setup.start at.state.claims (log_view new.log) told.has));
+        occurrences = occurrences_more;
+        measured =
+            measured_alike setup old.clock new.clock (front ++ claim ∷ []) (committed_of at.state new) (values_view new.values) (values_view new.values) (ap (λ (s : Standing). s.clock) others) one_more refl
+            (noted_measured setup old at claim rest first marked (values_view new.values) marked_so noted);
+        made_now =
+            subst (λ (l : PlainLog). AllByRecursion (λ (k : PlainClaim). k.time ≡ new.clock) l.claims) (sym log_is)
+            (made_at_same old.clock new.clock rest (ap (λ (s : Standing). s.clock) others) (now setup old at claim rest first).1);
+        draw = λ none. ap (λ (s : Standing). s.draw) others ∙ at.draw none;
+      }
+
+      -- the monitor that stops the run after it, if one does, is the one that they tell
+      pub stop_is
+          : (stop : Option ℕ)
+          → ((run : MeasuredRun) → AreMeasured setup.functions setup.monitors run (values_view old.values) → run.last_clock ≤ marked.occurrence.time → stop ≡ stop_after setup.monitors (run.occurrences ++ marked ∷ []) (length run.occurrences))
+          → stop ≡ stop_behind setup at.state (log_view new.log)
+      stop_is stop is = stop_noted setup old at claim rest first marked marked_so stop is ∙ ap (λ cs. stop_at_last setup.monitors (marked_from setup.start cs)) (sym one_more)
 
 -- ---- nothing more can be committed
 
-module _ (setup : PlainSetup) (old : Standing) (at : IsToldAt setup old) (stops : begin_done (log_view old.log).claims ≡ false) where
-  -- where the next claim is open, or there is none, the run stands there
-  pub stands_so : cut_at (length (log_view old.log).committed) (slice_get (log_view old.log).claims 0) ≡ None → IsAt setup old
-  stands_so none =
-      let stands = stands_committed setup (events_in old) at.state (log_view old.log) (log_view old.log) old.held.items at.told stops none in
-      record { at = at; stops = stops; none_owed = stands.none_owed }
+module _ (setup : PlainSetup) (old : Standing) (at : IsToldAt setup old) (all : committed setup at.state ≡ length (log_view old.log).committed) where
+  -- where no cut is owed, the run stands there
+  pub stands_so : owed_cut setup at.state ≡ None → IsAt setup old
+  stands_so none = record { at = at; all_committed = all; none_owed = none }
 
-  module _ (claim : PlainClaim) (fault : Fault) (next : slice_get (log_view old.log).claims 0 ≡ Some claim) (failed : claim.status ≡ faulted_with fault) (new : Standing)
+  module _ (cause : PlainEnd) (owed : owed_cut setup at.state ≡ Some (record { number = length (log_view old.log).committed; cause = cause })) (new : Standing)
       (log_cut : (log_view new.log).claims ≡ [])
       (jobs_cut : jobs_in new.log ≡ take (length (log_view old.log).committed) (jobs_in old.log))
       (heads_same : (log_view new.log).committed ≡ (log_view old.log).committed)
@@ -136,16 +170,16 @@ module _ (setup : PlainSetup) (old : Standing) (at : IsToldAt setup old) (stops 
       (kept : IsKept (log_view new.log))
       (long : length new.held.items ≡ length old.held.items)
       (free : (s : ℕ) → s < length old.held.items → slice_get new.held.items s ≡ Some None)
-      (cut : option_map cut_view new.cut ≡ Some (record { number = length (log_view old.log).committed; cause = fault_end claim.element fault }))
+      (cut : option_map cut_view new.cut ≡ Some (record { number = length (log_view old.log).committed; cause = cause }))
       (events : events_in new ≡ events_in old ++ cut_made (length (log_view old.log).committed) ∷ [])
       (rest : new ≡ record old { log = new.log; held = new.held; journal = new.journal; cut = new.cut }) where
     abbrev after : PlainState
-    after = record at.state { claims = take (length (log_view old.log).committed) at.state.claims; cut = Some (record { number = length (log_view old.log).committed; cause = fault_end claim.element fault }) }
+    after = record at.state { claims = take (length (log_view old.log).committed) at.state.claims; cut = Some (record { number = length (log_view old.log).committed; cause = cause }) }
 
     stands : StandsAt setup (events_in new) after (log_view new.log) new.held.items
     stands =
         let seats = at.told.holds.each in
-        let first = stands_cut setup (events_in old) at.state (log_view old.log) (log_view new.log) old.held.items at.told stops claim fault next failed log_cut heads_same settled_same kept new.held.items (long ∙ seats) (λ s lt. free s (subst (λ (k : ℕ). s < k) (sym seats) lt)) in
+        let first = stands_cut setup (events_in old) at.state (log_view old.log) (log_view new.log) old.held.items at.told cause all owed log_cut heads_same settled_same kept new.held.items (long ∙ seats) (λ s lt. free s (subst (λ (k : ℕ). s < k) (sym seats) lt)) in
         subst (λ es. StandsAt setup es after (log_view new.log) new.held.items) (sym events) first
 
     -- the cut stands
@@ -165,9 +199,14 @@ module _ (setup : PlainSetup) (old : Standing) (at : IsToldAt setup old) (stops 
             ap occurrences_in rest ∙ at.occurrences
             ∙ ap (numbered 0) (sym (taken_twice (length (log_view old.log).committed) at.state.claims))
             ∙ ap (λ hs. numbered 0 (take (length hs) after.claims)) (sym heads_same);
-        draw = λ none. let clash : Some (record { number = length (log_view old.log).committed; cause = fault_end claim.element fault }) ≡ None = none in cc;
+        measured =
+            measured_alike setup old.clock new.clock (committed_of at.state old) (committed_of after new) (values_view old.values) (values_view new.values) (ap (λ (s : Standing). s.clock) rest)
+            (ap (λ hs. take (length hs) after.claims) heads_same ∙ taken_twice (length (log_view old.log).committed) at.state.claims)
+            (ap (λ (s : Standing). values_view s.values) rest) at.measured;
+        made_now = subst (AllByRecursion (λ (k : PlainClaim). k.time ≡ new.clock)) (sym log_cut) tt;
+        draw = λ none. let clash : Some (record { number = length (log_view old.log).committed; cause = cause }) ≡ None = none in cc;
       };
-      stops = stands.stops;
+      all_committed = stands.all_committed;
       none_owed = stands.none_owed;
     }
       where
@@ -179,9 +218,17 @@ module _ (setup : PlainSetup) (old : Standing) (at : IsToldAt setup old) (stops 
         taken_twice (suc k) [] = refl
         taken_twice (suc k) (x ∷ xs) = ap (λ ys. x ∷ ys) (taken_twice k xs)
 
+-- the values are those of the state
+pub values_are_in : (setup : PlainSetup) (s : Standing) (is : IsAt setup s) → IsPlayable setup → values_view s.values ≡ values_in setup is.at.state
+values_are_in setup s is playable =
+    is.at.measured.values_are
+    ∙ ap (λ funs. values_of funs setup.monitors (run_of setup s.clock (committed_of is.at.state s))) playable.monitors.functions_are
+    ∙ ap (λ t. values_of setup.net.functions setup.monitors (run_of setup t (committed_of is.at.state s))) is.at.clock
+    ∙ ap (λ k. values_of setup.net.functions setup.monitors (run_of setup is.at.state.clock (take k is.at.state.claims))) (sym is.all_committed)
+
 -- the occurrences of a state are those that are committed
 pub committed_are : (setup : PlainSetup) (s : Standing) (is : IsAt setup s) → occurrences_in s ≡ committed_occurrences setup is.at.state
-committed_are setup s is = is.at.occurrences ∙ ap (λ k. numbered 0 (take k is.at.state.claims)) (sym (committed_is setup.start is.at.state.claims (log_view s.log) (log_view s.log) is.at.told.has is.stops))
+committed_are setup s is = is.at.occurrences ∙ ap (λ k. numbered 0 (take k is.at.state.claims)) (sym is.all_committed)
 
 -- a journal with more room holds the same events
 pub same_but_journal : (setup : PlainSetup) (old new : Standing) → IsAt setup old → new ≡ record old { journal = new.journal } → new.journal.items ≡ old.journal.items → IsAt setup new
@@ -198,8 +245,10 @@ same_but_journal setup old new is same items =
         cut = ap (λ (s : Standing). option_map cut_view s.cut) same ∙ is.at.cut;
         jobs = (let P : Standing → Type 0 = λ s. map job_view (jobs_in s.log) ≡ map (job_for setup.net) (heads (log_view s.log)) in subst P (sym same) is.at.jobs);
         occurrences = (let P : Standing → Type 0 = λ s. occurrences_in s ≡ numbered 0 (take (length (log_view s.log).committed) is.at.state.claims) in subst P (sym same) is.at.occurrences);
+        measured = (let P : Standing → Type 0 = λ s. AreMeasured setup.functions setup.monitors (run_of setup s.clock (committed_of is.at.state s)) (values_view s.values) in subst P (sym same) is.at.measured);
+        made_now = (let P : Standing → Type 0 = λ s. AllByRecursion (λ (k : PlainClaim). k.time ≡ s.clock) (log_view s.log).claims in subst P (sym same) is.at.made_now);
         draw = λ none. ap (λ (s : Standing). s.draw) same ∙ is.at.draw none;
       };
-      stops = ap (λ (s : Standing). begin_done (log_view s.log).claims) same ∙ is.stops;
+      all_committed = is.all_committed ∙ sym (ap (λ (s : Standing). length (log_view s.log).committed) same);
       none_owed = is.none_owed;
     }

@@ -1,21 +1,26 @@
 -- A claim is completed, what can be committed is committed, and the cut that is owed is made: where the run stands then.
-use Rattle.std.proofs.Common.{◌≡◌, ℕ, zero, suc, ◌+◌, ◌<◌, ◌≤◌, ◌==◌, Bool, true, false, List, [], ◌∷◌, ◌++◌, length, take, Option, Some, None, refl, sym, ap, ◌∙◌, subst, arith, slice_get, slice_set, eqb-true, count_by}
-use Rattle.std.proofs.lemmas.List.{length-map, append-nil}
+use Rattle.std.proofs.Common.{◌≡◌, ℕ, zero, suc, ◌+◌, ◌<◌, ◌≤◌, ◌==◌, Bool, true, false, List, [], ◌∷◌, ◌++◌, length, take, Option, Some, None, refl, sym, ap, ◌∙◌, subst, arith, slice_get, slice_set, eqb-true, count_by, length-append, append_assoc}
+use Rattle.std.proofs.lemmas.List.{length-map}
 use Rattle.std.proofs.lemmas.Bool.{eqb-false, and_parts}
-use Rattle.cpn_definitions.specs.Outcome.{Fault}
-use Rattle.cpn_definitions.specs.Occurrence.{outputs_of}
+use Rattle.std.proofs.Math.Seq.{take-append_seam}
+use Rattle.cpn_definitions.specs.Occurrence.{are_covered, threshold, outputs_of}
 use Rattle.cpn_definitions.proofs.ListItems.{set_there, set_elsewhere, set_long}
-use Rattle.cpn_runs.specs.HoleRun.{PlainClaim, Status, faulted_with, is_open, is_done, marking_left}
-use Rattle.cpn_runs.specs.State.{PlainSetup, PlainState, PlainEvent, claim_completed, cut_made, fault_end, PlainCut, is_held_by, status_after, MayComplete, MayCut, first_state, cut_at, cut_by}
-use Rattle.cpn_runs.proofs.Cuts.{AreDone, done_owe_none, open_is_not_done}
+use Rattle.cpn_runs.specs.HoleRun.{PlainClaim, Status, is_open, is_done, marking_left}
+use Rattle.cpn_runs.specs.Commits.{committed_from}
+use Rattle.cpn_runs.specs.State.{PlainSetup, PlainState, PlainEvent, claim_completed, cut_made, PlainEnd, PlainCut, is_held_by, status_after, committed, owed_cut, MayComplete, MayCut, first_state, IsState}
+use Rattle.cpn_runs.proofs.Cuts.{AreDone, open_is_not_done}
 use Rattle.cpn_runs.proofs.Sequences.{left_parts}
-use Rattle.cpn_runs.proofs.States.{leads_more, every_state, closed_status}
+use Rattle.cpn_runs.proofs.States.{IsCutOff, leads_more, every_state, closed_status}
 use Rattle.cpn_book.specs.Held.{held_from, AreHeld}
 use Rattle.cpn_log.specs.Kept.{IsKept}
-use Rattle.cpn_log.specs.Logs.{PlainLog, head_of, begin_done, with_status, with_committed}
-use Rattle.cpn_book.specs.StandingRuns.{IsTold, StandsAt}
+use Rattle.cpn_log.specs.Logs.{PlainLog, PlainHead, head_of, with_status, with_committed}
+use Rattle.cpn_book.specs.StandingRuns.{IsTold, GoesOn, StandsAt}
 use Rattle.cpn_book.proofs.HeldClaims.{held_changed, held_closed, done_hold_none}
-use Rattle.cpn_book.proofs.LoggedClaims.{has_changed, has_committed, has_first, owed_is}
+use Rattle.cpn_book.proofs.LoggedClaims.{has_changed, has_committed, has_first}
+use Rattle.cpn_book.specs.Logged.{HasClaims}
+use Rattle.cpn_book.proofs.CountedClaims.{as_many}
+use Rattle.cpn_book.proofs.CommittedClaims.{committed_next}
+use Rattle.cpn_book.proofs.MeasuredStandings.{same_ahead}
 
 -- an open claim stands behind those that are done
 pub behind_done : (done rest : List PlainClaim) (i : ℕ) (claim : PlainClaim) → AreDone done → slice_get (done ++ rest) i ≡ Some claim → is_open claim.status ≡ true → length done ≤ i
@@ -89,56 +94,87 @@ module _ (setup : PlainSetup) (journal : List PlainEvent) (state : PlainState) (
   told_completed place where_is is heads_same settled_same kept = record {
     reached = leads_more setup (first_state setup) journal (claim_completed seat number ∷ []) state completed_state stands.told.reached (completed_state, may_complete, refl);
     has = has_changed setup.start state.claims log new stands.told.has heads_same settled_same status number place claim where_is done.stands is;
+    all_in =
+        ap (λ hs. committed_from setup.monitors [] setup.start (take (length hs) completed_state.claims)) heads_same
+        ∙ ap (committed_from setup.monitors [] setup.start) (same_ahead state.claims completed_claim number (length log.committed) is_behind)
+        ∙ stands.told.all_in ∙ ap (λ (hs : List PlainHead). length hs) (sym heads_same);
     kept = kept;
     holds = held_one_less setup.limits.seats state.claims held stands.told.holds seat done.known number claim completed_claim done.stands done.held (closed_status (outputs_of setup.net claim.element claim.time) status done.status_is) ((every_state setup journal state stands.told.reached).one_each seat);
   }
 
 -- ---- the next claim is committed
 
-pub told_committed : (setup : PlainSetup) (journal : List PlainEvent) (state : PlainState) (log : PlainLog) (held : List (Option ℕ)) (claim : PlainClaim) (rest : List PlainClaim) → IsTold setup journal state log held → log.claims ≡ claim ∷ rest → is_done claim.status ≡ true → IsKept (with_committed log claim rest) → IsTold setup journal state (with_committed log claim rest) held
-told_committed setup journal state log held claim rest told is done kept =
-    let covers = (left_parts log.settled claim rest log.unclaimed (ap (marking_left log.settled) (sym is) ∙ told.kept.left)).0 in
-    record { reached = told.reached; has = has_committed setup.start state.claims log claim rest told.has is done covers; kept = kept; holds = told.holds }
+pub told_committed : (setup : PlainSetup) (journal : List PlainEvent) (state : PlainState) (log : PlainLog) (held : List (Option ℕ)) (claim : PlainClaim) (rest : List PlainClaim)
+    → IsTold setup journal state log held
+    → GoesOn setup state log
+    → log.claims ≡ claim ∷ rest
+    → is_done claim.status ≡ true
+    → IsKept (with_committed log claim rest)
+    → IsTold setup journal state (with_committed log claim rest) held
+told_committed setup journal state log held claim rest told goes_on is done kept = record { reached = told.reached; has = has; all_in = all; kept = kept; holds = told.holds }
+  where
+    covers : are_covered (threshold claim.time) log.settled claim.needs ≡ true
+    covers = (left_parts log.settled claim rest log.unclaimed (ap (marking_left log.settled) (sym is) ∙ told.kept.left)).0
 
--- ---- nothing more can be committed
+    has : HasClaims setup.start state.claims (with_committed log claim rest)
+    has = has_committed setup.start state.claims log claim rest told.has is done covers
 
-module _ (setup : PlainSetup) (journal : List PlainEvent) (state : PlainState) (log new : PlainLog) (held : List (Option ℕ)) (told : IsTold setup journal state log held) (stops : begin_done log.claims ≡ false) where
-  -- no cut is owed where the next claim is open, or there is none
-  pub stands_committed : cut_at (length log.committed) (slice_get log.claims 0) ≡ None → StandsAt setup journal state log held
-  stands_committed none = record { told = told; stops = stops; none_owed = owed_is setup.start state.claims log new told.has stops ∙ none }
+    long : length (log.committed ++ head_of claim ∷ []) ≡ length log.committed + 1
+    long = length-append log.committed (head_of claim ∷ [])
 
-  module _ (claim : PlainClaim) (fault : Fault) (next : slice_get log.claims 0 ≡ Some claim) (failed : claim.status ≡ faulted_with fault) where
-    abbrev pub owed : PlainCut
-    owed = record { number = length log.committed; cause = fault_end claim.element fault }
+    -- the committed ones are those of before, and the claim
+    front : take (length (log.committed ++ head_of claim ∷ [])) state.claims ≡ told.has.committed ++ claim ∷ []
+    front =
+        let many = as_many setup.start state.claims log told.has in
+        let longer = length-append told.has.committed (claim ∷ []) in
+        ap (take (length (log.committed ++ head_of claim ∷ []))) (told.has.claims_are ∙ ap (λ cs. told.has.committed ++ cs) is ∙ sym (append_assoc told.has.committed (claim ∷ []) rest))
+        ∙ ap (λ k. take k ((told.has.committed ++ claim ∷ []) ++ rest)) (let e : length (log.committed ++ head_of claim ∷ []) ≡ length (told.has.committed ++ claim ∷ []) = (let l = long in omega (arith, l, many, longer)) in e)
+        ∙ take-append_seam (told.has.committed ++ claim ∷ []) rest
 
-    abbrev pub cut_state : PlainState
-    cut_state = record state { claims = take (length log.committed) state.claims; cut = Some owed }
+    all : committed_from setup.monitors [] setup.start (take (length (log.committed ++ head_of claim ∷ [])) state.claims) ≡ length (log.committed ++ head_of claim ∷ [])
+    all = ap (committed_from setup.monitors [] setup.start) front ∙ committed_next setup state log told.has told.all_in claim goes_on done ∙ sym long
 
-    may_cut : MayCut setup state (length log.committed) cut_state
-    may_cut = record {
-      cut = owed;
-      owed = owed_is setup.start state.claims log new told.has stops ∙ ap (cut_at (length log.committed)) next ∙ ap (cut_by (length log.committed) claim.element) failed;
-      number_is = refl;
-      new_is = refl;
-    }
+-- ---- the cut that is owed is made
 
-    all_none : (seats : ℕ) (claims : List PlainClaim) (none : List (Option ℕ)) → AreDone claims → length none ≡ seats → ((s : ℕ) → s < seats → slice_get none s ≡ Some None) → AreHeld seats claims none
-    all_none seats claims none done each are = record { each = each; numbers = λ s lt. are s lt ∙ ap Some (sym (done_hold_none 0 s claims done)) }
+module _ (setup : PlainSetup) (journal : List PlainEvent) (state : PlainState) (log new : PlainLog) (held : List (Option ℕ)) (told : IsTold setup journal state log held) (cause : PlainEnd)
+    (all : committed setup state ≡ length log.committed) (owed : owed_cut setup state ≡ Some (record { number = length log.committed; cause = cause })) where
+  abbrev pub cut_now : PlainCut
+  cut_now = record { number = length log.committed; cause = cause }
 
-    -- the cut is made: just the committed claims stand
-    pub stands_cut : new.claims ≡ [] → new.committed ≡ log.committed → new.settled ≡ log.settled → IsKept new → (none : List (Option ℕ)) → length none ≡ setup.limits.seats → ((s : ℕ) → s < setup.limits.seats → slice_get none s ≡ Some None)
-        → StandsAt setup (journal ++ cut_made (length log.committed) ∷ []) cut_state new none
-    stands_cut is heads_same settled_same kept none each are =
-        let has = has_first setup.start state.claims log new told.has heads_same settled_same (length log.committed) 0 (omega arith) is in
-        let all : cut_state.claims ≡ has.committed = has.claims_are ∙ ap (λ cs. has.committed ++ cs) is ∙ append-nil has.committed in
-        let done : AreDone cut_state.claims = subst AreDone (sym all) has.done in
-        record {
-          told = record {
-            reached = leads_more setup (first_state setup) journal (cut_made (length log.committed) ∷ []) state cut_state told.reached (cut_state, may_cut, refl);
-            has = has;
-            kept = kept;
-            holds = all_none setup.limits.seats cut_state.claims none done each are;
-          };
-          stops = ap begin_done is;
-          none_owed = done_owe_none cut_state.claims done;
-        }
+  abbrev pub cut_state : PlainState
+  cut_state = record state { claims = take (length log.committed) state.claims; cut = Some cut_now }
+
+  may_cut : MayCut setup state (length log.committed) cut_state
+  may_cut = record { cut = cut_now; owed = owed; number_is = refl; new_is = refl }
+
+  all_none : (seats : ℕ) (claims : List PlainClaim) (none : List (Option ℕ)) → AreDone claims → length none ≡ seats → ((s : ℕ) → s < seats → slice_get none s ≡ Some None) → AreHeld seats claims none
+  all_none seats claims none done each are = record { each = each; numbers = λ s lt. are s lt ∙ ap Some (sym (done_hold_none 0 s claims done)) }
+
+  cut_reached : IsState setup (journal ++ cut_made (length log.committed) ∷ []) cut_state
+  cut_reached = leads_more setup (first_state setup) journal (cut_made (length log.committed) ∷ []) state cut_state told.reached (cut_state, may_cut, refl)
+
+  left : IsCutOff setup cut_state cut_now
+  left = (every_state setup (journal ++ cut_made (length log.committed) ∷ []) cut_state cut_reached).cut_off cut_now refl
+
+  -- just the committed claims stand
+  pub stands_cut : new.claims ≡ [] → new.committed ≡ log.committed → new.settled ≡ log.settled → IsKept new → (none : List (Option ℕ)) → length none ≡ setup.limits.seats → ((s : ℕ) → s < setup.limits.seats → slice_get none s ≡ Some None)
+      → StandsAt setup (journal ++ cut_made (length log.committed) ∷ []) cut_state new none
+  stands_cut is heads_same settled_same kept none each are = record {
+    told = record {
+      reached = cut_reached;
+      has = has_first setup.start state.claims log new told.has heads_same settled_same (length log.committed) 0 (omega arith) is;
+      all_in =
+          ap (λ hs. committed_from setup.monitors [] setup.start (take (length hs) cut_state.claims)) heads_same
+          ∙ ap (committed_from setup.monitors [] setup.start) (taken_twice (length log.committed) state.claims)
+          ∙ told.all_in ∙ ap (λ (hs : List PlainHead). length hs) (sym heads_same);
+      kept = kept;
+      holds = all_none setup.limits.seats cut_state.claims none left.all_done each are;
+    };
+    all_committed = left.all_committed ∙ sym left.number_is ∙ ap (λ (hs : List PlainHead). length hs) (sym heads_same);
+    none_owed = left.none_owed;
+  }
+    where
+      taken_twice : {A : Type 0} (k : ℕ) (xs : List A) → take k (take k xs) ≡ take k xs
+      taken_twice zero xs = refl
+      taken_twice (suc k) [] = refl
+      taken_twice (suc k) (x ∷ xs) = ap (λ ys. x ∷ ys) (taken_twice k xs)

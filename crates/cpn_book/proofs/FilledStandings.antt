@@ -17,6 +17,8 @@ use Rattle.cpn_jobs.specs.OutputsByWork.{work_makes}
 use Rattle.cpn_log.specs.Kept.{IsKept}
 use Rattle.cpn_log.specs.Logs.{stands_open, standing_of, standings, head_of, heads, with_status}
 use Rattle.cpn_log.specs.LogViews.{log_view, jobs_in}
+use Rattle.cpn_monitor.specs.Views.{values_view}
+use Rattle.cpn_runs.specs.Commits.{marked_from, stop_at_last}
 use Rattle.cpn_runs.specs.HoleRun.{PlainClaim, Status, open_claim, done_with, faulted_with, is_open}
 use Rattle.cpn_runs.specs.Playable.{IsPlayable}
 use Rattle.cpn_runs.specs.State.{PlainSetup, PlainState, PlainCut, claim_completed, status_after, numbered}
@@ -27,11 +29,13 @@ use Rattle.cpn_book.specs.StandingRuns.{IsTold}
 use Rattle.cpn_book.proofs.CompletedClaims.{IsItsCompletion, is_behind, told_completed, may_complete}
 use Rattle.cpn_book.proofs.HeldClaims.{IsItsClaim, its_claim}
 use Rattle.cpn_book.proofs.LoggedClaims.{unclaimed_left}
+use Rattle.cpn_book.specs.Committing.{MayCommit}
 use Rattle.cpn_book.specs.Evaluations.{outputs_in, outcome_of, status_by, Tells}
-use Rattle.cpn_book.specs.Standings.{IsToldAt, IsAt, job_for, cut_view, events_in, occurrences_in}
+use Rattle.cpn_book.specs.Standings.{IsToldAt, IsAt, committed_of, job_for, cut_view, events_in, occurrences_in}
 use Rattle.cpn_book.specs.declared.standings.Cut.{Cut}
 use Rattle.cpn_book.specs.declared.standings.Standing.{Standing}
-use Rattle.cpn_book.proofs.ClaimedStandings.{stands_at}
+use Rattle.cpn_book.proofs.ClaimedStandings.{stands_at, goes_on_at}
+use Rattle.cpn_book.proofs.MeasuredStandings.{measured_alike, WereMadeAt, made_at_same, made_at_whatever, same_ahead}
 use Rattle.cpn_book.proofs.CountedClaims.{heads_are, standings_are}
 
 -- an item of a list's images comes from one of the list
@@ -166,14 +170,8 @@ module _ (setup : PlainSetup) (old : Standing) (is : IsAt setup old) (seat numbe
         set_alike (c ∷ cs) zero at = ap (λ h. h ∷ map head_of cs) (ap head_of (sym (same_Some c its.claim at)))
         set_alike (c ∷ cs) (suc i) at = ap (λ hs. head_of c ∷ hs) (set_alike cs i at)
 
-    same_first : (cs : List PlainClaim) (i k j : ℕ) → k ≤ i → numbered j (take k (slice_set cs i done_claim)) ≡ numbered j (take k cs)
-    same_first [] i k j le = refl
-    same_first (c ∷ cs) i zero j le = refl
-    same_first (c ∷ cs) zero (suc k) j le = absurd (omega arith)
-    same_first (c ∷ cs) (suc i) (suc k) j le = ap (λ os. record { number = j; time = c.time; element = c.element } ∷ os) (same_first cs i k (suc j) (omega arith))
-
     -- the run is told there
-    pub filled : IsToldAt setup new
+    abbrev filled : IsToldAt setup new
     filled = record {
       state = after;
       told = told;
@@ -184,8 +182,16 @@ module _ (setup : PlainSetup) (old : Standing) (is : IsAt setup old) (seat numbe
           ∙ ap (map (job_for setup.net)) (heads_are setup.start is.at.state.claims (log_view old.log) is.at.told.has ∙ sym same_heads ∙ sym (heads_are setup.start after.claims (log_view new.log) told.has));
       occurrences =
           ap occurrences_in rest ∙ is.at.occurrences
-          ∙ sym (same_first is.at.state.claims number (length (log_view old.log).committed) 0 behind)
+          ∙ ap (numbered 0) (sym (same_ahead is.at.state.claims done_claim number (length (log_view old.log).committed) behind))
           ∙ ap (λ hs. numbered 0 (take (length hs) (slice_set is.at.state.claims number done_claim))) (sym heads_same);
+      measured =
+          measured_alike setup old.clock new.clock (committed_of is.at.state old) (committed_of after new) (values_view old.values) (values_view new.values) (ap (λ (s : Standing). s.clock) rest)
+          (ap (λ hs. take (length hs) (slice_set is.at.state.claims number done_claim)) heads_same ∙ same_ahead is.at.state.claims done_claim number (length (log_view old.log).committed) behind)
+          (ap (λ (s : Standing). values_view s.values) rest) is.at.measured;
+      made_now =
+          subst (WereMadeAt new.clock) (sym log_done)
+          (made_at_same old.clock new.clock (with_status (status_by result) (number - length (log_view old.log).committed) (log_view old.log).claims) (ap (λ (s : Standing). s.clock) rest)
+          (made_at_whatever old.clock (status_by result) (number - length (log_view old.log).committed) (log_view old.log).claims is.at.made_now));
       draw = λ none. ap (λ (s : Standing). s.draw) rest ∙ is.at.draw none ∙ ap (λ (k : ℕ). generator setup.seed k) (sym (set_long is.at.state.claims number));
     }
       where
@@ -193,3 +199,13 @@ module _ (setup : PlainSetup) (old : Standing) (is : IsAt setup old) (seat numbe
         set_long [] i = refl
         set_long (c ∷ cs) zero = refl
         set_long (c ∷ cs) (suc i) = ap (λ (k : ℕ). suc k) (set_long cs i)
+
+    -- and what is next may be committed, if no cut stands
+    pub filled_may_commit : MayCommit setup new
+    filled_may_commit = record {
+      told = filled;
+      goes_on =
+          ap (λ hs. stop_at_last setup.monitors (marked_from setup.start (take (length hs) (slice_set is.at.state.claims number done_claim)))) heads_same
+          ∙ ap (λ cs. stop_at_last setup.monitors (marked_from setup.start cs)) (same_ahead is.at.state.claims done_claim number (length (log_view old.log).committed) behind)
+          ∙ goes_on_at setup old is none_cut_now;
+    }

@@ -15,6 +15,15 @@ ended_or_running book finished same = same
 spent_or_running : (book : Book) → IsSameFinish finishes.Spent (finishes.Running book) → ⊥
 spent_or_running book same = same
 
+spent_or_ended : (finished : Finished) → IsSameFinish finishes.Spent (finishes.Ended finished) → ⊥
+spent_or_ended finished same = same
+
+running_or_spent : (book : Book) → IsSameFinish (finishes.Running book) finishes.Spent → ⊥
+running_or_spent book same = same
+
+ended_or_spent : (finished : Finished) → IsSameFinish (finishes.Ended finished) finishes.Spent → ⊥
+ended_or_spent finished same = same
+
 two_books : (book book' : Book) → (book ≡ book' → ⊥) → IsSameFinish (finishes.Running book) (finishes.Running book') → ⊥
 two_books book book' differ same = differ same
 

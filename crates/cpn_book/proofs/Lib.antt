@@ -3,6 +3,8 @@ mod NextTimes
 mod ReadyEntries
 mod SoonestTimes
 mod CountedClaims
+mod CommittedClaims
+mod MeasuredStandings
 mod ClaimedStandings
 mod DrawnElements
 mod DrawnEntries
@@ -12,6 +14,8 @@ mod HeldSeats
 mod DrawnClaims
 mod OccurredStandings
 mod NextClaims
+mod NotedStandings
+mod OwedCuts
 mod OpenNumbers
 mod RunningBooks
 mod BoundedBooks

@@ -4,21 +4,13 @@ use Rattle.std.proofs.lemmas.List.{map-append, length-map}
 use Rattle.cpn_definitions.specs.Marking.{Marking}
 use Rattle.cpn_definitions.specs.Occurrence.{are_covered, threshold}
 use Rattle.cpn_definitions.proofs.RisingLists.{each_appended}
-use Rattle.cpn_runs.specs.HoleRun.{PlainClaim, Status, is_done, done_prefix, marking_left}
-use Rattle.cpn_runs.specs.State.{cut_at}
-use Rattle.cpn_runs.proofs.Cuts.{AreDone, cut_of}
+use Rattle.cpn_runs.specs.HoleRun.{PlainClaim, Status, is_done, marking_left}
 use Rattle.cpn_runs.proofs.Sequences.{left_joined, marking_left_more}
-use Rattle.cpn_log.specs.Logs.{PlainLog, head_of, started, begin_done, with_status, changed_to, with_committed}
+use Rattle.cpn_log.specs.Logs.{PlainLog, head_of, started, with_status, changed_to, with_committed}
 use Rattle.cpn_log.specs.Kept.{IsKept}
 use Rattle.cpn_book.specs.Logged.{HasClaims}
 
--- ---- two parts, the first of which is done
-
--- the first of them that is not done stops the committed ones
-pub stops_at : (front rest : List PlainClaim) → AreDone front → begin_done rest ≡ false → done_prefix (front ++ rest) ≡ length front
-stops_at [] [] done stops = refl
-stops_at [] (claim ∷ rest) done stops = rw stops refl
-stops_at (claim ∷ front) rest done stops = rw done.0 (ap (λ (k : ℕ). suc k) (stops_at front rest done.1 stops))
+-- ---- two parts
 
 behind : {A : Type 0} (xs ys : List A) (i : ℕ) → slice_get (xs ++ ys) (length xs + i) ≡ slice_get ys i
 behind [] ys i = ap (slice_get ys) (let e : 0 + i ≡ i = omega arith in e)
@@ -31,12 +23,6 @@ changed_behind (x ∷ xs) ys i y = let e : suc (length xs) + i ≡ suc (length x
 taken_behind : {A : Type 0} (xs ys : List A) (i : ℕ) → take (length xs + i) (xs ++ ys) ≡ xs ++ take i ys
 taken_behind [] ys i = ap (λ k. take k ys) (let e : 0 + i ≡ i = omega arith in e)
 taken_behind (x ∷ xs) ys i = let e : suc (length xs) + i ≡ suc (length xs + i) = omega arith in ap (λ k. take k (x ∷ xs ++ ys)) e ∙ ap (λ zs. x ∷ zs) (taken_behind xs ys i)
-
--- the cut that is owed is told by the first of the claims behind
-pub owed_behind : (front rest : List PlainClaim) → AreDone front → begin_done rest ≡ false → cut_of (front ++ rest) ≡ cut_at (length front) (slice_get rest 0)
-owed_behind front rest done stops =
-    ap (λ k. cut_at k (slice_get (front ++ rest) k)) (stops_at front rest done stops)
-    ∙ ap (cut_at (length front)) (ap (slice_get (front ++ rest)) (let e : length front ≡ length front + 0 = omega arith in e) ∙ behind front rest 0)
 
 -- ---- the calls on a log
 
@@ -91,13 +77,6 @@ module _ (start : Marking) (claims : List PlainClaim) (old new : PlainLog) (has 
           heads = has.heads ∙ sym heads_same;
           left = has.left ∙ ap Some (sym settled_same);
         }
-
-  -- how many are committed, and the cut that is owed, where the next one isn't done
-  pub committed_is : begin_done old.claims ≡ false → done_prefix claims ≡ length old.committed
-  committed_is stops = ap done_prefix has.claims_are ∙ stops_at has.committed old.claims has.done stops ∙ as_many
-
-  pub owed_is : begin_done old.claims ≡ false → cut_of claims ≡ cut_at (length old.committed) (slice_get old.claims 0)
-  owed_is stops = ap cut_of has.claims_are ∙ owed_behind has.committed old.claims has.done stops ∙ ap (λ k. cut_at k (slice_get old.claims 0)) as_many
 
 -- the next claim, which is done and finds its needs, joins the committed ones
 pub has_committed : (start : Marking) (claims : List PlainClaim) (log : PlainLog) (claim : PlainClaim) (rest : List PlainClaim) → HasClaims start claims log → log.claims ≡ claim ∷ rest → is_done claim.status ≡ true → are_covered (threshold claim.time) log.settled claim.needs ≡ true → HasClaims start claims (with_committed log claim rest)

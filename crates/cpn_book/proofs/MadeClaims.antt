@@ -1,29 +1,31 @@
 -- A claim is made: where the run stands then.
-use Rattle.std.proofs.Common.{◌≡◌, ℕ, ◌+◌, ◌<◌, ◌==◌, ◌&&◌, Bool, true, false, List, [], ◌∷◌, ◌++◌, length, Option, Some, None, refl, sym, ap, ◌∙◌, subst, arith, slice_get, slice_set, eqb-true}
+use Rattle.std.proofs.Common.{◌≡◌, ℕ, zero, suc, ◌+◌, ◌<◌, ◌≤◌, ◌==◌, ◌&&◌, Bool, true, false, List, [], ◌∷◌, ◌++◌, length, take, Option, Some, None, refl, sym, ap, ◌∙◌, subst, arith, slice_get, slice_set, eqb-true}
 use Rattle.std.proofs.lemmas.Bool.{cond-true, eqb-false}
+use Rattle.std.proofs.lemmas.List.{take-append-le}
 use Rattle.cpn_definitions.specs.Enabled.{PlainEntry, Enabled, ready}
 use Rattle.cpn_definitions.specs.Occurrence.{PlainElement}
 use Rattle.cpn_definitions.proofs.NumberTests.{equals_itself}
 use Rattle.cpn_definitions.proofs.ListItems.{set_there, set_elsewhere, set_long}
-use Rattle.cpn_runs.specs.HoleRun.{PlainClaim, is_done}
-use Rattle.cpn_runs.specs.State.{PlainSetup, PlainState, PlainEvent, claim_made, new_claim, is_held_by, IsDrawn, MayClaim, first_state, owed_cut, cut_at}
+use Rattle.cpn_runs.specs.HoleRun.{PlainClaim}
+use Rattle.cpn_runs.specs.Commits.{marked_from, stop_at_last, committed_from}
+use Rattle.cpn_runs.specs.State.{PlainSetup, PlainState, PlainEvent, claim_made, new_claim, is_held_by, IsDrawn, MayClaim, first_state, committed, owed_cut, cut_at}
+use Rattle.cpn_runs.proofs.Cuts.{no_more_committed, owes_none, owes_none_so}
 use Rattle.cpn_runs.proofs.States.{leads_more}
 use Rattle.cpn_book.specs.Held.{held_from, AreHeld}
 use Rattle.cpn_log.specs.Kept.{IsKept}
 use Rattle.cpn_book.specs.Logged.{HasClaims}
-use Rattle.cpn_log.specs.Logs.{PlainLog, begin_done}
+use Rattle.cpn_log.specs.Logs.{PlainLog, PlainHead}
 use Rattle.cpn_book.specs.StandingRuns.{StandsAt}
 use Rattle.cpn_book.proofs.HeldClaims.{none_held, held_more, held_by_another}
-use Rattle.cpn_book.proofs.LoggedClaims.{unclaimed_left, has_one_more, owed_is}
-
-still_stops : (claims : List PlainClaim) (claim : PlainClaim) → begin_done claims ≡ false → is_done claim.status ≡ false → begin_done (claims ++ claim ∷ []) ≡ false
-still_stops [] claim stops is = is
-still_stops (c ∷ claims) claim stops is = stops
+use Rattle.cpn_book.proofs.LoggedClaims.{unclaimed_left, has_one_more}
+use Rattle.cpn_book.proofs.CommittedClaims.{committed_still}
 
 -- an open claim at the end makes no cut owed
-still_owes_none : (k : ℕ) (claims : List PlainClaim) (claim : PlainClaim) → cut_at k (slice_get claims 0) ≡ None → cut_at k (Some claim) ≡ None → cut_at k (slice_get (claims ++ claim ∷ []) 0) ≡ None
-still_owes_none k [] claim none is = is
-still_owes_none k (c ∷ claims) claim none is = none
+still_owes_none : (j k : ℕ) (claims : List PlainClaim) (claim : PlainClaim) → cut_at j (slice_get claims k) ≡ None → cut_at j (Some claim) ≡ None → cut_at j (slice_get (claims ++ claim ∷ []) k) ≡ None
+still_owes_none j zero [] claim none is = is
+still_owes_none j (suc k) [] claim none is = none
+still_owes_none j zero (c ∷ claims) claim none is = none
+still_owes_none j (suc k) (c ∷ claims) claim none is = still_owes_none j k claims claim none is
 
 -- ---- what seats hold
 
@@ -93,16 +95,21 @@ module _ (setup : PlainSetup) (journal : List PlainEvent) (state : PlainState) (
     has_now : HasClaims setup.start after.claims new
     has_now = has_one_more setup.start state.claims log new stands.told.has heads_same settled_same made is
 
-    stops_now : begin_done new.claims ≡ false
-    stops_now = ap begin_done is ∙ still_stops log.claims made stands.stops refl
+    many_now : committed setup after ≡ committed setup state
+    many_now = committed_still setup.monitors [] setup.start state.claims made refl
+
+    first_same : (k : ℕ) → k ≤ length state.claims → take k after.claims ≡ take k state.claims
+    first_same k few = take-append-le k state.claims (made ∷ []) few
+
+    few_committed : committed setup state ≤ length state.claims
+    few_committed = no_more_committed setup.monitors [] setup.start state.claims
 
     pub none_owed_now : owed_cut setup after ≡ None
     none_owed_now =
-        let old_none : cut_at (length log.committed) (slice_get log.claims 0) ≡ None = sym (owed_is setup.start state.claims log new stands.told.has stands.stops) ∙ stands.none_owed in
-        owed_is setup.start after.claims new new has_now stops_now
-        ∙ ap (λ k. cut_at k (slice_get new.claims 0)) (ap length heads_same)
-        ∙ ap (λ cs. cut_at (length log.committed) (slice_get cs 0)) is
-        ∙ still_owes_none (length log.committed) log.claims made old_none refl
+        let none = owes_none setup state next.no_cut stands.none_owed in
+        owes_none_so setup after
+        (ap (λ k. stop_at_last setup.monitors (marked_from setup.start (take k after.claims))) many_now ∙ ap (λ cs. stop_at_last setup.monitors (marked_from setup.start cs)) (first_same (committed setup state) few_committed) ∙ none.0)
+        (ap (λ k. cut_at k (slice_get after.claims k)) many_now ∙ still_owes_none (committed setup state) (committed setup state) state.claims made none.1 refl)
 
     -- where the run stands after the claim
     pub stands_claimed : IsKept new → StandsAt setup (journal ++ claim_made seat (length state.claims) ∷ []) after new (slice_set held seat (Some (length state.claims)))
@@ -110,9 +117,13 @@ module _ (setup : PlainSetup) (journal : List PlainEvent) (state : PlainState) (
       told = record {
         reached = leads_more setup (first_state setup) journal (claim_made seat (length state.claims) ∷ []) state after stands.told.reached (after, may_claim, refl);
         has = has_now;
+        all_in =
+            ap (λ hs. committed_from setup.monitors [] setup.start (take (length hs) after.claims)) heads_same
+            ∙ ap (committed_from setup.monitors [] setup.start) (first_same (length log.committed) (let few = few_committed in let all = stands.all_committed in omega (arith, few, all)))
+            ∙ stands.told.all_in ∙ ap (λ (hs : List PlainHead). length hs) (sym heads_same);
         kept = kept;
         holds = held_one_more setup.limits.seats state.claims held stands.told.holds seat next.known made (own_claim setup seat state.clock drawn.element) (others_not setup seat state.clock drawn.element) next.had_none;
       };
-      stops = stops_now;
+      all_committed = many_now ∙ stands.all_committed ∙ ap (λ (hs : List PlainHead). length hs) (sym heads_same);
       none_owed = none_owed_now;
     }

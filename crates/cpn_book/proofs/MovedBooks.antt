@@ -1,13 +1,17 @@
 -- A book that moves its clock, and the bounds that each book keeps.
 use Rattle.std.proofs.Common.{◌≡◌, ◌≢◌, ℕ, ◌<◌, ◌≤◌, [], ◌∷◌, ◌++◌, length, map, Option, Some, None, refl, sym, ap, subst, arith, slice_get}
 use Rattle.std.specs.Option.{is_some}
-use Rattle.std.specs.List.{count_by}
+use Rattle.std.specs.List.{AllByRecursion, count_by}
 use Rattle.std.specs.Prelude.{MatchOption}
 use Rattle.cpn_core.specs.Elements.{enabled_view}
 use Rattle.cpn_definitions.specs.Enabled.{Enabled, ready, next_time}
 use Rattle.cpn_definitions.specs.Sound.{IsMarking}
 use Rattle.cpn_log.specs.Logs.{claims_made}
 use Rattle.cpn_log.specs.LogViews.{log_view}
+use Rattle.cpn_monitor.specs.Fitting.{AreMeasured, MayClose}
+use Rattle.cpn_monitor.specs.Views.{values_view}
+use Rattle.cpn_runs.specs.HoleRun.{PlainClaim}
+use Rattle.cpn_runs.specs.MeasuredStates.{run_of}
 use Rattle.cpn_runs.specs.Playable.{IsPlayable}
 use Rattle.cpn_runs.specs.Run.{IsRun}
 use Rattle.cpn_runs.specs.State.{PlainSetup, PlainEnd, clock_moved, EndsBy}
@@ -17,9 +21,10 @@ use Rattle.cpn_runs.proofs.BoundedStates.{every_state_has_bounds}
 use Rattle.cpn_book.specs.StandingRuns.{StandsAt}
 use Rattle.cpn_book.proofs.LoggedClaims.{unclaimed_left}
 use Rattle.cpn_book.proofs.MovedClocks.{stands_moved}
+use Rattle.cpn_book.proofs.OccurredClaims.{all_committed}
 use Rattle.cpn_book.proofs.OpenClaims.{none_held_where_none}
 use Rattle.cpn_book.specs.Books.{setup_in, journal_in, InState, IsBook, IsRunning, shown}
-use Rattle.cpn_book.specs.Standings.{IsAt, events_in}
+use Rattle.cpn_book.specs.Standings.{IsAt, committed_of, events_in}
 use Rattle.cpn_book.specs.declared.books.Book.{Book}
 use Rattle.cpn_book.specs.declared.standings.Standing.{Standing}
 use Rattle.cpn_book.proofs.ClaimedStandings.{stands_at, uncut_in, counted}
@@ -43,12 +48,21 @@ claims_below setup s is playable not_all =
 
 -- ---- the move
 
-module _ (book : Book) (time : ℕ) (s : Standing) (running : IsRunning book) (none_ready : length (ready book.standing.clock (map enabled_view book.listed.items)) ≡ 0) (none_open : count_by is_some book.standing.held.items ≡ 0)
-    (uncut : book.standing.cut ≡ None) (below : claims_made (log_view book.standing.log) < book.setup.limits.steps) (next : next_time (map enabled_view book.listed.items) ≡ Some time) (in_time : time ≤ book.setup.limits.until)
-    (events : events_in s ≡ journal_in book ++ clock_moved time ∷ []) where
-  abbrev pub moved_standing : Standing
-  moved_standing = record book.standing { clock = time; journal = s.journal }
+-- the next time is not before the clock
+pub next_not_before : (book : Book) (time : ℕ) → IsRunning book → next_time (map enabled_view book.listed.items) ≡ Some time → book.standing.clock ≤ time
+next_not_before book time running next = (next_is_least (setup_in book).net (log_view book.standing.log).unclaimed book.standing.clock time (map enabled_view book.listed.items) running.enabled next).not_before
 
+-- monitors may count until the next time
+pub may_close : (book : Book) (time : ℕ) → IsBook book → IsRunning book → next_time (map enabled_view book.listed.items) ≡ Some time → time ≤ book.setup.limits.until → MayClose (setup_in book).functions (setup_in book).monitors (values_view book.standing.values) time
+may_close book time is running next in_time = record {
+  run = run_of (setup_in book) book.standing.clock (committed_of running.at.at.state book.standing);
+  measured = running.at.at.measured;
+  not_before = next_not_before book time running next;
+  in_time = (let until = is.playable.until in omega (arith, until, in_time));
+}
+
+module _ (book : Book) (time : ℕ) (running : IsRunning book) (none_ready : length (ready book.standing.clock (map enabled_view book.listed.items)) ≡ 0) (none_open : count_by is_some book.standing.held.items ≡ 0)
+    (uncut : book.standing.cut ≡ None) (below : claims_made (log_view book.standing.log) < book.setup.limits.steps) (next : next_time (map enabled_view book.listed.items) ≡ Some time) (in_time : time ≤ book.setup.limits.until) where
   free : (seat : ℕ) → seat < (setup_in book).limits.seats → slice_get book.standing.held.items seat ≡ Some None
   free seat lt = none_held_where_none book.standing.held.items none_open seat (let long = running.at.at.told.holds.each in omega (arith, lt, long))
 
@@ -70,35 +84,46 @@ module _ (book : Book) (time : ℕ) (s : Standing) (running : IsRunning book) (n
       (next_is_least (setup_in book).net (log_view book.standing.log).unclaimed running.at.at.state.clock time (map enabled_view book.listed.items) enabled next)
       in_time
 
-  moved_at : IsAt (setup_in book) moved_standing
-  moved_at =
-      let there = subst (λ es. StandsAt (setup_in book) es (record running.at.at.state { clock = time }) (log_view book.standing.log) book.standing.held.items) (sym events) stands in
-      record {
-        at = record {
-          state = record running.at.at.state { clock = time };
-          told = there.told;
-          clock = refl;
-          cut = running.at.at.cut;
-          jobs = running.at.at.jobs;
-          occurrences = running.at.at.occurrences;
-          draw = running.at.at.draw;
-        };
-        stops = there.stops;
-        none_owed = there.none_owed;
-      }
+  -- all claims are committed
+  all_in : (log_view book.standing.log).claims ≡ []
+  all_in = all_committed (setup_in book) (journal_in book) running.at.at.state (log_view book.standing.log) book.standing.held.items (stands_at (setup_in book) book.standing running.at) free
 
   -- something is ready then
   pub moved_ready : 0 < length (ready time (map enabled_view book.listed.items))
   moved_ready = some_are_ready (setup_in book).net (log_view book.standing.log).unclaimed running.at.at.state.clock time (map enabled_view book.listed.items) enabled next
 
-  -- and the run is under way
-  pub moved_runs : IsRunning (record book { standing = moved_standing })
-  moved_runs = record {
-    at = moved_at;
-    enabled = enabled_then (setup_in book).net (log_view book.standing.log).unclaimed running.at.at.state.clock time (map enabled_view book.listed.items) enabled next;
-    needs = running.needs;
-    room = λ none. let some = moved_ready in let zero = ap length none in absurd (omega (arith, some, zero));
-  }
+  module _ (s : Standing) (events : events_in s ≡ journal_in book ++ clock_moved time ∷ [])
+      (closed : AreMeasured (setup_in book).functions (setup_in book).monitors (run_of (setup_in book) time (committed_of running.at.at.state book.standing)) (values_view s.values)) where
+    abbrev pub moved_standing : Standing
+    moved_standing = record book.standing { clock = time; journal = s.journal; values = s.values }
+
+    moved_at : IsAt (setup_in book) moved_standing
+    moved_at =
+        let there = subst (λ es. StandsAt (setup_in book) es (record running.at.at.state { clock = time }) (log_view book.standing.log) book.standing.held.items) (sym events) stands in
+        record {
+          at = record {
+            state = record running.at.at.state { clock = time };
+            told = there.told;
+            clock = refl;
+            cut = running.at.at.cut;
+            jobs = running.at.at.jobs;
+            occurrences = running.at.at.occurrences;
+            measured = closed;
+            made_now = subst (AllByRecursion (λ (claim : PlainClaim). claim.time ≡ time)) (sym all_in) tt;
+            draw = running.at.at.draw;
+          };
+          all_committed = there.all_committed;
+          none_owed = there.none_owed;
+        }
+
+    -- and the run is under way
+    pub moved_runs : IsRunning (record book { standing = moved_standing })
+    moved_runs = record {
+      at = moved_at;
+      enabled = enabled_then (setup_in book).net (log_view book.standing.log).unclaimed running.at.at.state.clock time (map enabled_view book.listed.items) enabled next;
+      needs = running.needs;
+      room = λ none. let some = moved_ready in let zero = ap length none in absurd (omega (arith, some, zero));
+    }
 
 -- ---- the end
 

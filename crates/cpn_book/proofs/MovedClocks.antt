@@ -6,6 +6,7 @@ use Rattle.cpn_definitions.specs.Legal.{LeastTime}
 use Rattle.cpn_definitions.specs.Occurrence.{PlainElement, covered}
 use Rattle.cpn_runs.specs.HoleRun.{PlainClaim, is_open}
 use Rattle.cpn_runs.specs.State.{PlainSetup, PlainState, PlainEvent, PlainEnd, PlainCut, clock_moved, is_held_by, MayMove, first_state, HasCause, EndsBy, settled_in, committed_occurrences}
+use Rattle.cpn_runs.specs.MeasuredStates.{values_in}
 use Rattle.cpn_runs.specs.Run.{Outlook, HasOutlook, IsRun}
 use Rattle.cpn_runs.proofs.Journals.{IsStart, ended_is_run, ended_is_settled}
 use Rattle.cpn_runs.proofs.States.{leads_more, IsClaimOf, every_state}
@@ -73,10 +74,11 @@ module _ (setup : PlainSetup) (journal : List PlainEvent) (state : PlainState) (
       told = record {
         reached = leads_more setup (first_state setup) journal (clock_moved time ∷ []) state moved_state stands.told.reached (moved_state, may_move, refl);
         has = stands.told.has;
+        all_in = stands.told.all_in;
         kept = stands.told.kept;
         holds = stands.told.holds;
       };
-      stops = stands.stops;
+      all_committed = stands.all_committed;
       none_owed = stands.none_owed;
     }
 
@@ -94,6 +96,6 @@ module _ (setup : PlainSetup) (journal : List PlainEvent) (state : PlainState) (
   settled_is_unclaimed start cause ends = ended_is_settled setup journal state cause start stands.told.reached ends ∙ unclaimed_left setup.start state.claims log log stands.told.has stands.told.kept
 
   pub run_is : IsStart setup → (cause : PlainEnd) (opening closing : Outlook) → EndsBy setup state cause → HasOutlook setup setup.start setup.clock opening → HasOutlook setup log.unclaimed state.clock closing
-      → IsRun setup (record { opening = opening; journal = journal; occurrences = committed_occurrences setup state; marking = log.unclaimed; clock = state.clock; cause = cause; closing = closing })
+      → IsRun setup (record { opening = opening; journal = journal; occurrences = committed_occurrences setup state; marking = log.unclaimed; clock = state.clock; cause = cause; closing = closing; values = values_in setup state })
   run_is start cause opening closing ends at_start at_end =
       ended_is_run setup journal state cause log.unclaimed opening closing start stands.told.reached ends (settled_is_unclaimed start cause ends) at_start at_end

@@ -15,7 +15,7 @@ use Rattle.cpn_book.specs.Standings.{IsToldAt, job_for}
 use Rattle.cpn_book.specs.declared.standings.Standing.{Standing}
 
 -- the first of what follows
-first_behind : {A : Type 0} (xs ys : List A) → slice_get (xs ++ ys) (length xs) ≡ slice_get ys 0
+pub first_behind : {A : Type 0} (xs ys : List A) → slice_get (xs ++ ys) (length xs) ≡ slice_get ys 0
 first_behind [] ys = refl
 first_behind (x ∷ xs) ys = first_behind xs ys
 

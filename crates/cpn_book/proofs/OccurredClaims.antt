@@ -1,59 +1,51 @@
 -- A claim is made, completed and committed, one event after the other, where no seat holds one: where the run stands then.
-use Rattle.std.proofs.Common.{◌≡◌, ℕ, ◌+◌, ◌<◌, ◌||◌, Bool, true, false, List, [], ◌∷◌, ◌++◌, length, Option, Some, None, refl, sym, ap, ◌∙◌, subst, arith, append-nil, slice_get, slice_set}
-use Rattle.std.specs.List.{list_any}
+use Rattle.std.proofs.Common.{◌≡◌, ℕ, ◌+◌, ◌<◌, true, List, [], ◌∷◌, ◌++◌, length, take, Option, Some, None, refl, sym, ap, ◌∙◌, subst, arith, append-nil, length-append, slice_get, slice_set}
+use Rattle.std.proofs.lemmas.List.{take_all}
 use Rattle.cpn_definitions.specs.Enabled.{PlainEntry}
 use Rattle.cpn_definitions.specs.Occurrence.{Made, are_covered, threshold, outputs_of}
 use Rattle.cpn_definitions.proofs.ListItems.{last_is_at}
 use Rattle.cpn_definitions.proofs.RisingLists.{each_appended}
-use Rattle.cpn_runs.specs.HoleRun.{PlainClaim, Status, open_claim, done_with, faulted_with, is_open, is_done}
-use Rattle.cpn_runs.specs.State.{PlainSetup, PlainState, PlainEvent, claim_made, claim_completed, new_claim, status_after, MayComplete, first_state, cut_at, cut_by}
-use Rattle.cpn_runs.proofs.Cuts.{AreDone, done_owe_none}
-use Rattle.cpn_runs.proofs.States.{leads_more}
+use Rattle.cpn_runs.specs.HoleRun.{PlainClaim, done_with, is_done}
+use Rattle.cpn_runs.specs.State.{PlainSetup, PlainState, PlainEvent, PlainCut, claim_made, claim_completed, new_claim, status_after, committed, MayComplete, first_state}
+use Rattle.cpn_runs.specs.Commits.{marked_from, stop_at_last, committed_from}
+use Rattle.cpn_runs.proofs.Cuts.{AreDone, owes_none}
+use Rattle.cpn_runs.proofs.Journals.{all_are_committed}
+use Rattle.cpn_runs.proofs.States.{leads_more, every_state}
 use Rattle.cpn_log.specs.Kept.{IsKept}
-use Rattle.cpn_log.specs.Logs.{PlainLog, begin_done, with_occurred}
+use Rattle.cpn_log.specs.Logs.{PlainLog, head_of, with_occurred}
 use Rattle.cpn_book.specs.Held.{AreHeld}
 use Rattle.cpn_book.specs.Logged.{HasClaims}
-use Rattle.cpn_book.specs.StandingRuns.{StandsAt}
+use Rattle.cpn_book.specs.StandingRuns.{IsTold, StandsAt}
 use Rattle.cpn_book.proofs.HeldClaims.{done_hold_none}
-use Rattle.cpn_book.proofs.LoggedClaims.{changed_behind, has_one_more, has_committed, owed_is}
+use Rattle.cpn_book.proofs.LoggedClaims.{changed_behind, has_one_more, has_committed}
+use Rattle.cpn_book.proofs.CountedClaims.{as_many}
+use Rattle.cpn_book.proofs.CommittedClaims.{committed_more}
 use Rattle.cpn_book.proofs.MadeClaims.{IsNextClaim, may_claim, none_owed_now, own_claim}
 use Rattle.cpn_book.proofs.MovedClocks.{none_open}
 
 -- ---- no claim stands behind the committed ones
 
--- a claim that is neither open nor done has a fault, which makes a cut owed
-closed_or_cut : (k : ℕ) (claim : PlainClaim) → is_open claim.status ≡ false → is_done claim.status ≡ false → cut_by k claim.element claim.status ≡ None → ⊥
-closed_or_cut k claim closed not_done none = split claim.status closed not_done none
-  where
-    split : (status : Status) → is_open status ≡ false → is_done status ≡ false → cut_by k claim.element status ≡ None → ⊥
-    split open_claim closed not_done none = let clash : true ≡ false = closed in cc
-    split (done_with outputs) closed not_done none = let clash : true ≡ false = not_done in cc
-    split (faulted_with fault) closed not_done none = cc
-
-none_left : (k : ℕ) (claims : List PlainClaim) → list_any (λ claim. is_open claim.status) claims ≡ false → begin_done claims ≡ false → cut_at k (slice_get claims 0) ≡ None → claims ≡ []
-none_left k [] closed stops none = refl
-none_left k (claim ∷ claims) closed stops none = absurd (closed_or_cut k claim (first (is_open claim.status) (list_any (λ c. is_open c.status) claims) closed) stops none)
-  where
-    first : (b c : Bool) → (b || c) ≡ false → b ≡ false
-    first true c h = cc
-    first false c h = refl
-
-closed_behind : (front rest : List PlainClaim) → list_any (λ claim. is_open claim.status) (front ++ rest) ≡ false → list_any (λ claim. is_open claim.status) rest ≡ false
-closed_behind [] rest closed = closed
-closed_behind (claim ∷ front) rest closed = closed_behind front rest (later (is_open claim.status) (list_any (λ c. is_open c.status) (front ++ rest)) closed)
-  where
-    later : (b c : Bool) → (b || c) ≡ false → c ≡ false
-    later true c h = cc
-    later false c h = h
-
 module _ (setup : PlainSetup) (journal : List PlainEvent) (state : PlainState) (log : PlainLog) (held : List (Option ℕ)) (stands : StandsAt setup journal state log held) (free : (s : ℕ) → s < setup.limits.seats → slice_get held s ≡ Some None) where
+  every_claim : committed setup state ≡ length state.claims
+  every_claim = by state.cut refl
+    where
+      by : (cut : Option PlainCut) → state.cut ≡ cut → committed setup state ≡ length state.claims
+      by None uncut = all_are_committed setup state (none_open setup journal state log held stands free) uncut stands.none_owed
+      by (Some cut) stood = ((every_state setup journal state stands.told.reached).cut_off cut stood).all_committed
+
   -- where no seat holds a claim all are committed
   pub all_committed : log.claims ≡ []
-  all_committed =
-      let has = stands.told.has in
-      none_left (length log.committed) log.claims
-      (closed_behind has.committed log.claims (ap (list_any (λ claim. is_open claim.status)) (sym has.claims_are) ∙ none_open setup journal state log held stands free))
-      stands.stops (sym (owed_is setup.start state.claims log log has stands.stops) ∙ stands.none_owed)
+  all_committed = none_left log.claims (
+    let has = stands.told.has in
+    let all = every_claim in
+    let many = stands.all_committed in
+    let front = as_many setup.start state.claims log has in
+    let long = ap (λ (cs : List PlainClaim). length cs) has.claims_are ∙ length-append has.committed log.claims in
+    omega (arith, all, many, front, long))
+    where
+      none_left : (claims : List PlainClaim) → length claims ≡ 0 → claims ≡ []
+      none_left [] none = refl
+      none_left (claim ∷ claims) none = absurd (omega (arith, none))
 
 -- ---- the claim, its completion and its commit
 
@@ -108,18 +100,48 @@ module _ (setup : PlainSetup) (journal : List PlainEvent) (state : PlainState) (
       let h = has_committed setup.start occurred_state.claims behind done [] one refl refl covers in
       record { committed = h.committed; claims_are = h.claims_are; done = h.done; heads = h.heads; left = h.left }
 
-  -- where the run stands after all three
-  pub stands_occurred : are_covered (threshold state.clock) log.settled made.needs ≡ true → IsKept (with_occurred log done)
-      → StandsAt setup (journal ++ claim_made seat (length state.claims) ∷ claim_completed seat (length state.claims) ∷ []) occurred_state (with_occurred log done) held
-  stands_occurred covers kept = record {
-    told = record {
-      reached =
-          leads_more setup (first_state setup) journal (claim_made seat (length state.claims) ∷ claim_completed seat (length state.claims) ∷ []) state occurred_state stands.told.reached
-          (between, may_claim setup journal state log log held stands seat drawn next, (occurred_state, may_complete, refl));
-      has = has_it covers;
-      kept = kept;
-      holds = holds;
-    };
-    stops = refl;
-    none_owed = done_owe_none occurred_state.claims are_done;
+  -- all claims were committed, and no monitor stopped the run
+  whole : take (length log.committed) state.claims ≡ state.claims
+  whole = take_all (length log.committed) state.claims (
+    let has = stands.told.has in
+    let front = as_many setup.start state.claims log has in
+    let none : length log.claims ≡ 0 = ap (λ (cs : List PlainClaim). length cs) all in
+    let long = ap (λ (cs : List PlainClaim). length cs) has.claims_are ∙ length-append has.committed log.claims in
+    omega (arith, front, none, long))
+
+  many_are : length log.committed ≡ length state.claims
+  many_are =
+      let has = stands.told.has in
+      let front = as_many setup.start state.claims log has in
+      let none : length log.claims ≡ 0 = ap (λ (cs : List PlainClaim). length cs) all in
+      let long = ap (λ (cs : List PlainClaim). length cs) has.claims_are ∙ length-append has.committed log.claims in
+      omega (arith, front, none, long)
+
+  goes_on : stop_at_last setup.monitors (marked_from setup.start state.claims) ≡ None
+  goes_on =
+      ap (λ cs. stop_at_last setup.monitors (marked_from setup.start cs)) (sym (ap (λ k. take k state.claims) stands.all_committed ∙ whole))
+      ∙ (owes_none setup state next.no_cut stands.none_owed).0
+
+  -- with it all are committed again
+  pub all_with_it : committed setup occurred_state ≡ length state.claims + 1
+  all_with_it =
+      committed_more setup.monitors [] setup.start state.claims done
+      (ap (committed_from setup.monitors [] setup.start) (sym whole) ∙ stands.told.all_in ∙ many_are) goes_on refl
+
+  -- how the run is told after all three
+  pub told_occurred : are_covered (threshold state.clock) log.settled made.needs ≡ true → IsKept (with_occurred log done)
+      → IsTold setup (journal ++ claim_made seat (length state.claims) ∷ claim_completed seat (length state.claims) ∷ []) occurred_state (with_occurred log done) held
+  told_occurred covers kept = record {
+    reached =
+        leads_more setup (first_state setup) journal (claim_made seat (length state.claims) ∷ claim_completed seat (length state.claims) ∷ []) state occurred_state stands.told.reached
+        (between, may_claim setup journal state log log held stands seat drawn next, (occurred_state, may_complete, refl));
+    has = has_it covers;
+    all_in =
+        let long = length-append log.committed (head_of done ∷ []) in
+        let longer = length-append state.claims (done ∷ []) in
+        let many = many_are in
+        ap (committed_from setup.monitors [] setup.start) (take_all (length (log.committed ++ head_of done ∷ [])) occurred_state.claims (omega (arith, long, longer, many)))
+        ∙ all_with_it ∙ (let e : length state.claims + 1 ≡ length (log.committed ++ head_of done ∷ []) = omega (arith, long, many) in e);
+    kept = kept;
+    holds = holds;
   }

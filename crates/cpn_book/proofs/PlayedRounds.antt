@@ -1,8 +1,15 @@
 -- A round of one seat: no claim is open before it and after it.
-use Rattle.std.proofs.Common.{◌≡◌, ◌≢◌, ℕ, ◌<◌, ◌==◌, Bool, true, false, List, length, Option, Some, None, refl, sym, ap, ◌∙◌, slice_get, slice_set, eqb-true}
+use Rattle.std.proofs.Common.{◌≡◌, ◌≢◌, ℕ, ◌<◌, ◌==◌, Bool, true, false, List, ◌++◌, length, Option, Some, None, refl, sym, ap, ◌∙◌, subst, slice_get, slice_set, eqb-true}
 use Rattle.std.specs.List.{count_by}
 use Rattle.std.specs.Option.{is_some}
 use Rattle.std.proofs.lemmas.Bool.{eqb-false}
+use Rattle.cpn_runs.specs.FinishedViews.{setup_view}
+use Rattle.cpn_runs.specs.State.{PlainSetup, PlainEvent}
+use Rattle.cpn_book.specs.Books.{setup_in, journal_in}
+use Rattle.cpn_book.specs.Standings.{HasCommitted, StillCommitted, occurrences_in}
+use Rattle.cpn_book.specs.Steps.{Follows, IsMovedFrom}
+use Rattle.cpn_book.specs.declared.books.Book.{Book}
+use Rattle.cpn_book.specs.declared.standings.Standing.{Standing}
 use Rattle.cpn_book.proofs.OpenClaims.{none_held_where_none}
 use Rattle.cpn_book.proofs.HeldSeats.{none_counted_held}
 use Rattle.cpn_definitions.proofs.ListItems.{place_known, set_there, set_elsewhere}
@@ -10,6 +17,10 @@ use Rattle.cpn_definitions.proofs.ListItems.{place_known, set_there, set_elsewhe
 -- where none is open no seat holds one
 pub none_held_of : (held : List (Option ℕ)) → count_by is_some held ≡ 0 → (s k : ℕ) → slice_get held s ≡ Some (Some k) → ⊥
 none_held_of held none s k holds = let clash : Some (Some k) ≡ Some None = sym holds ∙ none_held_where_none held none s (place_known held s (Some k) holds) in cc
+
+-- nor is one after what makes none of them held
+pub none_open_still : (before after : List (Option ℕ)) → count_by is_some before ≡ 0 → ((s k : ℕ) → slice_get after s ≡ Some (Some k) → slice_get before s ≡ Some (Some k)) → count_by is_some after ≡ 0
+none_open_still before after none frees = none_counted_held after (λ s k holds. none_held_of before none s k (frees s k holds))
 
 -- after a round no claim is open
 pub none_open_after : (before claimed after : List (Option ℕ)) (number : ℕ) → count_by is_some before ≡ 0 → claimed ≡ slice_set before 0 (Some number) → 0 < length before
@@ -23,3 +34,33 @@ none_open_after before claimed after number none claims some frees = none_counte
         let number_is : k ≡ number = cc in
         both.1 number_is
     split s k false is both = none_held_of before none s k (sym (set_elsewhere before 0 s (Some number) (eqb-false 0 s is)) ∙ ap (λ hs. slice_get hs s) (sym claims) ∙ both.0)
+
+-- a book that has moved its clock and played a round follows the one of before
+pub follows_round
+    : (old moved new : Book) (drawn played : Standing)
+    → IsMovedFrom old moved
+    → drawn ≡ record moved.standing { draw = drawn.draw }
+    → StillCommitted (setup_in moved) drawn played
+    → new ≡ record moved { standing = played; listed = new.listed }
+    → (more : List PlainEvent)
+    → journal_in new ≡ journal_in old ++ more
+    → Follows old new
+follows_round old moved new drawn played is same still now more events =
+    let setups : moved.setup ≡ old.setup = ap (λ (b : Book). b.setup) is.book in
+    let standing : new.standing ≡ played = ap (λ (b : Book). b.standing) now in
+    let were : occurrences_in drawn ≡ occurrences_in old.standing = ap occurrences_in same ∙ ap occurrences_in is.standing in
+    let kept : HasCommitted (setup_in old) played = subst (λ (s : PlainSetup). HasCommitted s played) (ap setup_view setups) still.committed in
+    record {
+      setup = ap (λ (b : Book). b.setup) now ∙ setups;
+      works = ap (λ (b : Book). b.works) now ∙ ap (λ (b : Book). b.works) is.book;
+      plans = ap (λ (b : Book). b.plans) now ∙ ap (λ (b : Book). b.plans) is.book;
+      opening = ap (λ (b : Book). b.opening) now ∙ ap (λ (b : Book). b.opening) is.book;
+      spent = ap (λ (b : Book). b.spent) now ∙ ap (λ (b : Book). b.spent) is.book;
+      more = more;
+      events = events;
+      committed = record {
+        committed = subst (HasCommitted (setup_in old)) (sym standing) kept;
+        more = still.more;
+        occurrences = ap occurrences_in standing ∙ still.occurrences ∙ ap (λ os. os ++ still.more) were;
+      };
+    }

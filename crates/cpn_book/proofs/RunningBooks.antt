@@ -14,12 +14,15 @@ use Rattle.cpn_jobs.specs.Views.{work_view}
 use Rattle.cpn_jobs.specs.Work.{PlainWork}
 use Rattle.cpn_runs.specs.HoleRun.{is_open, marking_left}
 use Rattle.cpn_runs.specs.Playable.{IsPlayable}
+use Rattle.cpn_monitor.specs.MonitorValues.{PlainMonitorValue}
+use Rattle.cpn_monitor.specs.Views.{values_view}
+use Rattle.cpn_runs.specs.MeasuredStates.{values_in}
 use Rattle.cpn_runs.specs.Run.{Outlook, HasOutlook, PlainFinished, IsRun}
-use Rattle.cpn_runs.specs.State.{PlainSetup, PlainState, PlainEvent, PlainCut, PlainEnd, dead, steps_made, until_passed, fault_end, IsState, EndsBy, HasCause, unclaimed_in, settled_in}
+use Rattle.cpn_runs.specs.State.{committed_occurrences, PlainSetup, PlainState, PlainEvent, PlainCut, PlainEnd, dead, steps_made, until_passed, fault_end, stopped_by, IsState, EndsBy, HasCause, unclaimed_in, settled_in}
 use Rattle.cpn_runs.specs.FinishedViews.{setup_view, outlook_view}
 use Rattle.cpn_runs.proofs.Journals.{marking_is_start}
 use Rattle.cpn_runs.proofs.States.{one_state, least_is_unique}
-use Rattle.cpn_book.proofs.LoggedClaims.{unclaimed_left, committed_is}
+use Rattle.cpn_book.proofs.LoggedClaims.{unclaimed_left}
 use Rattle.cpn_book.proofs.OpenClaims.{none_held_where_none}
 use Rattle.cpn_book.proofs.MovedClocks.{none_open, ends_by_cut, ends_without, run_is}
 use Rattle.cpn_search.specs.PlannedNets.{IsPlanned}
@@ -32,7 +35,7 @@ use Rattle.cpn_book.specs.Works.{AreWorks}
 use Rattle.cpn_book.specs.declared.books.Book.{Book}
 use Rattle.cpn_book.specs.declared.standings.Cut.{Cut}
 use Rattle.cpn_book.proofs.ClaimedStandings.{stands_at, uncut_in, counted}
-use Rattle.cpn_book.proofs.CommittedStandings.{committed_are, has_committed_at}
+use Rattle.cpn_book.proofs.CommittedStandings.{values_are_in, committed_are, has_committed_at}
 use Rattle.cpn_book.proofs.CountedClaims.{first_are}
 use Rattle.cpn_book.proofs.NextTimes.{no_next_is_dead, next_is_least}
 
@@ -47,7 +50,7 @@ module _ (book : Book) (running : IsRunning book) where
   pub settled_is : settled_in (setup_in book) running.at.at.state ≡ Some (log_view book.standing.log).settled
   settled_is =
       let has = running.at.at.told.has in
-      ap (λ k. settled_of k) (committed_is (setup_in book).start running.at.at.state.claims (log_view book.standing.log) (log_view book.standing.log) has running.at.stops)
+      ap (λ k. settled_of k) running.at.all_committed
       ∙ ap (marking_left (setup_in book).start) (first_are (setup_in book).start running.at.at.state.claims (log_view book.standing.log) has)
       ∙ has.left
     where
@@ -184,6 +187,7 @@ module _ (book : Book) (is : IsBook book) (running : IsRunning book) (none_held 
               let past = has.1 in
               omega (arith, same, past, in_time)
           split (fault_end e fault) has = has
+          split (stopped_by monitor) has = has
 
   -- what it shows is a run, where it ends by the cause
   pub shows_run : (cause : PlainEnd) → EndsBy (setup_in book) running.at.at.state cause → IsRun (setup_in book) (shown book cause)
@@ -191,6 +195,8 @@ module _ (book : Book) (is : IsBook book) (running : IsRunning book) (none_held 
       let start = marking_is_start (setup_in book) is.playable.marking in
       let closing : HasOutlook (setup_in book) (log_view book.standing.log).unclaimed running.at.at.state.clock (outlook_at running.at.at.state.clock (map enabled_view book.listed.items)) = record { entries = map enabled_view book.listed.items; enabled = enabled_in book running; ready_count_is = refl; next_is = refl } in
       let run = run_is (setup_in book) (journal_in book) running.at.at.state (log_view book.standing.log) book.standing.held.items (stands_at (setup_in book) book.standing running.at) free start cause (outlook_view book.opening) (outlook_at running.at.at.state.clock (map enabled_view book.listed.items)) ends_so is.opening closing in
-      let shown_at : List PlainOccurrence → ℕ → PlainFinished = λ os t. record { opening = outlook_view book.opening; journal = journal_in book; occurrences = os; marking = (log_view book.standing.log).unclaimed; clock = t; cause = cause; closing = outlook_at t (map enabled_view book.listed.items) } in
-      subst (λ t. IsRun (setup_in book) (shown_at (committed_in book) t)) (sym running.at.at.clock)
-      (subst (λ os. IsRun (setup_in book) (shown_at os running.at.at.state.clock)) (sym (committed_are (setup_in book) book.standing running.at)) run)
+      let shown_at : List PlainOccurrence → ℕ → List PlainMonitorValue → PlainFinished = λ os t vs. record { opening = outlook_view book.opening; journal = journal_in book; occurrences = os; marking = (log_view book.standing.log).unclaimed; clock = t; cause = cause; closing = outlook_at t (map enabled_view book.listed.items); values = vs } in
+      let values : values_view book.standing.values ≡ values_in (setup_in book) running.at.at.state = values_are_in (setup_in book) book.standing running.at is.playable in
+      subst (λ t. IsRun (setup_in book) (shown_at (committed_in book) t (values_view book.standing.values))) (sym running.at.at.clock)
+      (subst (λ os. IsRun (setup_in book) (shown_at os running.at.at.state.clock (values_view book.standing.values))) (sym (committed_are (setup_in book) book.standing running.at))
+      (subst (λ vs. IsRun (setup_in book) (shown_at (committed_occurrences (setup_in book) running.at.at.state) running.at.at.state.clock vs)) (sym values) run))

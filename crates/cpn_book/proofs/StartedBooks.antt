@@ -62,9 +62,11 @@ module _ (book : Book) (s : Standing) (did : HasStarted book s) where
       cut = did.starts.at.cut;
       jobs = did.starts.at.jobs;
       occurrences = did.starts.at.occurrences;
+      measured = did.starts.at.measured;
+      made_now = did.starts.at.made_now;
       draw = did.starts.at.draw;
     };
-    stops = did.starts.stops;
+    all_committed = did.starts.all_committed;
     none_owed = did.starts.none_owed;
   }
 

@@ -6,6 +6,7 @@ use Rattle.cpn_definitions.specs.Enabled.{PlainEntry, Enabled, ready}
 use Rattle.cpn_jobs.specs.Views.{work_view}
 use Rattle.cpn_jobs.specs.Work.{PlainWork}
 use Rattle.cpn_log.specs.LogViews.{log_view}
+use Rattle.cpn_monitor.specs.Views.{values_view}
 use Rattle.cpn_runs.specs.Playable.{IsPlayable}
 use Rattle.cpn_runs.specs.Run.{HasOutlook, PlainFinished}
 use Rattle.cpn_definitions.specs.Legal.{PlainOccurrence}
@@ -75,4 +76,5 @@ shown book cause = record {
   clock = book.standing.clock;
   cause = cause;
   closing = outlook_at book.standing.clock (map enabled_view book.listed.items);
+  values = values_view book.standing.values;
 }

@@ -14,3 +14,4 @@ pub mod Steps
 pub mod Held
 pub mod Logged
 pub mod StandingRuns
+pub mod Committing

@@ -1,5 +1,5 @@
 -- Where a run stands, as the program keeps it. Source: own choice.
-use Rattle.std.specs.Prelude.{◌≡◌, ℕ, true, false, List, ◌++◌, map, length, take, Some, None}
+use Rattle.std.specs.Prelude.{◌≡◌, ℕ, true, List, ◌++◌, map, length, take, Some, None}
 use Rattle.std.specs.List.{AllByRecursion}
 use Rattle.std.specs.Option.{option_map}
 use Rattle.cpn_definitions.specs.Net.{PlainNet}
@@ -7,11 +7,14 @@ use Rattle.cpn_definitions.specs.Occurrence.{PlainElement, needs_of, outputs_of}
 use Rattle.cpn_draw.specs.Draw.{generator}
 use Rattle.cpn_jobs.specs.Views.{job_view}
 use Rattle.cpn_jobs.specs.Work.{PlainJob, work_of}
-use Rattle.cpn_log.specs.Logs.{PlainHead, head_of, heads, begin_done}
+use Rattle.cpn_log.specs.Logs.{PlainHead, head_of, heads}
 use Rattle.cpn_log.specs.LogViews.{log_view, jobs_in}
+use Rattle.cpn_monitor.specs.Fitting.{AreMeasured}
+use Rattle.cpn_monitor.specs.Views.{values_view}
 use Rattle.cpn_runs.specs.HoleRun.{PlainClaim, is_done, marking_left}
 use Rattle.cpn_definitions.specs.Legal.{PlainOccurrence}
-use Rattle.cpn_runs.specs.State.{PlainSetup, PlainEvent, PlainState, PlainCut, given_needs, status_after, numbered, owed_cut}
+use Rattle.cpn_runs.specs.MeasuredStates.{run_of}
+use Rattle.cpn_runs.specs.State.{PlainSetup, PlainEvent, PlainState, PlainCut, given_needs, status_after, numbered, committed, owed_cut}
 use Rattle.cpn_core.specs.Occurrences.{occurrence_view}
 use Rattle.cpn_runs.specs.Views.{end_view, event_view}
 use Rattle.cpn_book.specs.StandingRuns.{IsTold}
@@ -37,21 +40,28 @@ job_at n e time = record { element = e; time = time; work = work_of n e.transiti
 abbrev pub job_for : PlainNet → PlainHead → PlainJob
 job_for n head = job_at n head.element head.time
 
+-- those claims of a state that the log has committed
+abbrev pub committed_of : PlainState → Standing → List PlainClaim
+committed_of state s = take (length (log_view s.log).committed) state.claims
+
 -- Where a run stands after its journal: in the state that the journal leads to, with the jobs of its claims, its committed
--- occurrences, and the word of the next claim. So it is within a completion, too, before what can be committed is committed.
+-- occurrences, what the monitors measure of these by the clock, and the word of the next claim. The claims that are not committed were made at
+-- the clock. So it is within a completion, too, before what can be committed is committed.
 pub record IsToldAt (setup : PlainSetup) (s : Standing) : Type 0 where
   pub state : PlainState
   pub told : IsTold setup (events_in s) state (log_view s.log) s.held.items
   pub clock : s.clock ≡ state.clock
   pub cut : option_map cut_view s.cut ≡ state.cut
   pub jobs : map job_view (jobs_in s.log) ≡ map (job_for setup.net) (heads (log_view s.log))
-  pub occurrences : occurrences_in s ≡ numbered 0 (take (length (log_view s.log).committed) state.claims)
+  pub occurrences : occurrences_in s ≡ numbered 0 (committed_of state s)
+  pub measured : AreMeasured setup.functions setup.monitors (run_of setup s.clock (committed_of state s)) (values_view s.values)
+  pub made_now : AllByRecursion (λ claim. claim.time ≡ s.clock) (log_view s.log).claims
   pub draw : state.cut ≡ None → s.draw ≡ generator setup.seed (length state.claims)
 
 -- Between two events all that can be committed is committed, and no cut is owed.
 pub record IsAt (setup : PlainSetup) (s : Standing) : Type 0 where
   pub at : IsToldAt setup s
-  pub stops : begin_done (log_view s.log).claims ≡ false
+  pub all_committed : committed setup at.state ≡ length (log_view s.log).committed
   pub none_owed : owed_cut setup at.state ≡ None
 
 -- A claim of the run that is done with its outputs: its needs and its outputs are those of its element at its time.

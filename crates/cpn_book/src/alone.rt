@@ -31,7 +31,8 @@ use std::alloc::Global;
 impl Book {
     /// The run from where it stands to its end: the open claims are completed in order of number; then seat 0 completes each claim
     /// before it makes the next, and the clock moves where nothing is ready: until the limit of claims is reached, nothing is enabled
-    /// at any time, nothing is enabled up to the last time that the run may reach, or the outputs of an element have a fault.
+    /// at any time, nothing is enabled up to the last time that the run may reach, the outputs of an element have a fault, or a monitor
+    /// stops the run.
     ///
     /// # Errors
     ///
@@ -105,12 +106,19 @@ impl Book {
         let Ok(done) = ticket.evaluate() else {
             return Err(Memory);
         };
-        play_drawn(&self.setup, &mut self.standing, done, needs)?;
+        play_drawn(
+            self.alloc,
+            &self.setup,
+            &mut self.standing,
+            done,
+            needs,
+        )?;
         self.search()
     }
 
     // Moves the clock to the next time, unless something is ready.
     fn reach_next_time(&mut self)
+        requires kept { IsBook self.old }
         requires running { IsRunning self.old }
         requires none_open { count_by is_some self.old.standing.held.items ≡ 0 }
         requires goes_on { MayGoOn self.old }
@@ -170,5 +178,5 @@ fn complete_number(
     let Ok(done) = Ticket::new(alloc, number, job).evaluate() else {
         return Err(Memory);
     };
-    complete_claim(setup, standing, seat, done)
+    complete_claim(alloc, setup, standing, seat, done)
 }

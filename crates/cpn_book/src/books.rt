@@ -274,7 +274,7 @@ impl Book {
         ensures events { OnOk result (journal_in self.new ≡ journal_in self.old ++ claim_completed seat (evaluated_number done) ∷ cut_events (option_map cut_view self.new.standing.cut)) }
         ensures follows { Follows self.old self.new }
     {
-        complete_claim(&self.setup, &mut self.standing, seat, done)?;
+        complete_claim(self.alloc, &self.setup, &mut self.standing, seat, done)?;
         self.search()?;
         Ok(Completed::Done)
     }
@@ -295,6 +295,7 @@ impl Book {
 
     // The move of the clock, where nothing is ready and no claim is open.
     fn move_clock(&mut self) -> Advanced
+        requires kept { IsBook self.old }
         requires running { IsRunning self.old }
         requires none_ready { length (ready self.old.standing.clock (map enabled_view self.old.listed.items)) ≡ 0 }
         requires none_open { count_by is_some self.old.standing.held.items ≡ 0 }
@@ -312,8 +313,9 @@ impl Book {
         Advanced::Moved(time)
     }
 
-    /// Moves the clock to the next time, where nothing is ready and no claim is open.
+    /// Moves the clock to the next time, where nothing is ready and no claim is open; the monitors measure up to it.
     pub(crate) fn move_to(&mut self, time: u64)
+        requires kept { IsBook self.old }
         requires running { IsRunning self.old }
         requires none_ready { length (ready self.old.standing.clock (map enabled_view self.old.listed.items)) ≡ 0 }
         requires none_open { count_by is_some self.old.standing.held.items ≡ 0 }
@@ -327,6 +329,7 @@ impl Book {
         ensures same { IsMovedFrom self.old self.new }
     {
         self.standing.journal.push_reserved(Event::Move { time });
+        self.setup.monitors.close(&mut self.standing.values, time);
         self.standing.clock = time;
     }
 

@@ -1,6 +1,6 @@
 //! How a claim is completed.
 
-ghost use Rattle.std.specs.Prelude.{◌≡◌, ◌≢◌, ℕ, ◌+◌, ◌-◌, ◌≤◌, ◌<◌, Some, None, true, false, List, [], ◌∷◌, ◌++◌, length, map, slice_get, slice_set, IfOk, OnOk, OnErr, vec_len, vec_capacity};
+ghost use Rattle.std.specs.Prelude.{◌≡◌, ◌≢◌, ℕ, ◌+◌, ◌-◌, ◌≤◌, ◌<◌, Some, None, List, [], ◌∷◌, ◌++◌, length, map, slice_get, slice_set, OnOk, OnErr, vec_len, vec_capacity};
 ghost use Rattle.std.specs.List.{AllByRecursion};
 ghost use Rattle.std.specs.Option.{option_map};
 ghost use Rattle.cpn_definitions.specs.Bounds.{most_made};
@@ -8,25 +8,30 @@ ghost use Rattle.cpn_definitions.specs.Occurrence.{Made};
 ghost use Rattle.cpn_definitions.specs.Outcome.{gives};
 ghost use Rattle.cpn_jobs.specs.Views.{job_view};
 ghost use Rattle.cpn_log.specs.Kept.{IsKept};
-ghost use Rattle.cpn_log.specs.Logs.{begin_done, claims_made, standings, stands_open, with_status};
+ghost use Rattle.cpn_log.specs.Logs.{claims_made, standings, stands_open, with_status};
 ghost use Rattle.cpn_log.specs.LogViews.{log_view, jobs_in};
 ghost use Rattle.cpn_runs.specs.FinishedViews.{setup_view};
 ghost use Rattle.cpn_runs.specs.Playable.{IsPlayable};
-ghost use Rattle.cpn_runs.specs.State.{PlainSetup, PlainEvent, claim_completed};
+ghost use Rattle.cpn_runs.specs.State.{PlainEvent, claim_completed};
+ghost use Rattle.cpn_book.specs.Committing.{MayCommit};
 ghost use Rattle.cpn_book.specs.Evaluations.{outcome_of, status_by};
-ghost use Rattle.cpn_book.specs.Standings.{IsToldAt, IsAt, StillCommitted, cut_view, events_in};
+ghost use Rattle.cpn_book.specs.Standings.{IsAt, StillCommitted, cut_view, events_in};
 ghost use Rattle.cpn_book.specs.States.{cut_events};
 ghost use Rattle.cpn_book.specs.Tickets.{evaluated_number, evaluated_job};
 
-use crate::standings::{Cut, Standing};
+use crate::committing::commit_all;
+use crate::cutting::make_owed_cut;
+use crate::standings::Standing;
 use crate::tickets::Evaluated;
-use cpn_core::{EvalFault, Memory, Occurrence, Outputs};
-use cpn_log::{ClaimState, Log};
-use cpn_runs::{End, Event, Setup};
+use cpn_core::{EvalFault, Memory, Outputs};
+use cpn_log::Log;
+use cpn_runs::{Event, Setup};
+use std::alloc::Global;
 
 /// Completes the claim that a seat holds: with its outputs, or with their fault. Then what can be committed is committed, and a cut
 /// that is owed is made. It leaves room in the journal for one event more.
 pub(crate) fn complete_claim(
+    alloc: Global,
     setup: &Setup,
     standing: &mut Standing,
     seat: u32,
@@ -48,8 +53,8 @@ pub(crate) fn complete_claim(
 {
     standing.journal.reserve(3)?;
     fill_claim(setup, standing, seat, done)?;
-    commit_all(standing)?;
-    make_owed_cut(standing)
+    let stop = commit_all(alloc, setup, standing)?;
+    make_owed_cut(standing, stop)
 }
 
 /// The claim that a seat holds is done, with its outputs or with their fault.
@@ -64,7 +69,7 @@ fn fill_claim(
     requires held { slice_get standing.old.held.items seat ≡ Some (Some (evaluated_number done)) }
     requires job { slice_get (map job_view (jobs_in standing.old.log)) (evaluated_number done) ≡ Some (evaluated_job done) }
     requires room { vec_len standing.old.journal < vec_capacity standing.old.journal }
-    ensures told { OnOk result (IsToldAt (setup_view setup.now) standing.new) }
+    ensures may { OnOk result (MayCommit (setup_view setup.now) standing.new) }
     ensures uncut { standing.new.cut ≡ None }
     ensures held { OnOk result (standing.new.held.items ≡ slice_set standing.old.held.items seat None) }
     ensures clock { standing.new.clock ≡ standing.old.clock }
@@ -105,103 +110,4 @@ fn complete_in(
         Err(fault) => log.fail(number, fault),
     }
     Ok(())
-}
-
-/// Commits each claim that is next and done with its outputs.
-fn commit_all(standing: &mut Standing) -> Result<(), Memory>
-    requires kept { IsKept (log_view standing.old.log) }
-    ensures told { OnOk result ((setup : PlainSetup) → IsToldAt setup standing.old → IsToldAt setup standing.new) }
-    ensures kept { OnOk result (IsKept (log_view standing.new.log)) }
-    ensures stops { OnOk result (begin_done (log_view standing.new.log).claims ≡ false) }
-    ensures made { OnOk result (claims_made (log_view standing.new.log) ≡ claims_made (log_view standing.old.log)) }
-    ensures clock { standing.new.clock ≡ standing.old.clock }
-    ensures journal { standing.new.journal ≡ standing.old.journal }
-    ensures cut { standing.new.cut ≡ standing.old.cut }
-    ensures held { standing.new.held ≡ standing.old.held }
-    ensures committed { (setup : PlainSetup) → IsToldAt setup standing.old → StillCommitted setup standing.old standing.new }
-{
-    for _number in standing.log.committed()..standing.log.len() {
-        if !commit_next(standing)? {
-            return Ok(());
-        }
-    }
-    Ok(())
-}
-
-/// Commits the next claim, if it is done with its outputs.
-fn commit_next(standing: &mut Standing) -> Result<bool, Memory>
-    requires kept { IsKept (log_view standing.old.log) }
-    ensures told { OnOk result ((setup : PlainSetup) → IsToldAt setup standing.old → IsToldAt setup standing.new) }
-    ensures kept { OnOk result (IsKept (log_view standing.new.log)) }
-    ensures next { IfOk result (λ more. more ≡ begin_done (log_view standing.old.log).claims) }
-    ensures none { IfOk result (λ more. more ≡ false → standing.new ≡ standing.old) }
-    ensures one { IfOk result (λ more. more ≡ true → length (log_view standing.new.log).committed ≡ length (log_view standing.old.log).committed + 1) }
-    ensures made { OnOk result (claims_made (log_view standing.new.log) ≡ claims_made (log_view standing.old.log)) }
-    ensures clock { standing.new.clock ≡ standing.old.clock }
-    ensures journal { standing.new.journal ≡ standing.old.journal }
-    ensures cut { standing.new.cut ≡ standing.old.cut }
-    ensures held { standing.new.held ≡ standing.old.held }
-    ensures committed { (setup : PlainSetup) → IsToldAt setup standing.old → StillCommitted setup standing.old standing.new }
-{
-    let number = standing.log.committed();
-    if number == standing.log.len() {
-        return Ok(false);
-    }
-    let ClaimState::Done = standing.log.state(number) else {
-        return Ok(false);
-    };
-    let job = standing.log.job(number);
-    let occurrence = Occurrence {
-        number,
-        time: job.time,
-        element: job.element.clone()?,
-    };
-    standing.occurrences.reserve(1)?;
-    standing.log.commit_one()?;
-    standing.occurrences.push_reserved(occurrence);
-    Ok(true)
-}
-
-/// Makes the cut that is owed, where the next claim that is to be committed is done with a fault.
-fn make_owed_cut(standing: &mut Standing) -> Result<(), Memory>
-    requires kept { IsKept (log_view standing.old.log) }
-    requires stops { begin_done (log_view standing.old.log).claims ≡ false }
-    requires uncut { standing.old.cut ≡ None }
-    requires room { vec_len standing.old.journal + 1 < vec_capacity standing.old.journal }
-    ensures at { OnOk result ((setup : PlainSetup) → IsToldAt setup standing.old → IsAt setup standing.new) }
-    ensures clock { standing.new.clock ≡ standing.old.clock }
-    ensures events { OnOk result (events_in standing.new ≡ events_in standing.old ++ cut_events (option_map cut_view standing.new.cut)) }
-    ensures stays { OnErr result (standing.new.journal ≡ standing.old.journal) }
-    ensures made { OnOk result (standing.new.cut ≡ None → claims_made (log_view standing.new.log) ≡ claims_made (log_view standing.old.log)) }
-    ensures few { OnOk result (claims_made (log_view standing.new.log) ≤ claims_made (log_view standing.old.log)) }
-    ensures frees { OnOk result ((s k : ℕ) → slice_get standing.new.held.items s ≡ Some (Some k) → slice_get standing.old.held.items s ≡ Some (Some k)) }
-    ensures room { vec_len standing.new.journal < vec_capacity standing.new.journal }
-    ensures committed { (setup : PlainSetup) → IsToldAt setup standing.old → StillCommitted setup standing.old standing.new }
-{
-    let number = standing.log.committed();
-    if number == standing.log.len() {
-        return Ok(());
-    }
-    let ClaimState::Failed(fault) = standing.log.state(number) else {
-        return Ok(());
-    };
-    let element = standing.log.job(number).element.copy()?;
-    standing.log.cut(number)?;
-    free_all(&mut standing.held);
-    standing.cut = Some(Cut {
-        number,
-        cause: End::Fault(element, fault),
-    });
-    standing.journal.push_reserved(Event::Cut { number });
-    Ok(())
-}
-
-/// No seat holds a claim.
-fn free_all(held: &mut Vec<Option<u64>>)
-    ensures long { length held.new.items ≡ length held.old.items }
-    ensures free { (s : ℕ) → s < length held.old.items → slice_get held.new.items s ≡ Some None }
-{
-    for seat in 0..held.len() {
-        held[seat] = None;
-    }
 }

@@ -72,6 +72,7 @@ impl Book {
             log,
             journal,
             occurrences,
+            values,
             ..
         } = standing;
         Finished {
@@ -83,6 +84,7 @@ impl Book {
             clock,
             cause,
             closing,
+            values,
         }
     }
 }

@@ -1,6 +1,6 @@
 //! How a claim is made and completed at once, where no other one is open.
 
-ghost use Rattle.std.specs.Prelude.{◌≡◌, ◌+◌, ◌<◌, None, List, ◌++◌, [], ◌∷◌, OnOk, vec_len, vec_capacity};
+ghost use Rattle.std.specs.Prelude.{◌≡◌, ◌+◌, ◌<◌, None, List, ◌++◌, [], ◌∷◌, IfOk, OnOk, vec_len, vec_capacity};
 ghost use Rattle.std.specs.List.{count_by};
 ghost use Rattle.std.specs.Option.{is_some};
 ghost use Rattle.cpn_definitions.specs.Outcome.{gives};
@@ -10,6 +10,7 @@ ghost use Rattle.cpn_log.specs.LogViews.{log_view};
 ghost use Rattle.cpn_runs.specs.FinishedViews.{setup_view};
 ghost use Rattle.cpn_runs.specs.Playable.{IsPlayable};
 ghost use Rattle.cpn_runs.specs.State.{PlainEvent, claim_made, claim_completed};
+ghost use Rattle.cpn_book.specs.Committing.{CommitsNoMore};
 ghost use Rattle.cpn_book.specs.DrawnClaims.{IsDrawnClaim};
 ghost use Rattle.cpn_book.specs.Evaluations.{outputs_in};
 ghost use Rattle.cpn_book.specs.GoingAlone.{AreRounds};
@@ -17,17 +18,21 @@ ghost use Rattle.cpn_book.specs.Standings.{IsAt, StillCommitted, events_in};
 ghost use Rattle.cpn_book.specs.Tickets.{evaluated_number, evaluated_job};
 
 use crate::claiming::make_claim;
+use crate::committing::note_last;
 use crate::completing::complete_claim;
+use crate::cutting::make_owed_cut;
 use crate::standings::Standing;
 use crate::tickets::Evaluated;
 use cpn_core::{Memory, Needs, Occurrence, Outputs};
 use cpn_jobs::Job;
 use cpn_runs::{Event, Setup};
+use std::alloc::Global;
 use std::sync::Arc;
 
 /// Makes the claim of seat 0 that is drawn and evaluated, where no claim is open, and completes it. It leaves room in the journal for one
 /// event more. After `Memory` nothing is known of where the run stands.
 pub(crate) fn play_drawn(
+    alloc: Global,
     setup: &Setup,
     standing: &mut Standing,
     done: Evaluated,
@@ -49,7 +54,10 @@ pub(crate) fn play_drawn(
         result,
     } = done;
     match result {
-        Ok(outputs) => occur(setup, standing, number, job, needs, outputs),
+        Ok(outputs) => {
+            let stop = occur(alloc, setup, standing, number, job, needs, outputs)?;
+            make_owed_cut(standing, stop)
+        }
         Err(fault) => {
             make_claim(setup, standing, 0, number, job.clone()?, needs)?;
             let done = Evaluated {
@@ -57,33 +65,36 @@ pub(crate) fn play_drawn(
                 job,
                 result: Err(fault),
             };
-            complete_claim(setup, standing, 0, done)
+            complete_claim(alloc, setup, standing, 0, done)
         }
     }
 }
 
-/// Makes the claim of seat 0 that is drawn, where no claim is open, completes it with its outputs and commits it, all at once. It leaves
-/// room in the journal for one event more. After `Memory` nothing is known of where the run stands.
+/// Makes the claim of seat 0 that is drawn, where no claim is open, completes it with its outputs and commits it, all at once; the monitors
+/// note its occurrence: the number of the first that stops the run after it, if one does. It leaves room in the journal for two events
+/// more. After `Memory` nothing is known of where the run stands.
 fn occur(
+    alloc: Global,
     setup: &Setup,
     standing: &mut Standing,
     number: u64,
     job: Arc<Job>,
     needs: Needs,
     outputs: Outputs,
-) -> Result<(), Memory>
+) -> Result<Option<u64>, Memory>
     requires playable { IsPlayable (setup_view setup.now) }
     requires drawn { IsDrawnClaim (setup_view setup.now) standing.old number (job_view job.value) needs }
     requires none_open { count_by is_some standing.old.held.items ≡ 0 }
     requires outputs { outputs_in (job_view job.value) ≡ gives outputs }
-    ensures at { OnOk result (IsAt (setup_view setup.now) standing.new) }
+    ensures no_more { IfOk result (λ stop. CommitsNoMore (setup_view setup.now) standing.new stop) }
+    ensures uncut { standing.new.cut ≡ None }
     ensures held { standing.new.held ≡ standing.old.held }
     ensures made { OnOk result (claims_made (log_view standing.new.log) ≡ claims_made (log_view standing.old.log) + 1) }
     ensures events { OnOk result (events_in standing.new ≡ events_in standing.old ++ claim_made 0 number ∷ claim_completed 0 number ∷ []) }
-    ensures room { OnOk result (vec_len standing.new.journal < vec_capacity standing.new.journal) }
+    ensures room { OnOk result (vec_len standing.new.journal + 1 < vec_capacity standing.new.journal) }
     ensures committed { OnOk result (StillCommitted (setup_view setup.now) standing.old standing.new) }
 {
-    standing.journal.reserve(3)?;
+    standing.journal.reserve(4)?;
     standing.occurrences.reserve(1)?;
     let occurrence = Occurrence {
         number,
@@ -91,12 +102,12 @@ fn occur(
         element: job.element.clone()?,
     };
     standing.log.occur(0, job, &needs, outputs)?;
-    standing.occurrences.push_reserved(occurrence);
+    let stop = note_last(alloc, setup, standing, occurrence)?;
     standing
         .journal
         .push_reserved(Event::Claim { seat: 0, number });
     standing
         .journal
         .push_reserved(Event::Done { seat: 0, number });
-    Ok(())
+    Ok(stop)
 }

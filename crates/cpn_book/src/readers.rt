@@ -4,6 +4,8 @@ ghost use Rattle.std.specs.Prelude.{◌≡◌, ◌≤◌, ◌-◌, ◌^◌, Some
 ghost use Rattle.cpn_definitions.specs.Bounds.{IsBounded};
 ghost use Rattle.cpn_definitions.specs.Legal.{Legal, timed};
 ghost use Rattle.cpn_definitions.specs.Sound.{IsMarking};
+ghost use Rattle.cpn_monitor.specs.Views.{values_view};
+ghost use Rattle.cpn_runs.specs.MeasuredStates.{values_in};
 ghost use Rattle.cpn_runs.specs.Bounds.{HasGrown};
 ghost use Rattle.cpn_runs.specs.FinishedViews.{setup_view};
 ghost use Rattle.cpn_runs.specs.State.{unclaimed_in, settled_in, committed, committed_occurrences};
@@ -13,6 +15,7 @@ ghost use Rattle.cpn_book.specs.States.{AreReady, IsNextTime, open_claims};
 
 use crate::books::Book;
 use crate::outlooks::next_time;
+use cpn_monitor::Values14;
 use cpn_runs::{Event, Setup};
 use cpn_tmset::Marking;
 
@@ -60,6 +63,15 @@ impl Book {
         ensures in_time { result ≤ (setup_in self.now).limits.until }
     {
         self.standing.clock
+    }
+
+    /// What the monitors measure of the committed occurrences, by the clock. It is asked of a book that is not spent.
+    pub fn values(&self) -> &Values14
+        requires kept { IsBook self.now }
+        requires unspent { is_spent_in self.now ≡ false }
+        ensures { InState self.now (λ state. values_view result.now ≡ values_in (setup_in self.now) state) }
+    {
+        &self.standing.values
     }
 
     /// How many binding elements are ready: covered in the unclaimed marking at the clock. It is asked of a book that is not spent.

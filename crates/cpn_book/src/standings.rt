@@ -16,6 +16,7 @@ use cpn_core::{Memory, Occurrence};
 use cpn_draw::Draw;
 use cpn_jobs::Job;
 use cpn_log::{ClaimState, Log};
+use cpn_monitor::Values14;
 use cpn_runs::{End, Event, Setup};
 use std::alloc::Global;
 use std::sync::Arc;
@@ -38,6 +39,8 @@ pub(crate) struct Standing {
     pub(crate) journal: Vec<Event>,
     /// The occurrences of the committed claims.
     pub(crate) occurrences: Vec<Occurrence>,
+    /// What the monitors measure of these, by the clock.
+    pub(crate) values: Values14,
     /// The words of the claims that are to come.
     pub(crate) draw: Draw,
     /// Of each seat the number of its open claim, where it has one.
@@ -56,11 +59,13 @@ pub(crate) fn at_start(alloc: Global, setup: &Setup) -> Result<Standing, Memory>
 {
     let log = Log::start(alloc, setup.start.copy()?)?;
     let held = none_held(alloc, setup.limits.seats)?;
+    let values = setup.monitors.start(alloc, &setup.start, setup.clock)?;
     Ok(Standing {
         clock: setup.clock,
         log,
         journal: Vec::new(alloc),
         occurrences: Vec::new(alloc),
+        values,
         draw: Draw::new(setup.seed),
         held,
         cut: None,

@@ -11,3 +11,4 @@ pub mod WellFormed
 mod Rows
 mod MonitorRows
 mod PhaseRows
+mod KeyRows

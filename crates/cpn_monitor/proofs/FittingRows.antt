@@ -8,7 +8,7 @@ use Rattle.cpn_definitions.specs.Net.{PlainNet, PlainTransition, no_transition}
 use Rattle.cpn_definitions.specs.Value.{int, text}
 use Rattle.cpn_monitor.specs.Fitting.{IsMeasurable, FitNet}
 use Rattle.cpn_monitor.specs.Monitors.{PlainMonitor, counts, sizes, values, stops_by_count, stops_by_size, at_least}
-use Rattle.cpn_monitor.specs.Steps.{MeasuredRun, PlainStep, begun, with_step, at_clock, IsTimely}
+use Rattle.cpn_monitor.specs.MeasuredRuns.{MeasuredRun, MarkedOccurrence, begun, with_occurrence, at_clock, IsTimely}
 
 abbrev integers : PlainColour
 integers = record { shape = int_shape (negsuc 99) (pos 99); timed = false }
@@ -63,14 +63,14 @@ by_another_function h = let e = h.functions_are in cc
 
 -- ---- a run, told on
 
-abbrev step : PlainStep
-step = record { occurrence = record { element = record { transition = 0; binding = (0, int (pos 7)) ∷ [] }; time = 5 }; after = [] ∷ [] }
+abbrev marked : MarkedOccurrence
+marked = record { occurrence = record { element = record { transition = 0; binding = (0, int (pos 7)) ∷ [] }; time = 5 }; after = [] ∷ [] }
 
 abbrev told : MeasuredRun
-told = with_step step (begun ((token_at (int (pos 7)) 0 ∷ []) ∷ []) 3)
+told = with_occurrence marked (begun ((token_at (int (pos 7)) 0 ∷ []) ∷ []) 3)
 
-its_steps : told ≡ record { start = (token_at (int (pos 7)) 0 ∷ []) ∷ []; clock = 3; steps = step ∷ []; last_clock = 5 }
-its_steps = refl
+its_occurrences : told ≡ record { start = (token_at (int (pos 7)) 0 ∷ []) ∷ []; clock = 3; occurrences = marked ∷ []; last_clock = 5 }
+its_occurrences = refl
 
 at_its_clock : IsTimely (at_clock 5 told)
 at_its_clock = omega arith

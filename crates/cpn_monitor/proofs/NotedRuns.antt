@@ -12,19 +12,19 @@ use Rattle.cpn_definitions.specs.Outcome.{Outcome, gives, faults, no_meaning}
 use Rattle.cpn_definitions.specs.Value.{PlainValue, unit, boolean, int, constant, text, tuple, bare, applied, list}
 use Rattle.cpn_monitor.specs.Fitting.{MeansInteger}
 use Rattle.cpn_monitor.specs.Monitors.{PlainMeasure, counts, sizes, values, stops_by_count, stops_by_size}
-use Rattle.cpn_monitor.specs.Steps.{PlainStep, MeasuredRun, is_of, steps_of, size_on, TimedSize, size_after, sizes_over_time, with_step, at_clock, last_time_of, IsTimely}
+use Rattle.cpn_monitor.specs.MeasuredRuns.{MarkedOccurrence, MeasuredRun, is_of, occurrences_of, size_on, TimedSize, size_after, sizes_over_time, with_occurrence, at_clock, last_time_of, IsTimely}
 use Rattle.cpn_monitor.specs.MonitorValues.{PlainMeasured, counted, sized, valued, counted_to_stop, sized_to_stop, count_of, size_list, least_of, greatest_of, last_of, sum_until, integer_given, is_fault, integers_in, faults_in, outcomes_of, values_among, meaning_at, measured}
 use Rattle.cpn_monitor.specs.Noted.{one_if, least_with, greatest_with, with_integer, with_fault, with_value, measured_until, noted}
 
 -- ---- occurrences
 
-steps_more : (t : ℕ) (steps : List PlainStep) (step : PlainStep) → steps_of t (steps ++ step ∷ []) ≡ steps_of t steps ++ (if is_of t step then step ∷ [] else [])
-steps_more t steps step = filter-append (is_of t) steps (step ∷ [])
+occurrences_more : (t : ℕ) (occurrences : List MarkedOccurrence) (marked : MarkedOccurrence) → occurrences_of t (occurrences ++ marked ∷ []) ≡ occurrences_of t occurrences ++ (if is_of t marked then marked ∷ [] else [])
+occurrences_more t occurrences marked = filter-append (is_of t) occurrences (marked ∷ [])
 
-count_more : (t : ℕ) (steps : List PlainStep) (step : PlainStep) → count_of t (steps ++ step ∷ []) ≡ count_of t steps + one_if (is_of t step)
-count_more t steps step = ap length (steps_more t steps step) ∙ length-append (steps_of t steps) _ ∙ ap (λ n. count_of t steps + n) (by (is_of t step))
+count_more : (t : ℕ) (occurrences : List MarkedOccurrence) (marked : MarkedOccurrence) → count_of t (occurrences ++ marked ∷ []) ≡ count_of t occurrences + one_if (is_of t marked)
+count_more t occurrences marked = ap length (occurrences_more t occurrences marked) ∙ length-append (occurrences_of t occurrences) _ ∙ ap (λ n. count_of t occurrences + n) (by (is_of t marked))
   where
-    by : (b : Bool) → length (if b then step ∷ [] else []) ≡ one_if b
+    by : (b : Bool) → length (if b then marked ∷ [] else []) ≡ one_if b
     by true = refl
     by false = refl
 
@@ -35,10 +35,10 @@ last_timed : ℕ → List TimedSize → ℕ
 last_timed time [] = time
 last_timed time (s ∷ ss) = last_timed s.time ss
 
-timed_as_steps : (p time : ℕ) (steps : List PlainStep) → last_timed time (map (size_after p) steps) ≡ last_time_of time steps
+timed_as_occurrences : (p time : ℕ) (occurrences : List MarkedOccurrence) → last_timed time (map (size_after p) occurrences) ≡ last_time_of time occurrences
 unfolding last_timed
-timed_as_steps p time [] = refl
-timed_as_steps p time (step ∷ steps) = timed_as_steps p step.occurrence.time steps
+timed_as_occurrences p time [] = refl
+timed_as_occurrences p time (marked ∷ occurrences) = timed_as_occurrences p marked.occurrence.time occurrences
 
 sum_more : (end : ℕ) (s : TimedSize) (ss : List TimedSize) (x : TimedSize) → sum_until end (s ∷ (ss ++ x ∷ [])) ≡ sum_until x.time (s ∷ ss) + x.size * (end - x.time)
 sum_more end s [] x = refl
@@ -67,44 +67,44 @@ module _ (p : ℕ) (run : MeasuredRun) where
   first = record { time = run.clock; size = size_on p run.start }
 
   abbrev others : List TimedSize
-  others = map (size_after p) run.steps
+  others = map (size_after p) run.occurrences
 
   abbrev other_sizes : List ℕ
   other_sizes = map (λ (s : TimedSize). s.size) others
 
-  others_more : (step : PlainStep) → map (size_after p) (run.steps ++ step ∷ []) ≡ others ++ size_after p step ∷ []
-  others_more step = map-append (size_after p) run.steps (step ∷ [])
+  others_more : (marked : MarkedOccurrence) → map (size_after p) (run.occurrences ++ marked ∷ []) ≡ others ++ size_after p marked ∷ []
+  others_more marked = map-append (size_after p) run.occurrences (marked ∷ [])
 
-  other_sizes_more : (step : PlainStep) → map (λ (s : TimedSize). s.size) (map (size_after p) (run.steps ++ step ∷ [])) ≡ other_sizes ++ size_on p step.after ∷ []
-  other_sizes_more step = ap (map (λ (s : TimedSize). s.size)) (others_more step) ∙ map-append (λ (s : TimedSize). s.size) others (size_after p step ∷ [])
+  other_sizes_more : (marked : MarkedOccurrence) → map (λ (s : TimedSize). s.size) (map (size_after p) (run.occurrences ++ marked ∷ [])) ≡ other_sizes ++ size_on p marked.after ∷ []
+  other_sizes_more marked = ap (map (λ (s : TimedSize). s.size)) (others_more marked) ∙ map-append (λ (s : TimedSize). s.size) others (size_after p marked ∷ [])
 
-  reduced_more : (f : ℕ → ℕ → ℕ) (step : PlainStep) → unwrap_or (reduce f (size_list p (with_step step run))) 0 ≡ f (unwrap_or (reduce f (size_list p run)) 0) (size_on p step.after)
-  reduced_more f step = ap (fold f first.size) (other_sizes_more step) ∙ fold-append f first.size other_sizes (size_on p step.after ∷ [])
+  reduced_more : (f : ℕ → ℕ → ℕ) (marked : MarkedOccurrence) → unwrap_or (reduce f (size_list p (with_occurrence marked run))) 0 ≡ f (unwrap_or (reduce f (size_list p run)) 0) (size_on p marked.after)
+  reduced_more f marked = ap (fold f first.size) (other_sizes_more marked) ∙ fold-append f first.size other_sizes (size_on p marked.after ∷ [])
 
-  pub last_with : (step : PlainStep) → last_of (size_list p (with_step step run)) ≡ size_on p step.after
-  last_with step = ap (λ ns. last_of (first.size ∷ ns)) (other_sizes_more step) ∙ last_more first.size other_sizes (size_on p step.after)
+  pub last_with : (marked : MarkedOccurrence) → last_of (size_list p (with_occurrence marked run)) ≡ size_on p marked.after
+  last_with marked = ap (λ ns. last_of (first.size ∷ ns)) (other_sizes_more marked) ∙ last_more first.size other_sizes (size_on p marked.after)
 
   in_time : IsTimely run → last_timed run.clock others ≤ run.last_clock
-  in_time timely = subst (λ n. n ≤ run.last_clock) (sym (timed_as_steps p run.clock run.steps)) timely
+  in_time timely = subst (λ n. n ≤ run.last_clock) (sym (timed_as_occurrences p run.clock run.occurrences)) timely
 
   sum_at : (later : ℕ) → IsTimely run → run.last_clock ≤ later
       → sum_until later (sizes_over_time p run) ≡ sum_until run.last_clock (sizes_over_time p run) + last_of (size_list p run) * (later - run.last_clock)
   sum_at later timely to = sum_later run.last_clock later first others (in_time timely) to
 
-  sum_with : (step : PlainStep) → IsTimely run → run.last_clock ≤ step.occurrence.time
-      → sum_until step.occurrence.time (sizes_over_time p (with_step step run)) ≡ sum_until run.last_clock (sizes_over_time p run) + last_of (size_list p run) * (step.occurrence.time - run.last_clock)
-  sum_with step timely to =
-      ap (λ ss. sum_until step.occurrence.time (first ∷ ss)) (others_more step) ∙ sum_more step.occurrence.time first others (size_after p step)
-      ∙ none_after (size_on p step.after) step.occurrence.time (sum_until step.occurrence.time (sizes_over_time p run)) ∙ sum_at step.occurrence.time timely to
+  sum_with : (marked : MarkedOccurrence) → IsTimely run → run.last_clock ≤ marked.occurrence.time
+      → sum_until marked.occurrence.time (sizes_over_time p (with_occurrence marked run)) ≡ sum_until run.last_clock (sizes_over_time p run) + last_of (size_list p run) * (marked.occurrence.time - run.last_clock)
+  sum_with marked timely to =
+      ap (λ ss. sum_until marked.occurrence.time (first ∷ ss)) (others_more marked) ∙ sum_more marked.occurrence.time first others (size_after p marked)
+      ∙ none_after (size_on p marked.after) marked.occurrence.time (sum_until marked.occurrence.time (sizes_over_time p run)) ∙ sum_at marked.occurrence.time timely to
     where
       none_after : (size time sum : ℕ) → sum + size * (time - time) ≡ sum
       none_after size time sum =
           let no : time - time ≡ 0 = omega arith in
           ap (λ n. sum + size * n) no ∙ omega (arith, mul-zero size)
 
-  sizes_more : (step : PlainStep) → IsTimely run → run.last_clock ≤ step.occurrence.time → (funs : Functions) → measured funs (with_step step run) (sizes p) ≡ noted funs step (sizes p) (measured funs run (sizes p))
-  sizes_more step timely to funs =
-      all_sizes step.occurrence.time _ _ _ _ _ _ _ _ (reduced_more min step) (reduced_more max step) (last_with step) (sum_with step timely to)
+  sizes_more : (marked : MarkedOccurrence) → IsTimely run → run.last_clock ≤ marked.occurrence.time → (funs : Functions) → measured funs (with_occurrence marked run) (sizes p) ≡ noted funs marked (sizes p) (measured funs run (sizes p))
+  sizes_more marked timely to funs =
+      all_sizes marked.occurrence.time _ _ _ _ _ _ _ _ (reduced_more min marked) (reduced_more max marked) (last_with marked) (sum_with marked timely to)
 
   sizes_later : (later : ℕ) → IsTimely run → run.last_clock ≤ later → (funs : Functions) → measured funs (at_clock later run) (sizes p) ≡ measured_until later (measured funs run (sizes p))
   sizes_later later timely to funs = ap (λ n. sized (least_of (size_list p run)) (greatest_of (size_list p run)) (last_of (size_list p run)) n later) (sum_at later timely to)
@@ -147,18 +147,18 @@ values_more outcomes o = by (integer_given o) (integer_more outcomes o (integer_
         ap (λ xs. valued (length xs) (fold ◌+ℤ◌ (pos 0) xs) (reduce int_min xs) (reduce int_max xs) (faults_in (outcomes ++ o ∷ []))) is
         ∙ all_five _ _ _ _ _ _ _ _ _ _ (length-append zs (z ∷ [])) (fold-append ◌+ℤ◌ (pos 0) zs (z ∷ [])) (reduced_with int_min (least_with z) z refl (λ y. refl) zs) (reduced_with int_max (greatest_with z) z refl (λ y. refl) zs) (faults_more outcomes o)
 
-outcomes_more : (funs : Functions) (t : ℕ) (e : PlainExpr) (steps : List PlainStep) (step : PlainStep) → outcomes_of funs t e (steps ++ step ∷ []) ≡ outcomes_of funs t e steps ++ (if is_of t step then meaning_at funs e step ∷ [] else [])
-outcomes_more funs t e steps step = ap (map (meaning_at funs e)) (steps_more t steps step) ∙ map-append (meaning_at funs e) (steps_of t steps) _ ∙ ap (λ os. outcomes_of funs t e steps ++ os) (by (is_of t step))
+outcomes_more : (funs : Functions) (t : ℕ) (e : PlainExpr) (occurrences : List MarkedOccurrence) (marked : MarkedOccurrence) → outcomes_of funs t e (occurrences ++ marked ∷ []) ≡ outcomes_of funs t e occurrences ++ (if is_of t marked then meaning_at funs e marked ∷ [] else [])
+outcomes_more funs t e occurrences marked = ap (map (meaning_at funs e)) (occurrences_more t occurrences marked) ∙ map-append (meaning_at funs e) (occurrences_of t occurrences) _ ∙ ap (λ os. outcomes_of funs t e occurrences ++ os) (by (is_of t marked))
   where
-    by : (b : Bool) → map (meaning_at funs e) (if b then step ∷ [] else []) ≡ (if b then meaning_at funs e step ∷ [] else [])
+    by : (b : Bool) → map (meaning_at funs e) (if b then marked ∷ [] else []) ≡ (if b then meaning_at funs e marked ∷ [] else [])
     by true = refl
     by false = refl
 
-values_with : (funs : Functions) (t : ℕ) (e : PlainExpr) (steps : List PlainStep) (step : PlainStep) (b : Bool)
-    → values_among (outcomes_of funs t e steps ++ (if b then meaning_at funs e step ∷ [] else []))
-    ≡ (if b then with_fault (is_fault (meaning_at funs e step)) (with_integer (integer_given (meaning_at funs e step)) (values_among (outcomes_of funs t e steps))) else values_among (outcomes_of funs t e steps))
-values_with funs t e steps step true = values_more (outcomes_of funs t e steps) (meaning_at funs e step)
-values_with funs t e steps step false = ap values_among (append-nil (outcomes_of funs t e steps))
+values_with : (funs : Functions) (t : ℕ) (e : PlainExpr) (occurrences : List MarkedOccurrence) (marked : MarkedOccurrence) (b : Bool)
+    → values_among (outcomes_of funs t e occurrences ++ (if b then meaning_at funs e marked ∷ [] else []))
+    ≡ (if b then with_fault (is_fault (meaning_at funs e marked)) (with_integer (integer_given (meaning_at funs e marked)) (values_among (outcomes_of funs t e occurrences))) else values_among (outcomes_of funs t e occurrences))
+values_with funs t e occurrences marked true = values_more (outcomes_of funs t e occurrences) (meaning_at funs e marked)
+values_with funs t e occurrences marked false = ap values_among (append-nil (outcomes_of funs t e occurrences))
 
 -- ---- an integer, or a fault
 
@@ -170,9 +170,9 @@ no_fault (counted_to_stop n) = refl
 no_fault (sized_to_stop last) = refl
 
 -- An integer more is noted, or a fault.
-pub noted_value : (funs : Functions) (step : PlainStep) (t : ℕ) (e : PlainExpr) (m : PlainMeasured) (value : Option ℤ) → is_of t step ≡ true → MeansInteger (meaning_at funs e step) → value ≡ integer_given (meaning_at funs e step)
-    → with_value value m ≡ noted funs step (values t e) m
-noted_value funs step t e m value occurs means is = ap (λ v. with_value v m) is ∙ by (meaning_at funs e step) means ∙ sym (ap (λ b. if b then with_fault (is_fault (meaning_at funs e step)) (with_integer (integer_given (meaning_at funs e step)) m) else m) occurs)
+pub noted_value : (funs : Functions) (marked : MarkedOccurrence) (t : ℕ) (e : PlainExpr) (m : PlainMeasured) (value : Option ℤ) → is_of t marked ≡ true → MeansInteger (meaning_at funs e marked) → value ≡ integer_given (meaning_at funs e marked)
+    → with_value value m ≡ noted funs marked (values t e) m
+noted_value funs marked t e m value occurs means is = ap (λ v. with_value v m) is ∙ by (meaning_at funs e marked) means ∙ sym (ap (λ b. if b then with_fault (is_fault (meaning_at funs e marked)) (with_integer (integer_given (meaning_at funs e marked)) m) else m) occurs)
   where
     by : (o : Outcome PlainValue) → MeansInteger o → with_value (integer_given o) m ≡ with_fault (is_fault o) (with_integer (integer_given o) m)
     by (gives (int z)) h = sym (no_fault (with_integer (Some z) m))
@@ -197,13 +197,13 @@ noted_value funs step t e m value occurs means is = ap (λ v. with_value v m) is
 -- ---- monitors
 
 -- One occurrence more adds what is noted of it.
-pub measured_more : (funs : Functions) (run : MeasuredRun) (step : PlainStep) (measure : PlainMeasure) → IsTimely run → run.last_clock ≤ step.occurrence.time
-    → measured funs (with_step step run) measure ≡ noted funs step measure (measured funs run measure)
-measured_more funs run step (counts t) timely to = ap counted (count_more t run.steps step)
-measured_more funs run step (sizes p) timely to = sizes_more p run step timely to funs
-measured_more funs run step (values t e) timely to = ap values_among (outcomes_more funs t e run.steps step) ∙ values_with funs t e run.steps step (is_of t step)
-measured_more funs run step (stops_by_count t n) timely to = ap counted_to_stop (count_more t run.steps step)
-measured_more funs run step (stops_by_size p bound n) timely to = ap sized_to_stop (last_with p run step)
+pub measured_more : (funs : Functions) (run : MeasuredRun) (marked : MarkedOccurrence) (measure : PlainMeasure) → IsTimely run → run.last_clock ≤ marked.occurrence.time
+    → measured funs (with_occurrence marked run) measure ≡ noted funs marked measure (measured funs run measure)
+measured_more funs run marked (counts t) timely to = ap counted (count_more t run.occurrences marked)
+measured_more funs run marked (sizes p) timely to = sizes_more p run marked timely to funs
+measured_more funs run marked (values t e) timely to = ap values_among (outcomes_more funs t e run.occurrences marked) ∙ values_with funs t e run.occurrences marked (is_of t marked)
+measured_more funs run marked (stops_by_count t n) timely to = ap counted_to_stop (count_more t run.occurrences marked)
+measured_more funs run marked (stops_by_size p bound n) timely to = ap sized_to_stop (last_with p run marked)
 
 -- At a later clock the last sizes have stood until then.
 pub measured_later : (funs : Functions) (run : MeasuredRun) (later : ℕ) (measure : PlainMeasure) → IsTimely run → run.last_clock ≤ later

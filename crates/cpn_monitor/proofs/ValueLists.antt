@@ -4,7 +4,7 @@ use Rattle.cpn_definitions.specs.Inscription.{Functions}
 use Rattle.cpn_monitor.specs.Monitors.{PlainMonitor}
 use Rattle.cpn_monitor.specs.MonitorValues.{PlainMeasured, PlainMonitorValue}
 use Rattle.cpn_monitor.specs.Noted.{MayBeNoted, MayAllNote, noted, all_noted, with_measured}
-use Rattle.cpn_monitor.specs.Steps.{PlainStep}
+use Rattle.cpn_monitor.specs.MeasuredRuns.{MarkedOccurrence}
 
 -- one more of the numbers is put into its value
 pub measured_at : (ms : List PlainMeasured) (vs : List PlainMonitorValue) (i : ℕ) (m d : PlainMeasured) (e : PlainMonitorValue) → length ms ≡ length vs → i < length ms → m ≡ get_or ms i d
@@ -27,22 +27,22 @@ behind (m ∷ ms) (v ∷ vs) zero e is = absurd (omega (arith, is))
 behind (m ∷ ms) (v ∷ vs) (suc i) e is = behind ms vs i e (omega (arith, is))
 
 -- what each has noted, one after another
-pub noted_at : (funs : Functions) (step : PlainStep) (ms : List PlainMonitor) (vs : List PlainMonitorValue) (i : ℕ) (d : PlainMonitor) (e : PlainMonitorValue) → length ms ≡ length vs → i < length ms
-    → all_noted funs step (take (suc i) ms) vs ≡ all_noted funs step (take i ms) vs ++ noted funs step (get_or ms i d).measure (get_or vs i e).measured ∷ []
-noted_at funs step [] vs i d e long lt = absurd (omega arith)
-noted_at funs step (m ∷ ms) [] i d e long lt = absurd (omega (arith, long))
-noted_at funs step (m ∷ ms) (v ∷ vs) zero d e long lt = refl
-noted_at funs step (m ∷ ms) (v ∷ vs) (suc i) d e long lt = ap (λ xs. noted funs step m.measure v.measured ∷ xs) (noted_at funs step ms vs i d e (omega (arith, long)) (omega (arith, lt)))
+pub noted_at : (funs : Functions) (marked : MarkedOccurrence) (ms : List PlainMonitor) (vs : List PlainMonitorValue) (i : ℕ) (d : PlainMonitor) (e : PlainMonitorValue) → length ms ≡ length vs → i < length ms
+    → all_noted funs marked (take (suc i) ms) vs ≡ all_noted funs marked (take i ms) vs ++ noted funs marked (get_or ms i d).measure (get_or vs i e).measured ∷ []
+noted_at funs marked [] vs i d e long lt = absurd (omega arith)
+noted_at funs marked (m ∷ ms) [] i d e long lt = absurd (omega (arith, long))
+noted_at funs marked (m ∷ ms) (v ∷ vs) zero d e long lt = refl
+noted_at funs marked (m ∷ ms) (v ∷ vs) (suc i) d e long lt = ap (λ xs. noted funs marked m.measure v.measured ∷ xs) (noted_at funs marked ms vs i d e (omega (arith, long)) (omega (arith, lt)))
 
-pub may_at : (funs : Functions) (step : PlainStep) (ms : List PlainMonitor) (vs : List PlainMonitorValue) (i : ℕ) (d : PlainMonitor) (e : PlainMonitorValue) → MayAllNote funs step ms vs → i < length ms
-    → MayBeNoted funs step (get_or ms i d).measure (get_or vs i e).measured
-may_at funs step [] vs i d e may lt = absurd (omega arith)
-may_at funs step (m ∷ ms) [] i d e may lt = absurd may
-may_at funs step (m ∷ ms) (v ∷ vs) zero d e may lt = may.0
-may_at funs step (m ∷ ms) (v ∷ vs) (suc i) d e may lt = may_at funs step ms vs i d e may.1 (omega (arith, lt))
+pub may_at : (funs : Functions) (marked : MarkedOccurrence) (ms : List PlainMonitor) (vs : List PlainMonitorValue) (i : ℕ) (d : PlainMonitor) (e : PlainMonitorValue) → MayAllNote funs marked ms vs → i < length ms
+    → MayBeNoted funs marked (get_or ms i d).measure (get_or vs i e).measured
+may_at funs marked [] vs i d e may lt = absurd (omega arith)
+may_at funs marked (m ∷ ms) [] i d e may lt = absurd may
+may_at funs marked (m ∷ ms) (v ∷ vs) zero d e may lt = may.0
+may_at funs marked (m ∷ ms) (v ∷ vs) (suc i) d e may lt = may_at funs marked ms vs i d e may.1 (omega (arith, lt))
 
-pub as_many_may : (funs : Functions) (step : PlainStep) (ms : List PlainMonitor) (vs : List PlainMonitorValue) → MayAllNote funs step ms vs → length ms ≡ length vs
-as_many_may funs step [] [] may = refl
-as_many_may funs step [] (v ∷ vs) may = absurd may
-as_many_may funs step (m ∷ ms) [] may = absurd may
-as_many_may funs step (m ∷ ms) (v ∷ vs) may = ap (λ (n : ℕ). suc n) (as_many_may funs step ms vs may.1)
+pub as_many_may : (funs : Functions) (marked : MarkedOccurrence) (ms : List PlainMonitor) (vs : List PlainMonitorValue) → MayAllNote funs marked ms vs → length ms ≡ length vs
+as_many_may funs marked [] [] may = refl
+as_many_may funs marked [] (v ∷ vs) may = absurd may
+as_many_may funs marked (m ∷ ms) [] may = absurd may
+as_many_may funs marked (m ∷ ms) (v ∷ vs) may = ap (λ (n : ℕ). suc n) (as_many_may funs marked ms vs may.1)

@@ -6,7 +6,7 @@ use Rattle.cpn_definitions.specs.Inscription.{Functions}
 use Rattle.cpn_monitor.specs.Monitors.{PlainMonitor}
 use Rattle.cpn_monitor.specs.MonitorValues.{PlainMeasured}
 use Rattle.cpn_monitor.specs.Noted.{noted, measured_until, IsUpTo, MayBeNoted, MayAllNote, all_noted, with_measured}
-use Rattle.cpn_monitor.specs.Steps.{PlainStep}
+use Rattle.cpn_monitor.specs.MeasuredRuns.{MarkedOccurrence}
 use Rattle.cpn_monitor.specs.Views.{monitor_view, measure_view, measured_view, value_view}
 use Rattle.cpn_monitor.specs.declared.monitors.Monitor.{Monitor}
 use Rattle.cpn_monitor.specs.declared.values.Measured.{Measured}
@@ -30,30 +30,30 @@ seen_here P monitors i m all lt is = subst P (sym (view_at monitor_view monitors
 
 -- ---- what is noted
 
-pub many_values : (funs : Functions) (step : PlainStep) (monitors : List Monitor) (values : List MonitorValue) → MayAllNote funs step (map monitor_view monitors) (map value_view values) → length monitors ≡ length values
-many_values funs step monitors values may =
-    sym (length-map monitors monitor_view) ∙ as_many_may funs step (map monitor_view monitors) (map value_view values) may ∙ length-map values value_view
+pub many_values : (funs : Functions) (marked : MarkedOccurrence) (monitors : List Monitor) (values : List MonitorValue) → MayAllNote funs marked (map monitor_view monitors) (map value_view values) → length monitors ≡ length values
+many_values funs marked monitors values may =
+    sym (length-map monitors monitor_view) ∙ as_many_may funs marked (map monitor_view monitors) (map value_view values) may ∙ length-map values value_view
 
 below : (monitors : List Monitor) (i : ℕ) → i < length monitors → i < length (map monitor_view monitors)
 below monitors i lt = subst (λ n. i < n) (sym (length-map monitors monitor_view)) lt
 
-pub may_here : (funs : Functions) (step : PlainStep) (monitors : List Monitor) (values : List MonitorValue) (i : ℕ) (m : Monitor) (v : MonitorValue) → MayAllNote funs step (map monitor_view monitors) (map value_view values)
-    → i < length monitors → m ≡ get_or monitors i m → v ≡ get_or values i v → MayBeNoted funs step (measure_view m.measure) (measured_view v.measured)
-may_here funs step monitors values i m v may lt m_is v_is =
-    subst (λ x. MayBeNoted funs step x.measure (measured_view v.measured)) (sym (view_at monitor_view monitors i m m_is))
-    (subst (λ y. MayBeNoted funs step (get_or (map monitor_view monitors) i (monitor_view m)).measure y.measured) (sym (view_at value_view values i v v_is))
-    (may_at funs step (map monitor_view monitors) (map value_view values) i (monitor_view m) (value_view v) may (below monitors i lt)))
+pub may_here : (funs : Functions) (marked : MarkedOccurrence) (monitors : List Monitor) (values : List MonitorValue) (i : ℕ) (m : Monitor) (v : MonitorValue) → MayAllNote funs marked (map monitor_view monitors) (map value_view values)
+    → i < length monitors → m ≡ get_or monitors i m → v ≡ get_or values i v → MayBeNoted funs marked (measure_view m.measure) (measured_view v.measured)
+may_here funs marked monitors values i m v may lt m_is v_is =
+    subst (λ x. MayBeNoted funs marked x.measure (measured_view v.measured)) (sym (view_at monitor_view monitors i m m_is))
+    (subst (λ y. MayBeNoted funs marked (get_or (map monitor_view monitors) i (monitor_view m)).measure y.measured) (sym (view_at value_view values i v v_is))
+    (may_at funs marked (map monitor_view monitors) (map value_view values) i (monitor_view m) (value_view v) may (below monitors i lt)))
 
-pub noted_more : (funs : Functions) (step : PlainStep) (monitors : List Monitor) (values : List MonitorValue) (i : ℕ) (m : Monitor) (v : MonitorValue) (before : List Measured) (new : Measured)
+pub noted_more : (funs : Functions) (marked : MarkedOccurrence) (monitors : List Monitor) (values : List MonitorValue) (i : ℕ) (m : Monitor) (v : MonitorValue) (before : List Measured) (new : Measured)
     → length monitors ≡ length values → i < length monitors → m ≡ get_or monitors i m → v ≡ get_or values i v
-    → map measured_view before ≡ all_noted funs step (take i (map monitor_view monitors)) (map value_view values)
-    → measured_view new ≡ noted funs step (measure_view m.measure) (measured_view v.measured)
-    → map measured_view (before ++ new ∷ []) ≡ all_noted funs step (take (suc i) (map monitor_view monitors)) (map value_view values)
-noted_more funs step monitors values i m v before new many lt m_is v_is so_far new_is =
+    → map measured_view before ≡ all_noted funs marked (take i (map monitor_view monitors)) (map value_view values)
+    → measured_view new ≡ noted funs marked (measure_view m.measure) (measured_view v.measured)
+    → map measured_view (before ++ new ∷ []) ≡ all_noted funs marked (take (suc i) (map monitor_view monitors)) (map value_view values)
+noted_more funs marked monitors values i m v before new many lt m_is v_is so_far new_is =
     let long : length (map monitor_view monitors) ≡ length (map value_view values) = length-map monitors monitor_view ∙ many ∙ sym (length-map values value_view) in
     map-append measured_view before (new ∷ []) ∙ ap (λ xs. xs ++ measured_view new ∷ []) so_far
-    ∙ ap (λ x. all_noted funs step (take i (map monitor_view monitors)) (map value_view values) ++ x ∷ []) (new_is ∙ ap₂ (λ x y. noted funs step x.measure y.measured) (view_at monitor_view monitors i m m_is) (view_at value_view values i v v_is))
-    ∙ sym (noted_at funs step (map monitor_view monitors) (map value_view values) i (monitor_view m) (value_view v) long (below monitors i lt))
+    ∙ ap (λ x. all_noted funs marked (take i (map monitor_view monitors)) (map value_view values) ++ x ∷ []) (new_is ∙ ap₂ (λ x y. noted funs marked x.measure y.measured) (view_at monitor_view monitors i m m_is) (view_at value_view values i v v_is))
+    ∙ sym (noted_at funs marked (map monitor_view monitors) (map value_view values) i (monitor_view m) (value_view v) long (below monitors i lt))
 
 -- ---- what is put in its place
 

@@ -12,7 +12,7 @@ use Rattle.cpn_definitions.specs.Times.{last_time}
 use Rattle.cpn_definitions.specs.Value.{PlainValue, unit, boolean, int, constant, text, tuple, bare, applied, list}
 use Rattle.cpn_monitor.specs.Monitors.{PlainMonitor, PlainMeasure, counts, sizes, values, stops_by_count, stops_by_size}
 use Rattle.cpn_monitor.specs.MonitorValues.{PlainMonitorValue, values_of}
-use Rattle.cpn_monitor.specs.Steps.{PlainStep, MeasuredRun, IsTimely}
+use Rattle.cpn_monitor.specs.MeasuredRuns.{MarkedOccurrence, MeasuredRun, IsTimely}
 
 -- an integer, or a fault
 abbrev pub MeansInteger : Outcome PlainValue → Type 0
@@ -61,20 +61,20 @@ most_told = 2 ^ 63
 
 -- An occurrence that may be told to monitors after a run: its binding is one of its transition's variables, its time is not before the
 -- run's clock, the marking after it may be seen, and fewer occurrences than the most have been told.
-pub record IsNext (n : PlainNet) (run : MeasuredRun) (step : PlainStep) : Type 0 where
-  pub bound : binds n (transition_at n step.occurrence.element.transition).vars step.occurrence.element.binding ≡ true
-  pub in_order : run.last_clock ≤ step.occurrence.time
-  pub in_time : step.occurrence.time ≤ last_time
-  pub after : MayBeSeen n step.after
-  pub few : length run.steps < most_told
+pub record IsNext (n : PlainNet) (run : MeasuredRun) (marked : MarkedOccurrence) : Type 0 where
+  pub bound : binds n (transition_at n marked.occurrence.element.transition).vars marked.occurrence.element.binding ≡ true
+  pub in_order : run.last_clock ≤ marked.occurrence.time
+  pub in_time : marked.occurrence.time ≤ last_time
+  pub after : MayBeSeen n marked.after
+  pub few : length run.occurrences < most_told
 
 -- The monitors, which fit a net, have these values of a run, and may be told its next occurrence.
-pub record MayNote (funs : Functions) (monitors : List PlainMonitor) (values : List PlainMonitorValue) (step : PlainStep) : Type 0 where
+pub record MayNote (funs : Functions) (monitors : List PlainMonitor) (values : List PlainMonitorValue) (marked : MarkedOccurrence) : Type 0 where
   pub net : PlainNet
   pub run : MeasuredRun
   pub fit : FitNet net funs monitors
   pub measured : AreMeasured funs monitors run values
-  pub next : IsNext net run step
+  pub next : IsNext net run marked
 
 -- The monitors have these values of a run, whose clock is not after this one.
 pub record MayClose (funs : Functions) (monitors : List PlainMonitor) (values : List PlainMonitorValue) (clock : ℕ) : Type 0 where

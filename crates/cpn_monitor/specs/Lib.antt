@@ -1,5 +1,5 @@
 pub mod Monitors
-pub mod Steps
+pub mod MeasuredRuns
 pub mod MonitorValues
 pub mod Stops
 pub mod Fitting

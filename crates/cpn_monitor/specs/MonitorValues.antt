@@ -9,7 +9,7 @@ use Rattle.cpn_definitions.specs.Meaning.{meaning}
 use Rattle.cpn_definitions.specs.Outcome.{Outcome, gives, faults, no_meaning}
 use Rattle.cpn_definitions.specs.Value.{PlainValue, unit, boolean, int, constant, text, tuple, bare, applied, list}
 use Rattle.cpn_monitor.specs.Monitors.{PlainMonitor, PlainMeasure, counts, sizes, values, stops_by_count, stops_by_size}
-use Rattle.cpn_monitor.specs.Steps.{PlainStep, MeasuredRun, steps_of, binding_in, TimedSize, sizes_over_time}
+use Rattle.cpn_monitor.specs.MeasuredRuns.{MarkedOccurrence, MeasuredRun, occurrences_of, binding_in, TimedSize, sizes_over_time}
 
 -- What a monitor measured: how often; the least, the greatest and the last size, with the sum over time and the time up to which it counts; how many values with their sum,
 -- the least and the greatest of them, and how many faults; how often, until it stopped; the last size.
@@ -23,8 +23,8 @@ pub data PlainMeasured : Type 0 where
 -- ---- occurrences
 
 -- Count: how often a transition occurs.
-abbrev pub count_of : ℕ → List PlainStep → ℕ
-count_of t steps = length (steps_of t steps)
+abbrev pub count_of : ℕ → List MarkedOccurrence → ℕ
+count_of t occurrences = length (occurrences_of t occurrences)
 
 -- ---- sizes
 
@@ -53,12 +53,12 @@ sum_until end (s ∷ next ∷ more) = s.size * (next.time - s.time) + sum_until 
 -- ---- values
 
 -- what an inscription means at an occurrence: under its binding, at its time
-abbrev pub meaning_at : Functions → PlainExpr → PlainStep → Outcome PlainValue
-meaning_at funs e step = meaning funs e (binding_in step) step.occurrence.time
+abbrev pub meaning_at : Functions → PlainExpr → MarkedOccurrence → Outcome PlainValue
+meaning_at funs e marked = meaning funs e (binding_in marked) marked.occurrence.time
 
 -- Outcomes: what an inscription means at each of the occurrences of a transition.
-abbrev pub outcomes_of : Functions → ℕ → PlainExpr → List PlainStep → List (Outcome PlainValue)
-outcomes_of funs t e steps = map (meaning_at funs e) (steps_of t steps)
+abbrev pub outcomes_of : Functions → ℕ → PlainExpr → List MarkedOccurrence → List (Outcome PlainValue)
+outcomes_of funs t e occurrences = map (meaning_at funs e) (occurrences_of t occurrences)
 
 -- the integer that an outcome gives, if it does
 abbrev pub integer_given : Outcome PlainValue → Option ℤ
@@ -95,10 +95,10 @@ values_among outcomes =
 
 -- What a monitor measures of a run, where its inscription may call the functions.
 abbrev pub measured : Functions → MeasuredRun → PlainMeasure → PlainMeasured
-measured funs run (counts t) = counted (count_of t run.steps)
+measured funs run (counts t) = counted (count_of t run.occurrences)
 measured funs run (sizes p) = sized (least_of (size_list p run)) (greatest_of (size_list p run)) (last_of (size_list p run)) (sum_until run.last_clock (sizes_over_time p run)) run.last_clock
-measured funs run (values t e) = values_among (outcomes_of funs t e run.steps)
-measured funs run (stops_by_count t n) = counted_to_stop (count_of t run.steps)
+measured funs run (values t e) = values_among (outcomes_of funs t e run.occurrences)
+measured funs run (stops_by_count t n) = counted_to_stop (count_of t run.occurrences)
 measured funs run (stops_by_size p bound n) = sized_to_stop (last_of (size_list p run))
 
 -- What the monitor of a name measured.

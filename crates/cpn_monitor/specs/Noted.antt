@@ -1,13 +1,14 @@
--- What one occurrence more adds to what a monitor measured, and what a later clock does. Source: own choice.
+-- What one occurrence more adds to what a monitor measured, and what a later clock does, as the code goes about it: what it comes to is `measured`.
+-- Source: own choice.
 use Rattle.std.specs.Prelude.{◌≡◌, ℕ, suc, ◌==◌, ◌&&◌, List, [], ◌∷◌, ◌+◌, ◌*◌, ◌-◌, ◌<◌, ◌≤◌, ◌^◌, length, min, max, ℤ, ◌+ℤ◌, Bool, true, false, if◌then◌else◌, Option, Some, None}
 use Rattle.std.specs.Int.{int_min, int_max}
 use Rattle.cpn_definitions.specs.Inscription.{Functions}
 use Rattle.cpn_definitions.specs.Marking.{Marking}
 use Rattle.cpn_definitions.specs.Times.{last_time}
-use Rattle.cpn_monitor.specs.Fitting.{MeansInteger}
+use Rattle.cpn_monitor.specs.Fitting.{MeansInteger, most_told}
 use Rattle.cpn_monitor.specs.Monitors.{PlainMonitor, PlainMeasure, counts, sizes, values, stops_by_count, stops_by_size}
 use Rattle.cpn_monitor.specs.Stops.{is_within}
-use Rattle.cpn_monitor.specs.Steps.{PlainStep, is_of, size_on}
+use Rattle.cpn_monitor.specs.MeasuredRuns.{MarkedOccurrence, is_of, size_on}
 use Rattle.cpn_monitor.specs.MonitorValues.{PlainMonitorValue, PlainMeasured, counted, sized, valued, counted_to_stop, sized_to_stop, integer_given, is_fault, meaning_at}
 
 -- one, where it is so
@@ -59,24 +60,20 @@ with_more more (counted_to_stop n) = counted_to_stop (n + more)
 with_more more m = m
 
 -- Noted: what a monitor has measured with one occurrence more.
-abbrev pub noted : Functions → PlainStep → PlainMeasure → PlainMeasured → PlainMeasured
-noted funs step (counts t) m = with_more (one_if (is_of t step)) m
-noted funs step (sizes p) m = with_size (size_on p step.after) (measured_until step.occurrence.time m)
-noted funs step (values t e) m = if is_of t step then with_fault (is_fault (meaning_at funs e step)) (with_integer (integer_given (meaning_at funs e step)) m) else m
-noted funs step (stops_by_count t n) m = with_more (one_if (is_of t step)) m
-noted funs step (stops_by_size p bound n) m = sized_to_stop (size_on p step.after)
-
--- the most occurrences that a monitor may have been told, so that their number has 64 bits
-abbrev pub most_counted : ℕ
-most_counted = 2 ^ 63
+abbrev pub noted : Functions → MarkedOccurrence → PlainMeasure → PlainMeasured → PlainMeasured
+noted funs marked (counts t) m = with_more (one_if (is_of t marked)) m
+noted funs marked (sizes p) m = with_size (size_on p marked.after) (measured_until marked.occurrence.time m)
+noted funs marked (values t e) m = if is_of t marked then with_fault (is_fault (meaning_at funs e marked)) (with_integer (integer_given (meaning_at funs e marked)) m) else m
+noted funs marked (stops_by_count t n) m = with_more (one_if (is_of t marked)) m
+noted funs marked (stops_by_size p bound n) m = sized_to_stop (size_on p marked.after)
 
 -- What was measured is a number of occurrences, fewer than the most; sizes, up to a time; so many values and faults, fewer than the most.
 abbrev pub IsCounted : PlainMeasured → Type 0
-IsCounted (counted n) = n < most_counted
+IsCounted (counted n) = n < most_told
 IsCounted m = ⊥
 
 abbrev pub IsCountedToStop : PlainMeasured → Type 0
-IsCountedToStop (counted_to_stop n) = n < most_counted
+IsCountedToStop (counted_to_stop n) = n < most_told
 IsCountedToStop m = ⊥
 
 abbrev pub IsSizedUpTo : ℕ → PlainMeasured → Type 0
@@ -89,7 +86,7 @@ IsUpTo time (sized least greatest last sum until) = until ≤ time
 IsUpTo time m = Unit {0}
 
 abbrev pub IsValued : PlainMeasured → Type 0
-IsValued (valued count sum least greatest faulted) = count + faulted < most_counted
+IsValued (valued count sum least greatest faulted) = count + faulted < most_told
 IsValued m = ⊥
 
 -- a place of a marking with fewer than 2^48 tokens
@@ -97,14 +94,14 @@ pub record IsSeen (p : ℕ) (m : Marking) : Type 0 where
   pub there : p < length m
   pub few : size_on p m < 2 ^ 48
 
--- A step may be noted by a monitor, after what it has measured, which is of its kind: the place at which it looks is there, or its
+-- An occurrence may be noted by a monitor, after what it has measured, which is of its kind: the place at which it looks is there, or its
 -- inscription means an integer or a fault.
-abbrev pub MayBeNoted : Functions → PlainStep → PlainMeasure → PlainMeasured → Type 0
-MayBeNoted funs step (counts t) m = IsCounted m
-MayBeNoted funs step (sizes p) m = IsSizedUpTo step.occurrence.time m × (step.occurrence.time ≤ last_time) × IsSeen p step.after
-MayBeNoted funs step (values t e) m = IsValued m × (step.occurrence.time ≤ last_time) × (is_of t step ≡ true → MeansInteger (meaning_at funs e step))
-MayBeNoted funs step (stops_by_count t n) m = IsCountedToStop m
-MayBeNoted funs step (stops_by_size p bound n) m = IsSeen p step.after
+abbrev pub MayBeNoted : Functions → MarkedOccurrence → PlainMeasure → PlainMeasured → Type 0
+MayBeNoted funs marked (counts t) m = IsCounted m
+MayBeNoted funs marked (sizes p) m = IsSizedUpTo marked.occurrence.time m × (marked.occurrence.time ≤ last_time) × IsSeen p marked.after
+MayBeNoted funs marked (values t e) m = IsValued m × (marked.occurrence.time ≤ last_time) × (is_of t marked ≡ true → MeansInteger (meaning_at funs e marked))
+MayBeNoted funs marked (stops_by_count t n) m = IsCountedToStop m
+MayBeNoted funs marked (stops_by_size p bound n) m = IsSeen p marked.after
 
 -- the place at which a monitor looks in a marking is there
 abbrev pub MayLook : Marking → PlainMeasure → Type 0
@@ -116,18 +113,18 @@ MayLook m (stops_by_size p bound n) = IsSeen p m
 
 -- ---- all monitors
 
--- each of the monitors has a value, and may note the step
-abbrev pub MayAllNote : Functions → PlainStep → List PlainMonitor → List PlainMonitorValue → Type 0
-MayAllNote funs step [] [] = Unit {0}
-MayAllNote funs step (monitor ∷ monitors) (v ∷ vs) = MayBeNoted funs step monitor.measure v.measured × MayAllNote funs step monitors vs
-MayAllNote funs step [] (v ∷ vs) = ⊥
-MayAllNote funs step (monitor ∷ monitors) [] = ⊥
+-- each of the monitors has a value, and may note the occurrence
+abbrev pub MayAllNote : Functions → MarkedOccurrence → List PlainMonitor → List PlainMonitorValue → Type 0
+MayAllNote funs marked [] [] = Unit {0}
+MayAllNote funs marked (monitor ∷ monitors) (v ∷ vs) = MayBeNoted funs marked monitor.measure v.measured × MayAllNote funs marked monitors vs
+MayAllNote funs marked [] (v ∷ vs) = ⊥
+MayAllNote funs marked (monitor ∷ monitors) [] = ⊥
 
--- what each of the monitors has measured with the step
-abbrev pub all_noted : Functions → PlainStep → List PlainMonitor → List PlainMonitorValue → List PlainMeasured
-all_noted funs step [] vs = []
-all_noted funs step (monitor ∷ monitors) [] = []
-all_noted funs step (monitor ∷ monitors) (v ∷ vs) = noted funs step monitor.measure v.measured ∷ all_noted funs step monitors vs
+-- what each of the monitors has measured with the occurrence
+abbrev pub all_noted : Functions → MarkedOccurrence → List PlainMonitor → List PlainMonitorValue → List PlainMeasured
+all_noted funs marked [] vs = []
+all_noted funs marked (monitor ∷ monitors) [] = []
+all_noted funs marked (monitor ∷ monitors) (v ∷ vs) = noted funs marked monitor.measure v.measured ∷ all_noted funs marked monitors vs
 
 -- the values with other numbers
 abbrev pub with_measured : List PlainMeasured → List PlainMonitorValue → List PlainMonitorValue
@@ -137,14 +134,14 @@ with_measured (m ∷ ms) (v ∷ vs) = record v { measured = m } ∷ with_measure
 
 -- ---- stops
 
--- whether a monitor that has measured so much, with the step, stops the run after it
-abbrev pub stops_at : PlainStep → PlainMeasure → PlainMeasured → Bool
-stops_at step (stops_by_count t n) (counted_to_stop k) = is_of t step && (k == n)
-stops_at step (stops_by_size p bound n) (sized_to_stop last) = is_within bound n last
-stops_at step measure m = false
+-- whether a monitor that has measured so much, with the occurrence, stops the run after it
+abbrev pub stops_at : MarkedOccurrence → PlainMeasure → PlainMeasured → Bool
+stops_at marked (stops_by_count t n) (counted_to_stop k) = is_of t marked && (k == n)
+stops_at marked (stops_by_size p bound n) (sized_to_stop last) = is_within bound n last
+stops_at marked measure m = false
 
--- the number of the first of the monitors, counted from one on, that stops the run after the step
-abbrev pub stop_from : ℕ → PlainStep → List PlainMonitor → List PlainMonitorValue → Option ℕ
-stop_from k step [] vs = None
-stop_from k step (monitor ∷ monitors) [] = None
-stop_from k step (monitor ∷ monitors) (v ∷ vs) = if stops_at step monitor.measure v.measured then Some k else stop_from (suc k) step monitors vs
+-- the number of the first of the monitors, numbered from k on, that stops the run after the occurrence
+abbrev pub stop_from : ℕ → MarkedOccurrence → List PlainMonitor → List PlainMonitorValue → Option ℕ
+stop_from k marked [] vs = None
+stop_from k marked (monitor ∷ monitors) [] = None
+stop_from k marked (monitor ∷ monitors) (v ∷ vs) = if stops_at marked monitor.measure v.measured then Some k else stop_from (suc k) marked monitors vs

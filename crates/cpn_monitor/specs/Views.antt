@@ -6,7 +6,7 @@ use Rattle.cpn_core.specs.declared.occurrences.Occurrence.{Occurrence}
 use Rattle.cpn_definitions.specs.Marking.{Marking}
 use Rattle.cpn_monitor.specs.Monitors.{PlainMonitor, PlainMeasure, counts, sizes, values, stops_by_count, stops_by_size, PlainBound, at_least, at_most}
 use Rattle.cpn_monitor.specs.MonitorValues.{PlainMeasured, counted, sized, valued, counted_to_stop, sized_to_stop, PlainMonitorValue}
-use Rattle.cpn_monitor.specs.Steps.{PlainStep}
+use Rattle.cpn_monitor.specs.MeasuredRuns.{MarkedOccurrence}
 use Rattle.cpn_monitor.specs.declared.monitors.Bound.{Bound}
 use Rattle.cpn_monitor.specs.declared.monitors.Bound.TheVariants as bounds
 use Rattle.cpn_monitor.specs.declared.monitors.Measure.{Measure}
@@ -49,6 +49,6 @@ value_view value = record { name = string_bytes value.name; measured = measured_
 abbrev pub values_view : Values14 → List PlainMonitorValue
 values_view all = map value_view all.values.items
 
--- the step of an occurrence, after which the marking is this one
-abbrev pub step_view : Occurrence → Marking → PlainStep
-step_view o after = record { occurrence = record { element = element_view o.element.value; time = o.time }; after = after }
+-- an occurrence with the marking after it
+abbrev pub marked_view : Occurrence → Marking → MarkedOccurrence
+marked_view o after = record { occurrence = record { element = element_view o.element.value; time = o.time }; after = after }

@@ -13,4 +13,4 @@ mod telling;
 mod values;
 
 pub use monitors::{Bound, Measure, Monitor, Monitors};
-pub use values::{Measured, MonitorValue, Values14};
+pub use values::{Integers, Measured, MonitorValue, Sizes, Values14};

@@ -7,10 +7,10 @@ ghost use Rattle.cpn_core.specs.Views.{value_view};
 ghost use Rattle.cpn_definitions.specs.Meaning.{meaning};
 ghost use Rattle.cpn_definitions.specs.Outcome.{gives};
 ghost use Rattle.cpn_definitions.specs.Times.{last_time};
-ghost use Rattle.cpn_monitor.specs.Fitting.{MeansInteger};
+ghost use Rattle.cpn_monitor.specs.Fitting.{MeansInteger, most_told};
 ghost use Rattle.cpn_monitor.specs.MonitorValues.{integer_given};
-ghost use Rattle.cpn_monitor.specs.Noted.{most_counted, one_if, with_more, measured_until, with_size, least_with, greatest_with, with_integer, with_fault, with_value, noted, IsCounted, IsCountedToStop, IsSizedUpTo, IsUpTo, IsValued, MayBeNoted};
-ghost use Rattle.cpn_monitor.specs.Views.{measure_view, measured_view, step_view};
+ghost use Rattle.cpn_monitor.specs.Noted.{one_if, with_more, measured_until, with_size, least_with, greatest_with, with_integer, with_fault, with_value, noted, IsCounted, IsCountedToStop, IsSizedUpTo, IsUpTo, IsValued, MayBeNoted};
+ghost use Rattle.cpn_monitor.specs.Views.{measure_view, measured_view, marked_view};
 
 use crate::monitors::Measure;
 use crate::values::{Integers, Measured, Sizes};
@@ -54,7 +54,7 @@ impl Sizes {
 impl Integers {
     /// One value more, or one fault more.
     pub(crate) fn with(self, value: Option<i64>) -> Integers
-        requires few { self.count + self.faulted < most_counted }
+        requires few { self.count + self.faulted < most_told }
         ensures with { measured_view (Measured.Value result) ≡ with_value value (measured_view (Measured.Value self)) }
     {
         match value {
@@ -65,7 +65,7 @@ impl Integers {
 
     // One value more.
     fn with_integer(self, value: i64) -> Integers
-        requires few { self.count < most_counted }
+        requires few { self.count < most_told }
         ensures with { measured_view (Measured.Value result) ≡ with_integer (Some value) (measured_view (Measured.Value self)) }
     {
         let least = least_with(self.least, value);
@@ -81,7 +81,7 @@ impl Integers {
 
     // One fault more.
     fn with_fault(self) -> Integers
-        requires few { self.faulted < most_counted }
+        requires few { self.faulted < most_told }
         ensures with { measured_view (Measured.Value result) ≡ with_fault true (measured_view (Measured.Value self)) }
     {
         Integers {
@@ -145,8 +145,8 @@ impl Measure {
         occurrence: &Occurrence,
         after: &Marking,
     ) -> Result<Measured, Memory>
-        requires may { MayBeNoted (funs_view funs.now) (step_view occurrence.now after.now) (measure_view self.now) (measured_view old.now) }
-        ensures noted { IfOk result (λ new. measured_view new ≡ noted (funs_view funs.now) (step_view occurrence.now after.now) (measure_view self.now) (measured_view old.now)) }
+        requires may { MayBeNoted (funs_view funs.now) (marked_view occurrence.now after.now) (measure_view self.now) (measured_view old.now) }
+        ensures noted { IfOk result (λ new. measured_view new ≡ noted (funs_view funs.now) (marked_view occurrence.now after.now) (measure_view self.now) (measured_view old.now)) }
     {
         match self {
             Measure::Count { transition } => Ok(counted(old, *transition, occurrence)),

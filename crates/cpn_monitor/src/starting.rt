@@ -5,7 +5,7 @@ ghost use Rattle.cpn_definitions.specs.Inscription.{Functions};
 ghost use Rattle.cpn_definitions.specs.Times.{last_time};
 ghost use Rattle.cpn_monitor.specs.MonitorValues.{measured};
 ghost use Rattle.cpn_monitor.specs.Noted.{MayLook};
-ghost use Rattle.cpn_monitor.specs.Steps.{begun};
+ghost use Rattle.cpn_monitor.specs.MeasuredRuns.{begun};
 ghost use Rattle.cpn_monitor.specs.Views.{measure_view, measured_view};
 
 use crate::monitors::Measure;

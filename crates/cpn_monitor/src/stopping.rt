@@ -4,7 +4,7 @@ ghost use Rattle.std.specs.Prelude.{◌≡◌};
 ghost use Rattle.cpn_definitions.specs.Marking.{Marking as PlainMarking};
 ghost use Rattle.cpn_monitor.specs.Noted.{stops_at};
 ghost use Rattle.cpn_monitor.specs.Stops.{is_within};
-ghost use Rattle.cpn_monitor.specs.Views.{bound_view, measure_view, measured_view, step_view};
+ghost use Rattle.cpn_monitor.specs.Views.{bound_view, measure_view, measured_view, marked_view};
 
 use crate::monitors::{Bound, Measure};
 use crate::values::Measured;
@@ -25,7 +25,7 @@ impl Bound {
 impl Measure {
     /// Whether the run stops after an occurrence that has been noted; what only measures stops nothing.
     pub(crate) fn stops(&self, measured: &Measured, occurrence: &Occurrence) -> bool
-        ensures stops { (after : PlainMarking) → result ≡ stops_at (step_view occurrence.now after) (measure_view self.now) (measured_view measured.now) }
+        ensures stops { (after : PlainMarking) → result ≡ stops_at (marked_view occurrence.now after) (measure_view self.now) (measured_view measured.now) }
     {
         match self {
             Measure::StopCount { transition, number } => match measured {

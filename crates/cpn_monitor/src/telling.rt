@@ -8,9 +8,9 @@ ghost use Rattle.cpn_definitions.specs.Times.{last_time};
 ghost use Rattle.cpn_monitor.specs.Fitting.{AreMeasured, MayNote, MayClose};
 ghost use Rattle.cpn_monitor.specs.MonitorValues.{PlainMeasured};
 ghost use Rattle.cpn_monitor.specs.Noted.{measured_until, IsUpTo, all_noted, with_measured, stop_from, MayLook, MayAllNote};
-ghost use Rattle.cpn_monitor.specs.Steps.{MeasuredRun, begun, with_step, at_clock};
+ghost use Rattle.cpn_monitor.specs.MeasuredRuns.{MeasuredRun, begun, with_occurrence, at_clock};
 ghost use Rattle.cpn_monitor.specs.Stops.{stop_after};
-ghost use Rattle.cpn_monitor.specs.Views.{measured_view, monitors_view, values_view, step_view};
+ghost use Rattle.cpn_monitor.specs.Views.{measured_view, monitors_view, values_view, marked_view};
 
 use crate::monitors::Monitors;
 use crate::values::{Measured, MonitorValue, Values14};
@@ -51,12 +51,12 @@ impl Monitors {
         occurrence: &Occurrence,
         after: &Marking,
     ) -> Result<Option<u64>, Memory>
-        requires may { MayNote (funs_view self.now.funs.value) (monitors_view self.now) (values_view values.old) (step_view occurrence.now after.now) }
+        requires may { MayNote (funs_view self.now.funs.value) (monitors_view self.now) (values_view values.old) (marked_view occurrence.now after.now) }
         // The values are then those of the run with this occurrence as its last one.
         ensures noted { OnOk result ((run : MeasuredRun) → AreMeasured (funs_view self.now.funs.value) (monitors_view self.now) run (values_view values.old) → run.last_clock ≤ occurrence.now.time
-            → AreMeasured (funs_view self.now.funs.value) (monitors_view self.now) (with_step (step_view occurrence.now after.now) run) (values_view values.new)) }
+            → AreMeasured (funs_view self.now.funs.value) (monitors_view self.now) (with_occurrence (marked_view occurrence.now after.now) run) (values_view values.new)) }
         ensures stop { IfOk result (λ stop. (run : MeasuredRun) → AreMeasured (funs_view self.now.funs.value) (monitors_view self.now) run (values_view values.old) → run.last_clock ≤ occurrence.now.time
-            → stop ≡ stop_after (monitors_view self.now) (run.steps ++ step_view occurrence.now after.now ∷ []) (length run.steps)) }
+            → stop ≡ stop_after (monitors_view self.now) (run.occurrences ++ marked_view occurrence.now after.now ∷ []) (length run.occurrences)) }
         ensures unchanged { OnErr result (values.new ≡ values.old) }
     {
         let noted = self.all_noted(alloc, values, occurrence, after)?;
@@ -81,8 +81,8 @@ impl Monitors {
         occurrence: &Occurrence,
         after: &Marking,
     ) -> Result<Vec<Measured>, Memory>
-        requires may { MayAllNote (funs_view self.now.funs.value) (step_view occurrence.now after.now) (monitors_view self.now) (values_view values.now) }
-        ensures noted { IfOk result (λ noted. map measured_view noted.items ≡ all_noted (funs_view self.now.funs.value) (step_view occurrence.now after.now) (monitors_view self.now) (values_view values.now)) }
+        requires may { MayAllNote (funs_view self.now.funs.value) (marked_view occurrence.now after.now) (monitors_view self.now) (values_view values.now) }
+        ensures noted { IfOk result (λ noted. map measured_view noted.items ≡ all_noted (funs_view self.now.funs.value) (marked_view occurrence.now after.now) (monitors_view self.now) (values_view values.now)) }
     {
         let mut noted = Vec::with_capacity(alloc, self.monitors.len())?;
         for number in 0..self.monitors.len() {
@@ -96,7 +96,7 @@ impl Monitors {
     // The first monitor that stops the run after an occurrence that has been noted.
     fn first_stop(&self, values: &Values14, occurrence: &Occurrence) -> Option<u64>
         requires many { length values.now.values.items ≡ length self.now.monitors.items }
-        ensures first { (after : PlainMarking) → result ≡ stop_from 0 (step_view occurrence.now after) (monitors_view self.now) (values_view values.now) }
+        ensures first { (after : PlainMarking) → result ≡ stop_from 0 (marked_view occurrence.now after) (monitors_view self.now) (values_view values.now) }
     {
         for number in 0..self.monitors.len() {
             let measured = &values.values[number].measured;

@@ -4,6 +4,8 @@ mod GroupedTokens
 mod JoinedTexts
 mod JournalsTold
 mod LineFeeds
+mod MonitorRows
+mod MonitorsApart
 mod NamesApart
 mod PrintableNets
 mod PrintableRuns
@@ -11,5 +13,6 @@ mod ReportTexts
 mod RunRows
 mod ScheduleLines
 mod ShapedText
+mod SpelledNames
 mod ValuesApart
 mod Rows

@@ -1,5 +1,5 @@
 -- No text of a line has a line feed: no name has one, no value, and no number.
-use Rattle.std.proofs.Common.{◌≡◌, ◌∙◌, refl, sym, ap, subst, true≢false, ℕ, zero, suc, ◌+◌, ◌<◌, ◌==◌, ◌||◌, Bool, true, false, not, if◌then◌else◌, nat_le, nat_lt, pos, negsuc, List, [], ◌∷◌, ◌++◌, length, map, get_or, Option, Some, None, arith}
+use Rattle.std.proofs.Common.{◌≡◌, ◌∙◌, refl, sym, ap, subst, true≢false, ℕ, zero, suc, ◌+◌, ◌<◌, ◌==◌, ◌||◌, Bool, true, false, not, if◌then◌else◌, nat_le, nat_lt, ℤ, pos, negsuc, List, [], ◌∷◌, ◌++◌, length, map, get_or, Option, Some, None, arith}
 use Rattle.std.specs.Prelude.{codes}
 use Rattle.std.specs.List.{list_all, flat_map, filter}
 use Rattle.std.specs.Fmt.{decimal}
@@ -18,13 +18,17 @@ use Rattle.cpn_definitions.specs.Outcome.{Fault, overflow, divide_by_zero, empty
 use Rattle.cpn_definitions.specs.Sound.{may_hold}
 use Rattle.cpn_runs.specs.Run.{PlainFinished, Outlook}
 use Rattle.cpn_definitions.specs.Legal.{PlainOccurrence}
-use Rattle.cpn_runs.specs.State.{PlainSetup, PlainEvent, claim_made, claim_completed, clock_moved, cut_made, PlainEnd, dead, steps_made, until_passed, fault_end}
+use Rattle.cpn_monitor.specs.MonitorValues.{PlainMeasured, counted, sized, valued, counted_to_stop, sized_to_stop, PlainMonitorValue}
+use Rattle.cpn_runs.specs.State.{PlainSetup, PlainEvent, claim_made, claim_completed, clock_moved, cut_made, PlainEnd, dead, steps_made, until_passed, fault_end, stopped_by}
 use Rattle.cpn_tmset.specs.Listed.{Group, groups}
-use Rattle.cpn_report.specs.Lines.{Line, report_line, run_line, occurrence_line, schedule_line, end_line, occurrences_line, clock_line, ready_line, next_line, total_line, pair_text, binding_text, element_text, time_text, event_text, fault_text, group_text, tokens_text, opening_text, occurrence_text, schedule_text, end_text, occurrences_text, clock_text, place_text, ready_text, next_text, total_text, line_text}
+use Rattle.cpn_report.specs.Lines.{Line, report_line, run_line, occurrence_line, schedule_line, end_line, occurrences_line, clock_line, ready_line, next_line, monitor_line, total_line, pair_text, binding_text, element_text, time_text, event_text, fault_text, start_text, group_text, tokens_text, opening_text, occurrence_text, schedule_text, end_text, occurrences_text, clock_text, place_text, ready_text, next_text, total_text, line_text}
+use Rattle.cpn_report.specs.MonitorText.{value_at, bound_text, measured_text, monitor_text}
 use Rattle.cpn_report.specs.Printable.{is_bound, is_binding_element, is_occurrence, IsCause, IsPrintableNet, IsPrintable}
 use Rattle.cpn_report.specs.Report.{trace_lines, place_lines_from, place_lines, last_lines, whole_run, is_told, run_lines, report_lines}
-use Rattle.cpn_report.specs.Told.{is_one_line, are_lines, LinesEndOnce}
-use Rattle.cpn_report.specs.ValueText.{joined, byte_text, constant_name, constructor_name, argument_text, shaped_text, tuple_texts, list_texts, value_text}
+use Rattle.cpn_report.specs.Told.{is_one_line, are_lines, HaveSpelledNames, LinesEndOnce}
+use Rattle.cpn_report.specs.ValueText.{joined, byte_text, int_text, constant_name, constructor_name, argument_text, shaped_text, tuple_texts, list_texts, value_text}
+use Rattle.cpn_report.specs.declared.starts.Start.{Start}
+use Rattle.cpn_report.specs.declared.starts.Start.TheVariants as starts
 use Rattle.cpn_report.proofs.BytesApart.{all_weaker, word_bytes, path_bytes, decimal_bytes}
 use Rattle.cpn_report.proofs.GroupedTokens.{groups_pass}
 use Rattle.cpn_report.proofs.NamesApart.{passes_at, counted_at, constant_is_word, constructor_is_word, transition_is_path}
@@ -242,12 +246,18 @@ time_line : (time : Option ℕ) → is_one_line (time_text time) ≡ true
 time_line None = refl
 time_line (Some time) = number_line time
 
-run_opens : (number clock : ℕ) (outlook : Outlook) → is_one_line (opening_text number clock outlook) ≡ true
+start_line : (start : Start) → is_one_line (start_text start) ≡ true
+start_line starts.Initial = refl
+start_line starts.Here = refl
+
+run_opens : (number : ℕ) (start : Start) (clock : ℕ) (outlook : Outlook) → is_one_line (opening_text number start clock outlook) ≡ true
 unfolding opening_text
-run_opens number clock outlook =
-    let clocked = decimal number ++ codes " initial " ++ decimal clock in
+run_opens number start clock outlook =
+    let started = decimal number ++ codes " " ++ start_text start in
+    let clocked = started ++ codes " " ++ decimal clock in
     let counted = clocked ++ codes " ready " ++ decimal outlook.ready_count in
-    let clocked_line = three (decimal number) (codes " initial ") (decimal clock) (number_line number) refl (number_line clock) in
+    let started_line = three (decimal number) (codes " ") (start_text start) (number_line number) refl (start_line start) in
+    let clocked_line = three started (codes " ") (decimal clock) started_line refl (number_line clock) in
     three counted (codes " next ") (time_text outlook.next) (three clocked (codes " ready ") (decimal outlook.ready_count) clocked_line refl (number_line outlook.ready_count)) refl (time_line outlook.next)
 
 event_line : (event : PlainEvent) → is_one_line (event_text event) ≡ true
@@ -294,6 +304,45 @@ in_all_line : (count : ℕ) → is_one_line (total_text count) ≡ true
 unfolding total_text
 in_all_line count = number_line count
 
+-- ---- lines of monitors
+
+integer_line : (z : ℤ) → is_one_line (int_text z) ≡ true
+integer_line (pos k) = number_line k
+integer_line (negsuc k) = number_line (suc k)
+
+bound_line : (bound : Option ℤ) → is_one_line (bound_text bound) ≡ true
+bound_line None = refl
+bound_line (Some z) = integer_line z
+
+measured_line : (m : PlainMeasured) → is_one_line (measured_text m) ≡ true
+measured_line (counted n) = number_line n
+measured_line (sized least greatest last sum until) =
+    let two = decimal least ++ codes " " ++ decimal greatest in
+    let two_line = three (decimal least) (codes " ") (decimal greatest) (number_line least) refl (number_line greatest) in
+    three (two ++ codes " " ++ decimal last) (codes " ") (decimal sum) (three two (codes " ") (decimal last) two_line refl (number_line last)) refl (number_line sum)
+measured_line (valued count sum least greatest faulted) =
+    let two = decimal count ++ codes " " ++ int_text sum in
+    let two_line = three (decimal count) (codes " ") (int_text sum) (number_line count) refl (integer_line sum) in
+    let first = two ++ codes " " ++ bound_text least in
+    let first_line = three two (codes " ") (bound_text least) two_line refl (bound_line least) in
+    three (first ++ codes " " ++ bound_text greatest) (codes " ") (decimal faulted) (three first (codes " ") (bound_text greatest) first_line refl (bound_line greatest)) refl (number_line faulted)
+measured_line (counted_to_stop n) = number_line n
+measured_line (sized_to_stop last) = number_line last
+
+monitor_is_line : (value : PlainMonitorValue) → is_path value.name ≡ true → is_one_line (monitor_text value) ≡ true
+unfolding monitor_text
+monitor_is_line value spelled = three (measured_text value.measured) (codes " ") value.name (measured_line value.measured) refl (path_line value.name spelled)
+
+monitors_lines : (n : PlainNet) (values : List PlainMonitorValue) → HaveSpelledNames values → are_lines n (map monitor_line values) ≡ true
+monitors_lines n [] spelled = refl
+monitors_lines n (value ∷ values) spelled =
+    let parts = and_parts (is_path value.name) (list_all (λ (other : PlainMonitorValue). is_path other.name) values) spelled in
+    and_from (is_one_line (monitor_text value)) (are_lines n (map monitor_line values)) (monitor_is_line value parts.0) (monitors_lines n values parts.1)
+
+-- the name of a monitor that has a value
+stop_is_line : (values : List PlainMonitorValue) (k : ℕ) → HaveSpelledNames values → k < length values → is_one_line (value_at values k).name ≡ true
+stop_is_line values k spelled known = path_line (value_at values k).name (passes_at (λ (value : PlainMonitorValue). is_path value.name) values k (record { name = []; measured = counted 0 }) spelled known)
+
 -- ---- lines of elements
 
 module _ (n : PlainNet) (spelled : HasWellSpelledNames n) (net : IsPrintableNet n) where
@@ -308,12 +357,13 @@ module _ (n : PlainNet) (spelled : HasWellSpelledNames n) (net : IsPrintableNet 
       let parts = and_parts (is_occurrence n o) (list_all (is_occurrence n) os) all in
       and_from (is_one_line (occurrence_text n o)) (are_lines n (map occurrence_line os)) (occurs_line o parts.0) (occurrences_lines os parts.1)
 
-  cause_line : (cause : PlainEnd) → IsCause n cause → is_one_line (end_text n cause) ≡ true
+  cause_line : (values : List PlainMonitorValue) (cause : PlainEnd) → HaveSpelledNames values → IsCause n values cause → is_one_line (end_text n values cause) ≡ true
   unfolding end_text
-  cause_line dead is = refl
-  cause_line steps_made is = refl
-  cause_line (until_passed time) is = number_line time
-  cause_line (fault_end e fault) is = three (fault_text fault) (codes " ") (element_text n e) (fault_line fault) refl (element_line n spelled net e is)
+  cause_line values dead names is = refl
+  cause_line values steps_made names is = refl
+  cause_line values (until_passed time) names is = number_line time
+  cause_line values (stopped_by monitor) names is = stop_is_line values monitor names is
+  cause_line values (fault_end e fault) names is = three (fault_text fault) (codes " ") (element_text n e) (fault_line fault) refl (element_line n spelled net e is)
 
 -- ---- the lines of a report
 
@@ -333,7 +383,7 @@ joined_lines n lines others first second = list_all-append (λ line. is_one_line
 one_more : (n : PlainNet) (line : Line) (lines : List Line) → is_one_line (line_text n line) ≡ true → are_lines n lines ≡ true → are_lines n (line ∷ lines) ≡ true
 one_more n line lines first rest = and_from (is_one_line (line_text n line)) (are_lines n lines) first rest
 
-module _ (setup : PlainSetup) (run : PlainFinished) (spelled : HasWellSpelledNames setup.net) (printable : IsPrintable setup.net run) where
+module _ (setup : PlainSetup) (run : PlainFinished) (spelled : HasWellSpelledNames setup.net) (names : HaveSpelledNames run.values) (printable : IsPrintable setup.net run) where
   placed_lines : are_lines setup.net (place_lines setup.net.places run.marking) ≡ true
   placed_lines = places_lines setup.net spelled 0 setup.net.places run.marking spelled.places printable.net.named.places_named
       (λ i lt. at_zero i (held_at setup.net.places run.marking i nothing printable.marking lt))
@@ -341,27 +391,27 @@ module _ (setup : PlainSetup) (run : PlainFinished) (spelled : HasWellSpelledNam
       at_zero : (i : ℕ) → list_all (may_hold (get_or setup.net.places i nothing).colour) (tokens_at run.marking i) ≡ true → list_all (may_hold (get_or setup.net.places i nothing).colour) (tokens_at run.marking (0 + i)) ≡ true
       at_zero i is = let here : i ≡ 0 + i = omega arith in subst (λ k. list_all (may_hold (get_or setup.net.places i nothing).colour) (tokens_at run.marking k) ≡ true) here is
 
-  closing_lines : are_lines setup.net (ready_line run.closing.ready_count ∷ next_line run.closing.next ∷ []) ≡ true
-  closing_lines = one_more setup.net (ready_line run.closing.ready_count) (next_line run.closing.next ∷ []) (ready_count_line run.closing.ready_count)
-      (one_more setup.net (next_line run.closing.next) [] (next_time_line run.closing.next) refl)
+  closing_lines : are_lines setup.net (ready_line run.closing.ready_count ∷ next_line run.closing.next ∷ map monitor_line run.values) ≡ true
+  closing_lines = one_more setup.net (ready_line run.closing.ready_count) (next_line run.closing.next ∷ map monitor_line run.values) (ready_count_line run.closing.ready_count)
+      (one_more setup.net (next_line run.closing.next) (map monitor_line run.values) (next_time_line run.closing.next) (monitors_lines setup.net run.values names))
 
-  whole_lines : (number : ℕ) → are_lines setup.net (whole_run setup number run) ≡ true
+  whole_lines : (number : ℕ) (start : Start) → are_lines setup.net (whole_run setup number start run) ≡ true
   unfolding whole_run
-  whole_lines number =
+  whole_lines number start =
       let n = setup.net in
-      let last = ready_line run.closing.ready_count ∷ next_line run.closing.next ∷ [] in
+      let last = ready_line run.closing.ready_count ∷ next_line run.closing.next ∷ map monitor_line run.values in
       let rest = place_lines n.places run.marking ++ last in
-      one_more n (run_line number setup.clock run.opening) (trace_lines run ++ last_lines setup run) (run_opens number setup.clock run.opening)
+      one_more n (run_line number start setup.clock run.opening) (trace_lines run ++ last_lines setup run) (run_opens number start setup.clock run.opening)
       (joined_lines n (trace_lines run) (last_lines setup run)
       (joined_lines n (map occurrence_line run.occurrences) (schedule_line run.journal ∷ []) (occurrences_lines n spelled printable.net run.occurrences printable.occurrences) (one_more n (schedule_line run.journal) [] (journal_line run.journal) refl))
-      (one_more n (end_line run.cause) (occurrences_line (length run.occurrences) ∷ clock_line run.clock ∷ rest) (cause_line n spelled printable.net run.cause printable.cause)
+      (one_more n (end_line run.values run.cause) (occurrences_line (length run.occurrences) ∷ clock_line run.clock ∷ rest) (cause_line n spelled printable.net run.values run.cause names printable.cause)
       (one_more n (occurrences_line (length run.occurrences)) (clock_line run.clock ∷ rest) (counted_line (length run.occurrences))
       (one_more n (clock_line run.clock) rest (last_clock_line run.clock) (joined_lines n (place_lines n.places run.marking) last placed_lines closing_lines)))))
 
 pub lines_end_once : LinesEndOnce
 unfolding report_lines run_lines
-lines_end_once trace setup run spelled printable =
-    let lines = filter (is_told trace) (whole_run setup 0 run) in
+lines_end_once trace setup run spelled names printable =
+    let lines = filter (is_told trace) (whole_run setup 0 starts.Initial run) in
     let total = total_line (length run.occurrences) ∷ [] in
     one_more setup.net report_line (lines ++ total) refl
-    (joined_lines setup.net lines total (kept_lines setup.net (is_told trace) (whole_run setup 0 run) (whole_lines setup run spelled printable 0)) (one_more setup.net (total_line (length run.occurrences)) [] (in_all_line (length run.occurrences)) refl))
+    (joined_lines setup.net lines total (kept_lines setup.net (is_told trace) (whole_run setup 0 starts.Initial run) (whole_lines setup run spelled names printable 0 starts.Initial)) (one_more setup.net (total_line (length run.occurrences)) [] (in_all_line (length run.occurrences)) refl))

@@ -1,16 +1,20 @@
 -- The text of a report is that of its parts, one after another: what is not told are the lines of the trace, and no others.
-use Rattle.std.proofs.Common.{◌≡◌, ◌∙◌, refl, sym, ap, ℕ, ◌+◌, List, [], ◌∷◌, ◌++◌, length, map, append_assoc, append-nil}
+use Rattle.std.proofs.Common.{◌≡◌, ◌∙◌, refl, sym, ap, ap₂, ℕ, ◌+◌, List, [], ◌∷◌, ◌++◌, length, map, append_assoc, append-nil}
 use Rattle.std.specs.Prelude.{codes}
-use Rattle.std.specs.List.{filter}
+use Rattle.std.specs.List.{filter, flat_map}
 use Rattle.std.proofs.lemmas.Grind.{flat_map-append}
 use Rattle.std.proofs.lemmas.List.Elements.{filter-append}
 use Rattle.cpn_definitions.specs.Marking.{Marking, tokens_at}
 use Rattle.cpn_definitions.specs.Net.{Coloured, PlainNet}
 use Rattle.cpn_definitions.specs.Legal.{PlainOccurrence}
+use Rattle.cpn_monitor.specs.MonitorValues.{PlainMonitorValue}
 use Rattle.cpn_runs.specs.State.{PlainSetup}
 use Rattle.cpn_runs.specs.Run.{PlainFinished}
-use Rattle.cpn_report.specs.Lines.{Line, run_line, occurrence_line, schedule_line, end_line, occurrences_line, clock_line, place_line, ready_line, next_line, total_line, opening_text, schedule_text, end_text, occurrences_text, clock_text, ready_text, next_text, total_text, line_text, ended, lines_text}
+use Rattle.cpn_report.specs.Lines.{Line, run_line, occurrence_line, schedule_line, end_line, occurrences_line, clock_line, place_line, ready_line, next_line, monitor_line, total_line, opening_text, schedule_text, end_text, occurrences_text, clock_text, ready_text, next_text, total_text, line_text, ended, lines_text}
+use Rattle.cpn_report.specs.MonitorText.{monitor_text}
 use Rattle.cpn_report.specs.Report.{trace_lines, place_lines_from, place_lines, last_lines, whole_run, is_told, run_lines, report_lines, run_text, report_text}
+use Rattle.cpn_report.specs.declared.starts.Start.{Start}
+use Rattle.cpn_report.specs.declared.starts.Start.TheVariants as starts
 use Rattle.cpn_report.specs.declared.traces.Trace.{Trace}
 use Rattle.cpn_report.specs.declared.traces.Trace.TheVariants as traces
 
@@ -31,20 +35,28 @@ places_told : (p : ℕ) (places : List Coloured) (m : Marking) → filter (is_to
 places_told p [] m = refl
 places_told p (place ∷ places) m = ap (λ rest. place_line place (tokens_at m p) ∷ rest) (places_told (p + 1) places m)
 
+-- each monitor is
+monitors_told : (values : List PlainMonitorValue) → filter (is_told traces.Off) (map monitor_line values) ≡ map monitor_line values
+monitors_told [] = refl
+monitors_told (value ∷ values) = ap (λ rest. monitor_line value ∷ rest) (monitors_told values)
+
 -- each line after the trace is
 last_told : (setup : PlainSetup) (run : PlainFinished) → filter (is_told traces.Off) (last_lines setup run) ≡ last_lines setup run
 last_told setup run =
-    let closing = ready_line run.closing.ready_count ∷ next_line run.closing.next ∷ [] in
-    ap (λ lines. end_line run.cause ∷ occurrences_line (length run.occurrences) ∷ clock_line run.clock ∷ lines)
-    (filter-append (is_told traces.Off) (place_lines setup.net.places run.marking) closing ∙ ap (λ lines. lines ++ closing) (places_told 0 setup.net.places run.marking))
+    let closing = ready_line run.closing.ready_count ∷ next_line run.closing.next ∷ map monitor_line run.values in
+    let monitors = ap (λ lines. ready_line run.closing.ready_count ∷ next_line run.closing.next ∷ lines) (monitors_told run.values) in
+    ap (λ lines. end_line run.values run.cause ∷ occurrences_line (length run.occurrences) ∷ clock_line run.clock ∷ lines)
+    (filter-append (is_told traces.Off) (place_lines setup.net.places run.marking) closing ∙ ap₂ (λ lines others. lines ++ others) (places_told 0 setup.net.places run.marking) monitors)
 
 -- a run is told by its opening, what is told of its trace, and what comes after it
-run_told : (trace : Trace) (setup : PlainSetup) (number : ℕ) (run : PlainFinished) → run_lines trace setup number run ≡ run_line number setup.clock run.opening ∷ filter (is_told trace) (trace_lines run) ++ last_lines setup run
+pub run_told
+    : (trace : Trace) (setup : PlainSetup) (number : ℕ) (start : Start) (run : PlainFinished)
+    → run_lines trace setup number start run ≡ run_line number start setup.clock run.opening ∷ filter (is_told trace) (trace_lines run) ++ last_lines setup run
 unfolding whole_run run_lines
-run_told traces.On setup number run =
-    all_told (whole_run setup number run) ∙ ap (λ lines. run_line number setup.clock run.opening ∷ lines ++ last_lines setup run) (sym (all_told (trace_lines run)))
-run_told traces.Off setup number run =
-    ap (λ lines. run_line number setup.clock run.opening ∷ lines)
+run_told traces.On setup number start run =
+    all_told (whole_run setup number start run) ∙ ap (λ lines. run_line number start setup.clock run.opening ∷ lines ++ last_lines setup run) (sym (all_told (trace_lines run)))
+run_told traces.Off setup number start run =
+    ap (λ lines. run_line number start setup.clock run.opening ∷ lines)
     (filter-append (is_told traces.Off) (trace_lines run) (last_lines setup run) ∙ ap (λ lines. filter (is_told traces.Off) (trace_lines run) ++ lines) (last_told setup run))
 
 -- ---- their texts
@@ -63,32 +75,40 @@ trace_off before n run =
     let none = filter-append (is_told traces.Off) (map occurrence_line run.occurrences) (schedule_line run.journal ∷ []) ∙ ap (λ lines. lines ++ []) (none_told run.occurrences) in
     ap (λ lines. before ++ lines_text n lines) none ∙ append-nil before
 
+-- the lines of monitors
+monitors_text : (n : PlainNet) (values : List PlainMonitorValue) → lines_text n (map monitor_line values) ≡ flat_map (λ value. ended (monitor_text value)) values
+monitors_text n [] = refl
+monitors_text n (value ∷ values) = ap (λ text. ended (monitor_text value) ++ text) (monitors_text n values)
+
 -- A run, written after a text: its opening, its trace, and what comes after that.
-pub run_parts : (before : List ℕ) (trace : Trace) (setup : PlainSetup) (number : ℕ) (run : PlainFinished) → before ++ run_text trace setup number run
+pub run_parts : (before : List ℕ) (trace : Trace) (setup : PlainSetup) (number : ℕ) (start : Start) (run : PlainFinished) → before ++ run_text trace setup number start run
     ≡ before
-    ++ ended (opening_text number setup.clock run.opening)
+    ++ ended (opening_text number start setup.clock run.opening)
     ++ lines_text setup.net (filter (is_told trace) (trace_lines run))
-    ++ ended (end_text setup.net run.cause)
+    ++ ended (end_text setup.net run.values run.cause)
     ++ ended (occurrences_text (length run.occurrences))
     ++ ended (clock_text run.clock)
     ++ lines_text setup.net (place_lines setup.net.places run.marking)
     ++ ended (ready_text run.closing.ready_count)
     ++ ended (next_text run.closing.next)
+    ++ flat_map (λ value. ended (monitor_text value)) run.values
 unfolding run_text
-run_parts before trace setup number run =
+run_parts before trace setup number start run =
     let n = setup.net in
     let told = filter (is_told trace) (trace_lines run) in
     let places = place_lines setup.net.places run.marking in
-    let closing = ready_line run.closing.ready_count ∷ next_line run.closing.next ∷ [] in
-    let text = ap (lines_text n) (run_told trace setup number run)
-    ∙ ap (λ rest. ended (opening_text number setup.clock run.opening) ++ rest) (lines_joined n told (last_lines setup run))
-    ∙ ap (λ rest. ended (opening_text number setup.clock run.opening) ++ (lines_text n told ++ (ended (end_text n run.cause) ++ (ended (occurrences_text (length run.occurrences)) ++ (ended (clock_text run.clock) ++ rest))))) (lines_joined n places closing) in
-    ap (λ rest. before ++ rest) text ∙ simp (append_assoc, append-nil)
+    let closing = ready_line run.closing.ready_count ∷ next_line run.closing.next ∷ map monitor_line run.values in
+    let closed = λ (text : List ℕ). ended (ready_text run.closing.ready_count) ++ (ended (next_text run.closing.next) ++ text) in
+    let opened = λ (text : List ℕ). ended (opening_text number start setup.clock run.opening) ++ (lines_text n told ++ (ended (end_text n run.values run.cause) ++ (ended (occurrences_text (length run.occurrences)) ++ (ended (clock_text run.clock) ++ text)))) in
+    let text = ap (lines_text n) (run_told trace setup number start run)
+    ∙ ap (λ rest. ended (opening_text number start setup.clock run.opening) ++ rest) (lines_joined n told (last_lines setup run))
+    ∙ ap opened (lines_joined n places closing ∙ ap (λ rest. lines_text n places ++ closed rest) (monitors_text n run.values)) in
+    ap (λ rest. before ++ rest) text ∙ simp append_assoc
 
 -- A report, written after a text: its first line, its run, and the total.
-pub report_parts : (before : List ℕ) (trace : Trace) (setup : PlainSetup) (run : PlainFinished) → before ++ report_text trace setup run ≡ before ++ ended (codes "report 1") ++ run_text trace setup 0 run ++ ended (total_text (length run.occurrences))
+pub report_parts : (before : List ℕ) (trace : Trace) (setup : PlainSetup) (run : PlainFinished) → before ++ report_text trace setup run ≡ before ++ ended (codes "report 1") ++ run_text trace setup 0 starts.Initial run ++ ended (total_text (length run.occurrences))
 unfolding report_text report_lines run_text
 report_parts before trace setup run =
-    let lines = run_lines trace setup 0 run in
+    let lines = run_lines trace setup 0 starts.Initial run in
     let text = ap (λ rest. ended (codes "report 1") ++ rest) (lines_joined setup.net lines (total_line (length run.occurrences) ∷ [])) in
     ap (λ rest. before ++ rest) text ∙ simp (append_assoc, append-nil)

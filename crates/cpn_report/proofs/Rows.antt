@@ -11,6 +11,7 @@ use Rattle.cpn_definitions.specs.Outcome.{overflow, divide_by_zero, empty_list, 
 use Rattle.cpn_definitions.specs.Occurrence.{PlainElement}
 use Rattle.cpn_runs.specs.State.{claim_made, claim_completed, dead, steps_made, until_passed, fault_end}
 use Rattle.cpn_report.specs.Lines.{binding_text, element_text, fault_text, opening_text, occurrence_text, schedule_text, end_text, occurrences_text, clock_text, place_text, ready_text, next_text, total_text}
+use Rattle.cpn_report.specs.declared.starts.Start.TheVariants as starts
 
 -- ---- a net with two variables and a transition, and an element of it
 
@@ -32,11 +33,11 @@ element = record { transition = 0; binding = (0, int (pos 8)) ∷ (1, int (negsu
 
 -- ---- the lines of a run
 
-run_with_times : opening_text 1 4 (record { ready_count = 2; next = Some 5 }) ≡ codes "run 1 initial 4 ready 2 next 5"
+run_with_times : opening_text 1 starts.Initial 4 (record { ready_count = 2; next = Some 5 }) ≡ codes "run 1 initial 4 ready 2 next 5"
 unfolding opening_text
 run_with_times = rw (decimal_digit 1 (omega arith), decimal_digit 4 (omega arith), decimal_digit 2 (omega arith), decimal_digit 5 (omega arith)) refl
 
-run_without_next : opening_text 0 4 (record { ready_count = 0; next = None }) ≡ codes "run 0 initial 4 ready 0 next none"
+run_without_next : opening_text 0 starts.Here 4 (record { ready_count = 0; next = None }) ≡ codes "run 0 here 4 ready 0 next none"
 unfolding opening_text
 run_without_next = rw (decimal_digit 0 (omega arith), decimal_digit 4 (omega arith)) refl
 
@@ -94,19 +95,19 @@ an_empty_place = refl
 
 -- ---- the causes of an end
 
-end_dead : end_text small_net dead ≡ codes "end dead"
+end_dead : end_text small_net [] dead ≡ codes "end dead"
 unfolding end_text
 end_dead = refl
 
-end_by_steps : end_text small_net steps_made ≡ codes "end steps"
+end_by_steps : end_text small_net [] steps_made ≡ codes "end steps"
 unfolding end_text
 end_by_steps = refl
 
-end_until : end_text small_net (until_passed 8) ≡ codes "end until 8"
+end_until : end_text small_net [] (until_passed 8) ≡ codes "end until 8"
 unfolding end_text
 end_until = rw (decimal_digit 8 (omega arith)) refl
 
-end_by_a_fault : end_text small_net (fault_end element not_in_colour) ≡ codes "end fault 5 not_in_colour Top/t {x=8, y=~6}"
+end_by_a_fault : end_text small_net [] (fault_end element not_in_colour) ≡ codes "end fault 5 not_in_colour Top/t {x=8, y=~6}"
 unfolding end_text element_text binding_text
 end_by_a_fault = rw (decimal_digit 8 (omega arith), decimal_digit 6 (omega arith)) refl
 

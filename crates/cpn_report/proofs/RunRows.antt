@@ -1,5 +1,5 @@
--- Worked runs, whole: the report of one that makes one occurrence, with its trace and without; and a run that has another number in
--- each of its places, with a place that its marking has no entry for. And what the laws of texts ask for, of a small net.
+-- Worked runs, whole: the report of one that makes one occurrence, with its trace and without; a run that has another number in
+-- each of its places, with a place that its marking has no entry for; and one that a monitor stops. And what the laws of texts ask for, of a small net.
 use Rattle.std.proofs.Common.{◌≡◌, pos, true, false, [], ◌∷◌, Some, None, refl, arith}
 use Rattle.std.proofs.lemmas.Fmt.{decimal_digit}
 use Rattle.std.specs.Prelude.{codes}
@@ -11,11 +11,14 @@ use Rattle.cpn_definitions.specs.Colour.{PlainColour, int_shape}
 use Rattle.cpn_definitions.specs.Marking.{PlainToken, token_at}
 use Rattle.cpn_definitions.specs.Net.{PlainNet}
 use Rattle.cpn_definitions.specs.Occurrence.{PlainElement}
+use Rattle.cpn_monitor.specs.MonitorValues.{counted, counted_to_stop}
 use Rattle.cpn_runs.specs.Run.{PlainFinished}
-use Rattle.cpn_runs.specs.State.{PlainSetup, claim_made, claim_completed, dead, steps_made}
+use Rattle.cpn_runs.specs.State.{PlainSetup, claim_made, claim_completed, dead, steps_made, stopped_by}
 use Rattle.cpn_report.specs.Lines.{binding_text, element_text, opening_text, occurrence_text, schedule_text, end_text, occurrences_text, clock_text, place_text, ready_text, next_text, total_text}
 use Rattle.cpn_report.specs.Report.{whole_run, run_lines, report_lines, run_text, report_text}
-use Rattle.cpn_report.specs.Told.{is_one_line}
+use Rattle.cpn_report.specs.MonitorText.{monitor_text}
+use Rattle.cpn_report.specs.Told.{HaveShortNumbers, HaveSpelledNames, is_one_line}
+use Rattle.cpn_report.specs.declared.starts.Start.TheVariants as starts
 use Rattle.cpn_report.specs.declared.traces.Trace.TheVariants as traces
 
 -- ---- a transition that takes a token from A and gives it back
@@ -40,7 +43,7 @@ abbrev x_is_seven : PlainElement
 x_is_seven = record { transition = 0; binding = (0, int (pos 7)) ∷ [] }
 
 abbrev one_step : PlainSetup
-one_step = record { net = loop; start = (seven ∷ []) ∷ []; clock = 0; limits = record { steps = 1; until = 9; seats = 1 }; seed = 0 }
+one_step = record { net = loop; start = (seven ∷ []) ∷ []; clock = 0; limits = record { steps = 1; until = 9; seats = 1 }; functions = []; monitors = []; seed = 0 }
 
 abbrev one_occurrence : PlainFinished
 one_occurrence = record {
@@ -51,6 +54,7 @@ one_occurrence = record {
   clock = 0;
   cause = steps_made;
   closing = record { ready_count = 1; next = Some 0 };
+  values = [];
 }
 
 with_its_trace : report_text traces.On one_step one_occurrence ≡ codes "report 1\nrun 0 initial 0 ready 1 next 0\nocc 0 @0 Top/t {x=7}\nschedule c0 d0\nend steps\noccurrences 1\nclock 0\nplace Top/A 1`7\nready 1\nnext 0\ntotal 1\n"
@@ -69,6 +73,8 @@ two_places = record {
   start = [];
   clock = 1;
   limits = record { steps = 1; until = 9; seats = 1 };
+  functions = [];
+  monitors = [];
   seed = 0;
 }
 
@@ -81,14 +87,32 @@ all_differ = record {
   clock = 7;
   cause = dead;
   closing = record { ready_count = 8; next = Some 9 };
+  values = [];
 }
 
-each_at_its_place : run_text traces.On two_places 2 all_differ ≡ codes "run 2 initial 1 ready 3 next 4\nocc 5 @6 Top/t {x=7}\nschedule c5 d6\nend dead\noccurrences 1\nclock 7\nplace Top/A 1`8\nplace Top/B empty\nready 8\nnext 9\n"
+each_at_its_place : run_text traces.On two_places 2 starts.Initial all_differ ≡ codes "run 2 initial 1 ready 3 next 4\nocc 5 @6 Top/t {x=7}\nschedule c5 d6\nend dead\noccurrences 1\nclock 7\nplace Top/A 1`8\nplace Top/B empty\nready 8\nnext 9\n"
 unfolding run_text run_lines whole_run opening_text occurrence_text element_text binding_text schedule_text end_text occurrences_text clock_text place_text ready_text next_text
 each_at_its_place =
     rw (decimal_digit 1 (omega arith), decimal_digit 2 (omega arith), decimal_digit 3 (omega arith), decimal_digit 4 (omega arith), decimal_digit 5 (omega arith), decimal_digit 6 (omega arith), decimal_digit 7 (omega arith), decimal_digit 8 (omega arith), decimal_digit 9 (omega arith)) refl
 
--- ---- what the laws of texts ask of a net's names and integers holds of it
+-- ---- a run that its second monitor stops, with the lines of both
+
+abbrev stopped_run : PlainFinished
+stopped_run = record one_occurrence {
+  cause = stopped_by 1;
+  values = record { name = codes "fired"; measured = counted 1 } ∷ record { name = codes "once"; measured = counted_to_stop 1 } ∷ [];
+}
+
+with_its_monitors : report_text traces.Off one_step stopped_run ≡ codes "report 1\nrun 0 initial 0 ready 1 next 0\nend stop once\noccurrences 1\nclock 0\nplace Top/A 1`7\nready 1\nnext 0\nmonitor count 1 fired\nmonitor stop_count 1 once\ntotal 1\n"
+unfolding report_text report_lines run_lines whole_run opening_text end_text occurrences_text clock_text place_text ready_text next_text monitor_text total_text
+with_its_monitors = rw (decimal_digit 0 (omega arith), decimal_digit 1 (omega arith), decimal_digit 7 (omega arith)) refl
+
+-- another run goes on from the marking where the one before it ended
+from_here : run_text traces.Off one_step 1 starts.Here stopped_run ≡ codes "run 1 here 0 ready 1 next 0\nend stop once\noccurrences 1\nclock 0\nplace Top/A 1`7\nready 1\nnext 0\nmonitor count 1 fired\nmonitor stop_count 1 once\n"
+unfolding run_text run_lines whole_run opening_text end_text occurrences_text clock_text place_text ready_text next_text monitor_text
+from_here = rw (decimal_digit 0 (omega arith), decimal_digit 1 (omega arith), decimal_digit 7 (omega arith)) refl
+
+-- ---- what the laws of texts ask of a net's names and integers holds of it, and of its monitors
 
 loop_names : HasDistinctNames loop
 unfolding IsDistinct
@@ -99,6 +123,12 @@ loop_spelled = record { places = refl; transitions = refl; variables = refl; con
 
 loop_integers : HasShortIntegers loop
 loop_integers = record { places_short = refl; variables_short = refl }
+
+stopped_run_names : HaveSpelledNames stopped_run.values
+stopped_run_names = refl
+
+stopped_run_numbers : HaveShortNumbers stopped_run.values
+stopped_run_numbers = (omega arith, (omega arith, tt))
 
 -- a text of one line, and one with a line feed in it
 one_line : is_one_line (codes "clock 7") ≡ true

@@ -8,9 +8,7 @@ use Rattle.cpn_definitions.specs.Net.{PlainNet}
 use Rattle.cpn_definitions.specs.Colour.{PlainShape, has_shape, have_shapes, all_have_shape, no_shapes, union_shape, takes}
 use Rattle.cpn_definitions.specs.Named.{constructors_of, count_of, has_names, have_names, arguments_have_names}
 use Rattle.cpn_core.specs.declared.values.Value.{Value}
-use Rattle.cpn_core.specs.declared.values.Value as values
 use Rattle.cpn_core.specs.declared.colours.Shape.{Shape}
-use Rattle.cpn_core.specs.declared.colours.Shape as shapes
 use Rattle.cpn_core.specs.declared.values.Value.TheViews as value_views
 use Rattle.cpn_core.specs.declared.colours.Shape.TheViews as shape_views
 use Rattle.cpn_core.specs.Views.{value_view, values_view, constructor_view}

@@ -1,4 +1,5 @@
 pub mod Lines
+pub mod MonitorText
 pub mod Printable
 pub mod Report
 pub mod Schedule

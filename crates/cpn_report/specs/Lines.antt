@@ -10,25 +10,30 @@ use Rattle.cpn_definitions.specs.Outcome.{Fault, overflow, divide_by_zero, empty
 use Rattle.cpn_definitions.specs.Meaning.{PlainBinding}
 use Rattle.cpn_definitions.specs.Occurrence.{PlainElement}
 use Rattle.cpn_definitions.specs.Legal.{PlainOccurrence}
-use Rattle.cpn_runs.specs.State.{PlainEvent, claim_made, claim_completed, clock_moved, cut_made, PlainEnd, dead, steps_made, until_passed, fault_end}
+use Rattle.cpn_monitor.specs.MonitorValues.{PlainMonitorValue}
+use Rattle.cpn_runs.specs.State.{PlainEvent, claim_made, claim_completed, clock_moved, cut_made, PlainEnd, dead, steps_made, until_passed, fault_end, stopped_by}
 use Rattle.cpn_runs.specs.Run.{Outlook}
 use Rattle.cpn_tmset.specs.Listed.{Group, groups}
+use Rattle.cpn_report.specs.MonitorText.{value_at, monitor_text}
 use Rattle.cpn_report.specs.ValueText.{joined, value_text}
+use Rattle.cpn_report.specs.declared.starts.Start.{Start}
+use Rattle.cpn_report.specs.declared.starts.Start.TheVariants as starts
 
--- A line: the first one of each report; the opening of a run, with its number, its clock and its outlook; an occurrence; the
--- journal; the cause of the run's end; how many occurrences there were; the last clock; a place with its tokens; how many
--- elements are ready; the next time; how many occurrences there were in all runs.
+-- A line: the first one of each report; the opening of a run, with its number, what it starts from, its clock and its outlook; an
+-- occurrence; the journal; the cause of the run's end, which may be one of its monitors; how many occurrences there were; the last clock;
+-- a place with its tokens; how many elements are ready; the next time; what a monitor measured; how many occurrences there were in all runs.
 pub data Line : Type 0 where
   report_line : Line
-  run_line : ℕ → ℕ → Outlook → Line
+  run_line : ℕ → Start → ℕ → Outlook → Line
   occurrence_line : PlainOccurrence → Line
   schedule_line : List PlainEvent → Line
-  end_line : PlainEnd → Line
+  end_line : List PlainMonitorValue → PlainEnd → Line
   occurrences_line : ℕ → Line
   clock_line : ℕ → Line
   place_line : Coloured → Tokens → Line
   ready_line : ℕ → Line
   next_line : Option ℕ → Line
+  monitor_line : PlainMonitorValue → Line
   total_line : ℕ → Line
 
 -- ---- what lines tell
@@ -69,12 +74,18 @@ fault_text bad_coefficient = codes "6 bad_coefficient"
 fault_text bad_delay = codes "7 bad_delay"
 fault_text too_large = codes "8 too_large"
 
--- the cause of the run's end
-abbrev pub cause_text : PlainNet → PlainEnd → List ℕ
-cause_text n dead = codes "dead"
-cause_text n steps_made = codes "steps"
-cause_text n (until_passed time) = codes "until " ++ decimal time
-cause_text n (fault_end e fault) = codes "fault " ++ fault_text fault ++ codes " " ++ element_text n e
+-- the cause of the run's end; that of a stop is told by the name of its monitor
+abbrev pub cause_text : PlainNet → List PlainMonitorValue → PlainEnd → List ℕ
+cause_text n values dead = codes "dead"
+cause_text n values steps_made = codes "steps"
+cause_text n values (until_passed time) = codes "until " ++ decimal time
+cause_text n values (stopped_by monitor) = codes "stop " ++ (value_at values monitor).name
+cause_text n values (fault_end e fault) = codes "fault " ++ fault_text fault ++ codes " " ++ element_text n e
+
+-- the marking that a run starts from: the initial one of the net, or the one at which the run before it ended
+abbrev pub start_text : Start → List ℕ
+start_text starts.Initial = codes "initial"
+start_text starts.Here = codes "here"
 
 -- so many tokens of a value of the place's colour set, and their stamp where the place is timed
 abbrev pub group_text : PlainNet → PlainColour → Group → List ℕ
@@ -86,10 +97,10 @@ tokens_text n colour (t ∷ ts) = joined (codes " ++ ") (map (group_text n colou
 
 -- ---- the lines
 
--- the line that opens a run: its number, that it starts from the initial marking, its clock, and its outlook
-unfoldable pub opening_text : ℕ → ℕ → Outlook → List ℕ
-opening_text number clock outlook =
-    codes "run " ++ decimal number ++ codes " initial " ++ decimal clock ++ codes " ready " ++ decimal outlook.ready_count ++ codes " next " ++ time_text outlook.next
+-- the line that opens a run: its number, the marking that it starts from, its clock, and its outlook
+unfoldable pub opening_text : ℕ → Start → ℕ → Outlook → List ℕ
+opening_text number start clock outlook =
+    codes "run " ++ decimal number ++ codes " " ++ start_text start ++ codes " " ++ decimal clock ++ codes " ready " ++ decimal outlook.ready_count ++ codes " next " ++ time_text outlook.next
 
 -- the line of an occurrence: the number of its claim, its time, its element
 unfoldable pub occurrence_text : PlainNet → PlainOccurrence → List ℕ
@@ -99,8 +110,8 @@ occurrence_text n o = codes "occ " ++ decimal o.number ++ codes " @" ++ decimal 
 unfoldable pub schedule_text : List PlainEvent → List ℕ
 schedule_text journal = codes "schedule" ++ flat_map event_text journal
 
-unfoldable pub end_text : PlainNet → PlainEnd → List ℕ
-end_text n cause = codes "end " ++ cause_text n cause
+unfoldable pub end_text : PlainNet → List PlainMonitorValue → PlainEnd → List ℕ
+end_text n values cause = codes "end " ++ cause_text n values cause
 
 unfoldable pub occurrences_text : ℕ → List ℕ
 occurrences_text count = codes "occurrences " ++ decimal count
@@ -125,15 +136,16 @@ total_text count = codes "total " ++ decimal count
 -- first line of each report.
 abbrev pub line_text : PlainNet → Line → List ℕ
 line_text n report_line = codes "report 1"
-line_text n (run_line number clock outlook) = opening_text number clock outlook
+line_text n (run_line number start clock outlook) = opening_text number start clock outlook
 line_text n (occurrence_line o) = occurrence_text n o
 line_text n (schedule_line journal) = schedule_text journal
-line_text n (end_line cause) = end_text n cause
+line_text n (end_line values cause) = end_text n values cause
 line_text n (occurrences_line count) = occurrences_text count
 line_text n (clock_line clock) = clock_text clock
 line_text n (place_line place tokens) = place_text n place tokens
 line_text n (ready_line count) = ready_text count
 line_text n (next_line time) = next_text time
+line_text n (monitor_line value) = monitor_text value
 line_text n (total_line count) = total_text count
 
 -- ---- the text of lines

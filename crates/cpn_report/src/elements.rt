@@ -1,5 +1,5 @@
 // Bindings, binding elements and occurrences as they are printed.
-ghost use Rattle.std.specs.Prelude.{◌≡◌, ◌++◌, true, codes, map, OnOk};
+ghost use Rattle.std.specs.Prelude.{◌≡◌, ◌++◌, true, codes, map, IfOk, OnOk};
 ghost use Rattle.std.specs.List.{list_all};
 ghost use Rattle.std.specs.String.{string_bytes};
 ghost use Rattle.cpn_definitions.specs.Named.{is_named};
@@ -9,11 +9,12 @@ ghost use Rattle.cpn_core.specs.Nets.{net_view};
 ghost use Rattle.cpn_core.specs.Elements.{element_view};
 ghost use Rattle.cpn_core.specs.Occurrences.{occurrence_view};
 ghost use Rattle.cpn_report.specs.Printable.{IsPrintableNet, is_bound, is_binding_element, is_occurrence};
-ghost use Rattle.cpn_report.specs.Lines.{occurrence_line, pair_text, binding_text, element_text, occurrence_text, ended, lines_text};
+ghost use Rattle.cpn_report.specs.Lines.{occurrence_line, pair_text, binding_text, element_text as text_of_element, occurrence_text as text_of_occurrence, ended, lines_text};
 ghost use Rattle.cpn_report.specs.ValueText.{joined};
 
 use crate::values::push_value;
 use cpn_core::{Binding, Element, Memory, Net, Occurrence, Pair};
+use std::alloc::Global;
 use std::fmt::Write;
 
 /// Appends a variable with its value.
@@ -57,12 +58,25 @@ pub(crate) fn push_binding(out: &mut String, net: &Net, binding: &Binding) -> Re
     Ok(())
 }
 
+/// The text of a binding element: the flattened name of its transition, a space, its binding in declaration order of the variables.
+///
+/// `Err` comes for want of memory alone.
+pub fn element_text(alloc: Global, net: &Net, element: &Element) -> Result<String, Memory>
+    requires net { IsPrintableNet (net_view net.now) }
+    requires element { is_binding_element (net_view net.now) (element_view element.now) ≡ true }
+    ensures text { IfOk result (λ text. string_bytes text ≡ text_of_element (net_view net.now) (element_view element.now)) }
+{
+    let mut out = String::new(alloc);
+    push_element(&mut out, net, element)?;
+    Ok(out)
+}
+
 /// Appends a binding element.
 #[tactic(auto, unfolding(crate::specs::Lines::element_text))]
 pub fn push_element(out: &mut String, net: &Net, element: &Element) -> Result<(), Memory>
     requires net { IsPrintableNet (net_view net.now) }
     requires element { is_binding_element (net_view net.now) (element_view element.now) ≡ true }
-    ensures written { OnOk result (string_bytes out.new ≡ string_bytes out.old ++ element_text (net_view net.now) (element_view element.now)) }
+    ensures written { OnOk result (string_bytes out.new ≡ string_bytes out.old ++ text_of_element (net_view net.now) (element_view element.now)) }
 {
     let transition = &net.transitions[element.transition as usize];
     out.push_str(transition.name.as_str())?;
@@ -71,17 +85,40 @@ pub fn push_element(out: &mut String, net: &Net, element: &Element) -> Result<()
     Ok(())
 }
 
-/// Appends the line of an occurrence.
-#[tactic(auto, unfolding(crate::specs::Lines::occurrence_text))]
-fn push_occurrence_line(out: &mut String, net: &Net, occurrence: &Occurrence) -> Result<(), Memory>
+/// The line of an occurrence, without a line feed: the number of its claim, its time, its binding element.
+///
+/// `Err` comes for want of memory alone.
+pub fn occurrence_text(alloc: Global, net: &Net, occurrence: &Occurrence) -> Result<String, Memory>
     requires net { IsPrintableNet (net_view net.now) }
     requires element { is_occurrence (net_view net.now) (occurrence_view occurrence.now) ≡ true }
-    ensures written { OnOk result (string_bytes out.new ≡ string_bytes out.old ++ ended (occurrence_text (net_view net.now) (occurrence_view occurrence.now))) }
+    ensures text { IfOk result (λ text. string_bytes text ≡ text_of_occurrence (net_view net.now) (occurrence_view occurrence.now)) }
+{
+    let mut out = String::new(alloc);
+    push_occurrence(&mut out, net, occurrence)?;
+    Ok(out)
+}
+
+/// Appends the line of an occurrence, without a line feed.
+#[tactic(auto, unfolding(crate::specs::Lines::occurrence_text))]
+fn push_occurrence(out: &mut String, net: &Net, occurrence: &Occurrence) -> Result<(), Memory>
+    requires net { IsPrintableNet (net_view net.now) }
+    requires element { is_occurrence (net_view net.now) (occurrence_view occurrence.now) ≡ true }
+    ensures written { OnOk result (string_bytes out.new ≡ string_bytes out.old ++ text_of_occurrence (net_view net.now) (occurrence_view occurrence.now)) }
 {
     let number = occurrence.number;
     let time = occurrence.time;
     write!(out, "occ {number} @{time} ")?;
     push_element(out, net, &occurrence.element)?;
+    Ok(())
+}
+
+/// Appends the line of an occurrence.
+fn push_occurrence_line(out: &mut String, net: &Net, occurrence: &Occurrence) -> Result<(), Memory>
+    requires net { IsPrintableNet (net_view net.now) }
+    requires element { is_occurrence (net_view net.now) (occurrence_view occurrence.now) ≡ true }
+    ensures written { OnOk result (string_bytes out.new ≡ string_bytes out.old ++ ended (text_of_occurrence (net_view net.now) (occurrence_view occurrence.now))) }
+{
+    push_occurrence(out, net, occurrence)?;
     out.push_str("\n")?;
     Ok(())
 }

@@ -7,7 +7,7 @@ use cpn_core::Memory;
 use std::fmt::Write;
 
 /// Appends an integer.
-pub(crate) fn push_int(out: &mut String, number: i64) -> Result<(), Memory>
+pub(crate) fn push_int(out: &mut String, number: i128) -> Result<(), Memory>
     ensures written { OnOk result (string_bytes out.new ≡ string_bytes out.old ++ int_text number) }
 {
     if number < 0 {

@@ -1,13 +1,15 @@
 // The lines of a report that hold numbers and fixed words alone.
-ghost use Rattle.std.specs.Prelude.{◌≡◌, ◌++◌, codes, map, OnOk};
+ghost use Rattle.std.specs.Prelude.{◌≡◌, ◌++◌, codes, map, IfOk, OnOk};
 ghost use Rattle.std.specs.List.{flat_map};
 ghost use Rattle.std.specs.String.{string_bytes};
-ghost use Rattle.cpn_report.specs.Lines.{ended, opening_text, time_text, event_text, schedule_text, occurrences_text, clock_text, ready_text, next_text, total_text};
+ghost use Rattle.cpn_report.specs.Lines.{ended, start_text, opening_text, time_text, event_text, schedule_text as text_of_schedule, occurrences_text, clock_text, ready_text, next_text, total_text};
 ghost use Rattle.cpn_runs.specs.Views.{event_view};
 ghost use Rattle.cpn_runs.specs.FinishedViews.{outlook_view};
 
+use crate::starts::Start;
 use cpn_core::Memory;
 use cpn_runs::{Event, Outlook};
+use std::alloc::Global;
 use std::fmt::Write;
 
 /// Appends the first line of each report.
@@ -18,22 +20,33 @@ pub(crate) fn push_report_line(out: &mut String) -> Result<(), Memory>
     Ok(())
 }
 
-/// Appends the first line of the run with this number, which starts from the initial marking at the
-/// clock, with the outlook there.
+/// Appends the first line of the run with this number, from the start at the clock, with the outlook there.
 #[tactic(auto, unfolding(crate::specs::Lines::opening_text))]
 pub(crate) fn push_run_line(
     out: &mut String,
     number: u64,
+    start: Start,
     clock: u64,
     opening: &Outlook,
 ) -> Result<(), Memory>
-    ensures written { OnOk result (string_bytes out.new ≡ string_bytes out.old ++ ended (opening_text number clock (outlook_view opening.now))) }
+    ensures written { OnOk result (string_bytes out.new ≡ string_bytes out.old ++ ended (opening_text number start clock (outlook_view opening.now))) }
 {
     let ready = opening.ready;
-    write!(out, "run {number} initial {clock} ready {ready} next ")?;
+    let start = start_name(start);
+    write!(out, "run {number} {start} {clock} ready {ready} next ")?;
     push_time(out, opening.next)?;
     out.push_str("\n")?;
     Ok(())
+}
+
+/// How the marking that a run starts from is told.
+fn start_name(start: Start) -> &'static str
+    ensures name { result.now ≡ start_text start }
+{
+    match start {
+        Start::Initial => "initial",
+        Start::Here => "here",
+    }
 }
 
 /// Appends a time that may be missing.
@@ -47,14 +60,33 @@ pub fn push_time(out: &mut String, time: Option<u64>) -> Result<(), Memory>
     Ok(())
 }
 
+/// The line of a run's journal, without a line feed. It does not tell the seats.
+///
+/// `Err` comes for want of memory alone.
+pub fn schedule_text(alloc: Global, journal: &[Event]) -> Result<String, Memory>
+    ensures text { IfOk result (λ text. string_bytes text ≡ text_of_schedule (map event_view journal.now)) }
+{
+    let mut out = String::new(alloc);
+    push_schedule(&mut out, journal)?;
+    Ok(out)
+}
+
 /// Appends the line of the run's journal.
-#[tactic(auto, unfolding(crate::specs::Lines::schedule_text))]
 pub(crate) fn push_schedule_line(out: &mut String, journal: &[Event]) -> Result<(), Memory>
-    ensures written { OnOk result (string_bytes out.new ≡ string_bytes out.old ++ ended (schedule_text (map event_view journal.now))) }
+    ensures written { OnOk result (string_bytes out.new ≡ string_bytes out.old ++ ended (text_of_schedule (map event_view journal.now))) }
+{
+    push_schedule(out, journal)?;
+    out.push_str("\n")?;
+    Ok(())
+}
+
+/// Appends the line of the run's journal, without a line feed.
+#[tactic(auto, unfolding(crate::specs::Lines::schedule_text))]
+fn push_schedule(out: &mut String, journal: &[Event]) -> Result<(), Memory>
+    ensures written { OnOk result (string_bytes out.new ≡ string_bytes out.old ++ text_of_schedule (map event_view journal.now)) }
 {
     out.push_str("schedule")?;
     push_events(out, journal)?;
-    out.push_str("\n")?;
     Ok(())
 }
 

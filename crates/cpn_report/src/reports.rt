@@ -6,7 +6,7 @@ ghost use Rattle.cpn_core.specs.Nets.{net_view};
 ghost use Rattle.cpn_runs.specs.FinishedViews.{setup_view, finished_view};
 ghost use Rattle.cpn_report.specs.Printable.{IsPrintable};
 ghost use Rattle.cpn_report.specs.Lines.{lines_text};
-ghost use Rattle.cpn_report.specs.Report.{is_told, trace_lines, run_text, report_text};
+ghost use Rattle.cpn_report.specs.Report.{is_told, trace_lines, run_text as text_of_run, report_text};
 ghost use Rattle.cpn_report.specs.Schedule.{SchedulesDiffer};
 
 use crate::elements::push_occurrences;
@@ -15,7 +15,9 @@ use crate::lines::{
     push_clock_line, push_next_line, push_occurrences_line, push_ready_line, push_report_line,
     push_run_line, push_schedule_line, push_total_line,
 };
+use crate::monitors::push_monitor_lines;
 use crate::places::push_place_lines;
+use crate::starts::Start;
 use crate::traces::Trace;
 use cpn_core::Memory;
 use cpn_runs::Finished;
@@ -36,25 +38,50 @@ pub fn report(alloc: Global, trace: Trace, finished: &Finished) -> Result<String
 {
     let mut out = String::new(alloc);
     push_report_line(&mut out)?;
-    push_run(&mut out, trace, 0, finished)?;
+    push_run(&mut out, trace, 0, Start::Initial, finished)?;
     push_total_line(&mut out, finished.occurrences.len() as u64)?;
     Ok(out)
 }
 
-/// Appends the lines of the run with this number.
-fn push_run(out: &mut String, trace: Trace, number: u64, finished: &Finished) -> Result<(), Memory>
+/// The lines of the run with this number, each with its line feed, from its opening to what its monitors measured.
+///
+/// `Err` comes for want of memory alone.
+pub fn run_text(
+    alloc: Global,
+    trace: Trace,
+    number: u64,
+    start: Start,
+    finished: &Finished,
+) -> Result<String, Memory>
     requires printable { IsPrintable (net_view finished.now.setup.net.value) (finished_view finished.now) }
-    ensures written { OnOk result (string_bytes out.new ≡ string_bytes out.old ++ run_text trace (setup_view finished.now.setup) number (finished_view finished.now)) }
+    ensures text { IfOk result (λ text. string_bytes text ≡ text_of_run trace (setup_view finished.now.setup) number start (finished_view finished.now)) }
+{
+    let mut out = String::new(alloc);
+    push_run(&mut out, trace, number, start, finished)?;
+    Ok(out)
+}
+
+/// Appends the lines of the run with this number.
+fn push_run(
+    out: &mut String,
+    trace: Trace,
+    number: u64,
+    start: Start,
+    finished: &Finished,
+) -> Result<(), Memory>
+    requires printable { IsPrintable (net_view finished.now.setup.net.value) (finished_view finished.now) }
+    ensures written { OnOk result (string_bytes out.new ≡ string_bytes out.old ++ text_of_run trace (setup_view finished.now.setup) number start (finished_view finished.now)) }
 {
     let net = &*finished.setup.net;
-    push_run_line(out, number, finished.setup.clock, &finished.opening)?;
+    push_run_line(out, number, start, finished.setup.clock, &finished.opening)?;
     push_trace(out, trace, finished)?;
-    push_end_line(out, net, &finished.cause)?;
+    push_end_line(out, net, &finished.values, &finished.cause)?;
     push_occurrences_line(out, finished.occurrences.len() as u64)?;
     push_clock_line(out, finished.clock)?;
     push_place_lines(out, net, &net.places, &finished.marking)?;
     push_ready_line(out, finished.closing.ready)?;
     push_next_line(out, finished.closing.next)?;
+    push_monitor_lines(out, &finished.values)?;
     Ok(())
 }
 

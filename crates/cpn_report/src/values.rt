@@ -49,7 +49,7 @@ pub(crate) fn push_value(
     match value {
         Value::Unit => out.push_str("()")?,
         Value::Bool(truth) => out.push_str(truth_name(*truth))?,
-        Value::Int(number) => push_int(out, *number)?,
+        Value::Int(number) => push_int(out, i128::from(*number))?,
         Value::Text(text) => push_string(out, text.bytes())?,
         Value::Enum(position) => match shape {
             Shape::Enum(number, _) => out.push_str(name_at(&net.constants, *number, *position))?,

@@ -259,5 +259,5 @@ every_state_has_bounds setup journal state playable reached = record {
         let k = committed setup state in
         let whole : state.claims ≡ take k state.claims ++ drop k state.claims = sym (take-append-drop k state.claims) in
         let front : (P : PlainClaim → Type 0) → AllByRecursion P state.claims → AllByRecursion P (take k state.claims) = λ P each. (all_parts P (take k state.claims) (drop k state.claims) (subst (AllByRecursion P) whole each)).0 in
-        subst (λ (number : ℕ). HasGrown setup.net.places setup.start number m) (as_many_are_committed state.claims)
+        subst (λ (number : ℕ). HasGrown setup.net.places setup.start number m) (as_many_are_committed setup.monitors [] setup.start state.claims)
         (claims_grow setup (take k state.claims) setup.start m playable (front (IsClaimOf setup) claims_are) (front (λ claim. claim.time ≤ last_time) early) is)

@@ -137,6 +137,7 @@ faulty_run : IsRun one_seat (record {
   clock = 3;
   cause = no_fault;
   closing = record { ready_count = 1; next = Some 3 };
+  values = [];
 })
 unfolding covered needs_of outputs_of
 faulty_run = record {
@@ -148,6 +149,8 @@ faulty_run = record {
   clock_is = refl;
   legal = (refl, inl refl);
   true_fault = (refl, refl);
+  true_stop = tt;
   opening = outlook_there;
   closing = outlook_there;
+  values_are = refl;
 }

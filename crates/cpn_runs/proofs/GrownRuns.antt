@@ -23,7 +23,7 @@ as_many_numbered k (claim ∷ claims) = ap (λ (n : ℕ). suc n) (as_many_number
 
 -- the occurrences of a run are as many as the committed claims
 as_many_occurrences : (setup : PlainSetup) (run : PlainFinished) (is : IsRun setup run) → committed setup is.state ≡ length run.occurrences
-as_many_occurrences setup run is = sym (ap length is.occurrences_are ∙ as_many_numbered 0 (take (committed setup is.state) is.state.claims) ∙ as_many_are_committed is.state.claims)
+as_many_occurrences setup run is = sym (ap length is.occurrences_are ∙ as_many_numbered 0 (take (committed setup is.state) is.state.claims) ∙ as_many_are_committed setup.monitors [] setup.start is.state.claims)
 
 -- a run leaves what its occurrences leave of its start
 pub run_has_grown : (setup : PlainSetup) (run : PlainFinished) → IsPlayable setup → IsRun setup run → HasGrown setup.net.places setup.start (length run.occurrences) run.marking
@@ -40,7 +40,7 @@ run_ends_within_limits : (setup : PlainSetup) (run : PlainFinished) → IsPlayab
 run_ends_within_limits setup run playable is =
     let bounds : HasBounds setup is.state = every_state_has_bounds setup run.journal is.state playable is.reached in
     let many = as_many_occurrences setup run is in
-    let first = no_more_committed is.state.claims in
+    let first = no_more_committed setup.monitors [] setup.start is.state.claims in
     let few = bounds.few_claims in
     let clock = bounds.clock in
     let clock_is = is.clock_is in
@@ -89,6 +89,7 @@ next_is_playable places until earlier setup early before next =
       steps = omega (arith, steps);
       some_seat = next.some_seat;
       few_seats = next.few_seats;
+      monitors = next.monitors;
     }
 
 -- a phase after phases in bounds is within them, and leaves what so many more occurrences may leave

@@ -1,6 +1,6 @@
 -- Every journal, whatever the order in which claims are made and completed, and for any number of seats: the claims leave a
 -- marking, and those that are committed are a legal occurrence sequence.
-use Rattle.std.proofs.Common.{◌≡◌, ℕ, suc, ◌==◌, ◌⊎◌, true, false, cond, List, [], ◌∷◌, ◌++◌, map, length, take, drop, append_assoc, Some, None, Option, refl, sym, ap, subst, ◌∙◌, inl, inr, slice_get}
+use Rattle.std.proofs.Common.{◌≡◌, ℕ, suc, ◌==◌, ◌⊎◌, true, false, List, [], ◌∷◌, ◌++◌, map, length, take, drop, append_assoc, Some, None, Option, refl, sym, ap, subst, ◌∙◌, inl, inr}
 use Rattle.std.specs.List.{AllByRecursion, list_any}
 use Rattle.std.specs.Option.{MatchOption}
 use Rattle.std.proofs.Math.Path.{ap₂}
@@ -13,7 +13,7 @@ use Rattle.cpn_definitions.specs.Marking.{Marking}
 use Rattle.cpn_definitions.specs.Net.{PlainNet}
 use Rattle.cpn_definitions.specs.Outcome.{Fault, Outcome, gives, faults, no_meaning}
 use Rattle.cpn_definitions.specs.Occurrence.{PlainElement, Needed, Made, needed_cmp, threshold, are_covered, covered, after, needs_of, outputs_of, subtract, add_made}
-use Rattle.cpn_definitions.specs.Legal.{LeastTime, TimedElement, Legal, timed}
+use Rattle.cpn_definitions.specs.Legal.{LeastTime, Legal, timed}
 use Rattle.cpn_definitions.specs.Sound.{IsStamped, IsMarking}
 use Rattle.cpn_definitions.proofs.UntimedPlaces.{MadeStamped, stamped_subtracted, stamped_added, outputs_stamped, marking_stamped}
 use Rattle.cpn_definitions.proofs.Markings.{held_at}
@@ -21,14 +21,16 @@ use Rattle.cpn_definitions.proofs.Needs.{needs_in_order}
 use Rattle.cpn_definitions.proofs.Subtraction.{AllAreSorted}
 use Rattle.cpn_definitions.proofs.ListItems.{split_at, all_parts}
 use Rattle.cpn_definitions.proofs.RisingLists.{each_appended}
-use Rattle.cpn_runs.specs.HoleRun.{PlainClaim, Status, open_claim, done_with, faulted_with, added, after_claim, marking_left, is_open, is_done, done_prefix}
-use Rattle.cpn_runs.specs.State.{PlainSetup, PlainState, PlainEvent, claim_made, claim_completed, clock_moved, cut_made, PlainEnd, dead, steps_made, until_passed, fault_end, PlainCut, first_state, unclaimed_in, settled_in, committed, owed_cut, cut_at, cut_by, given_needs, new_claim, status_after, MayClaim, MayComplete, MayMove, MayCut, Happens, Leads, IsState, numbered, committed_occurrences, HasCause, EndsBy}
-use Rattle.cpn_runs.specs.Run.{Outlook, HasOutlook, IsTrueFault, IsRun}
+use Rattle.cpn_runs.specs.HoleRun.{PlainClaim, Status, open_claim, done_with, faulted_with, added, after_claim, marking_left, is_open, is_done}
+use Rattle.cpn_runs.specs.State.{PlainSetup, PlainState, PlainEvent, claim_made, claim_completed, clock_moved, cut_made, PlainEnd, dead, steps_made, until_passed, fault_end, stopped_by, PlainCut, first_state, unclaimed_in, settled_in, committed, committed_claims, stop_in, owed_cut, given_needs, new_claim, status_after, MayClaim, MayComplete, MayMove, MayCut, Happens, Leads, IsState, numbered, committed_occurrences, HasCause, EndsBy}
+use Rattle.cpn_runs.specs.Commits.{timed_claim, committed_from}
+use Rattle.cpn_runs.specs.MeasuredStates.{values_in}
+use Rattle.cpn_runs.specs.Run.{Outlook, HasOutlook, IsTrueFault, IsTrueStop, IsRun}
 use Rattle.cpn_runs.proofs.Sequences.{legal_joined, legal_moved, left_parts, left_from, left_split, marking_left_more}
 use Rattle.cpn_runs.proofs.CoveredElements.{covered_needs, covered_too, after_is, least_now}
 use Rattle.cpn_runs.proofs.FilledRuns.{HasOrder, completed, filled_leaves}
-use Rattle.cpn_runs.proofs.Cuts.{no_cut_at_any, AreDone, committed_are_done, open_is_not_done, done_owe_none, done_are_closed, owed_is}
-use Rattle.cpn_runs.proofs.States.{IsClaimOf, drawn_now, IsReached, event_reaches, every_state, no_completion_after_a_cut}
+use Rattle.cpn_runs.proofs.Cuts.{AreDone, committed_are_done, committed_ahead, taken_ahead, all_in, open_is_not_done, IsForFault, owed_is, owes_none}
+use Rattle.cpn_runs.proofs.States.{IsClaimOf, drawn_now, IsCutFor, IsReached, uncut_where_owed, event_reaches, every_state, no_completion_after_a_cut}
 
 -- ---- the needs of claims stand in their order
 
@@ -78,10 +80,6 @@ stamped_left setup m (claim ∷ claims) last each stamped is =
 
 -- ---- the unclaimed marking is there in each state
 
--- what a claim is in a legal sequence
-abbrev pub timed_claim : PlainClaim → TimedElement
-timed_claim claim = record { element = claim.element; time = claim.time }
-
 timed_numbered : (k : ℕ) (claims : List PlainClaim) → map timed (numbered k claims) ≡ map timed_claim claims
 timed_numbered k [] = refl
 timed_numbered k (claim ∷ claims) = ap (λ os. timed_claim claim ∷ os) (timed_numbered (suc k) claims)
@@ -90,13 +88,14 @@ timed_numbered k (claim ∷ claims) = ap (λ os. timed_claim claim ∷ os) (time
 abbrev pub WereMadeAt : ℕ → List PlainClaim → Type 0
 WereMadeAt time claims = AllByRecursion (λ claim. claim.time ≡ time) claims
 
--- Of the claims that stand those that were made before the last move of the clock are done, and are a legal occurrence sequence
+-- Of the claims that stand those that were made before the last move of the clock are done and committed, and are a legal occurrence sequence
 -- up to the clock; the others were made at the clock.
 pub record SinceMove (setup : PlainSetup) (clock : ℕ) (claims : List PlainClaim) : Type 0 where
   pub before : List PlainClaim
   pub since : List PlainClaim
   pub claims_are : claims ≡ before ++ since
   pub before_done : AreDone before
+  pub before_in : committed_from setup.monitors [] setup.start before ≡ length before
   pub mid : Marking
   pub mid_is : marking_left setup.start before ≡ Some mid
   pub legal : Legal setup.net setup.start setup.clock (map timed_claim before) mid clock
@@ -148,6 +147,7 @@ claim_leaves setup old seat number new c stamped moved =
         since = moved.since ++ claim ∷ [];
         claims_are = ap (λ cs. cs ++ claim ∷ []) moved.claims_are ∙ append_assoc moved.before moved.since (claim ∷ []);
         before_done = moved.before_done;
+        before_in = moved.before_in;
         mid = moved.mid;
         mid_is = moved.mid_is;
         legal = moved.legal;
@@ -175,6 +175,7 @@ completion_leaves setup journal old seat number new sorted reached leaves c =
         since = behind.ahead ++ completed c.status claim ∷ parts.later;
         claims_are = ap (λ cs. cs ++ completed c.status claim ∷ parts.later) behind.before_is ∙ append_assoc moved.before behind.ahead (completed c.status claim ∷ parts.later);
         before_done = moved.before_done;
+        before_in = moved.before_in;
         mid = moved.mid;
         mid_is = moved.mid_is;
         legal = moved.legal;
@@ -205,40 +206,72 @@ faulted_with_fault (faults other) status fault (inr h) is = cc
 faulted_with_fault no_meaning status fault (inl h) is = let e : is_open (faulted_with fault) ≡ true = ap is_open (sym is) ∙ h in cc
 faulted_with_fault no_meaning status fault (inr h) is = cc
 
--- A cut leaves the marking of the claims ahead of it, where the element of the first claim that it removes is covered.
-cut_leaves : (setup : PlainSetup) (old : PlainState) (number : ℕ) (new : PlainState) → IsStamped setup.net setup.start → AllByRecursion (IsClaimOf setup) old.claims → LeavesMarking setup old → MayCut setup old number new → LeavesMarking setup new
-cut_leaves setup old number new stamped claims leaves c =
-    let owed = owed_is old.claims c.cut c.owed in
-    let claim = owed.faulted in
-    let parts = split_at old.claims (done_prefix old.claims) claim owed.claim_is in
+-- The element of the fault that a cut is for is covered in the marking of the claims ahead of it.
+fault_is_true
+    : (setup : PlainSetup) (old : PlainState) (cut : PlainCut) (mid : Marking)
+    → IsStamped setup.net setup.start
+    → AllByRecursion (IsClaimOf setup) old.claims
+    → LeavesMarking setup old
+    → IsForFault old.claims (committed setup old) cut
+    → marking_left setup.start (committed_claims setup old) ≡ Some mid
+    → IsTrueFault setup.net mid old.clock cut.cause
+fault_is_true setup old cut mid stamped claims leaves fault mid_is =
+    let claim = fault.faulted in
+    let parts = split_at old.claims (committed setup old) claim fault.claim_is in
     let each = all_parts (IsClaimOf setup) parts.before (claim ∷ parts.later) (subst (AllByRecursion (IsClaimOf setup)) parts.is claims) in
     let one : IsClaimOf setup claim = each.1.0 in
     let left = leaves_for setup.start parts.before claim parts.later leaves.last (subst (λ cs. marking_left setup.start cs ≡ Some leaves.last) parts.is leaves.is) in
-    let at : number ≡ length parts.before = c.number_is ∙ owed.number_is ∙ sym parts.place in
-    let first : take number old.claims ≡ parts.before = ap₂ take at parts.is ∙ take-append_seam parts.before (claim ∷ parts.later) in
+    let first : committed_claims setup old ≡ parts.before = ap₂ take (sym parts.place) parts.is ∙ take-append_seam parts.before (claim ∷ parts.later) in
+    let same : left.mid ≡ mid = same_Some left.mid mid (sym left.is ∙ ap (marking_left setup.start) (sym first) ∙ mid_is) in
     let needs_covered = subst (λ needs. are_covered (threshold claim.time) left.mid needs ≡ true) one.needs_are left.covers in
     let is_covered : covered setup.net left.mid claim.time claim.element ≡ true = covered_too setup.net one.marking left.mid claim.time claim.element (stamped_left setup setup.start parts.before left.mid each.0 stamped left.is) one.was_covered needs_covered in
-    let has_fault : outputs_of setup.net claim.element claim.time ≡ faults owed.fault = faulted_with_fault (outputs_of setup.net claim.element claim.time) claim.status owed.fault one.status_is owed.fault_is in
+    let has_fault : outputs_of setup.net claim.element claim.time ≡ faults fault.fault = faulted_with_fault (outputs_of setup.net claim.element claim.time) claim.status fault.fault one.status_is fault.fault_is in
     let moved = leaves.moved in
-    let behind = is_behind moved.before moved.since parts.before claim parts.later moved.before_done (ap is_done owed.fault_is) (sym moved.claims_are ∙ parts.is) in
+    let behind = is_behind moved.before moved.since parts.before claim parts.later moved.before_done (ap is_done fault.fault_is) (sym moved.claims_are ∙ parts.is) in
     let now = all_parts (λ k. k.time ≡ old.clock) behind.ahead (claim ∷ parts.later) (subst (WereMadeAt old.clock) behind.since_is moved.made_now) in
-    let is_true : IsTrueFault setup.net left.mid old.clock (fault_end claim.element owed.fault) =
-    subst (λ (t : ℕ). (covered setup.net left.mid t claim.element ≡ true) × (outputs_of setup.net claim.element t ≡ faults owed.fault)) now.1.0 (is_covered, has_fault) in
+    let is_true : IsTrueFault setup.net left.mid old.clock (fault_end claim.element fault.fault) =
+    subst (λ (t : ℕ). (covered setup.net left.mid t claim.element ≡ true) × (outputs_of setup.net claim.element t ≡ faults fault.fault)) now.1.0 (is_covered, has_fault) in
+    subst (λ m. IsTrueFault setup.net m old.clock cut.cause) same (subst (IsTrueFault setup.net left.mid old.clock) (sym fault.cause_is) is_true)
+
+-- the committed claims are those before the last move, and some of those at the clock
+pub committed_since : (setup : PlainSetup) (state : PlainState) (moved : SinceMove setup state.clock state.claims) → (j : ℕ) × (committed_claims setup state ≡ moved.before ++ take j moved.since)
+committed_since setup state moved =
+    let ahead = committed_ahead setup.monitors [] setup.start moved.before moved.since moved.before_in in
+    (ahead.0, ap (λ cs. take (committed_from setup.monitors [] setup.start cs) cs) moved.claims_are ∙ ap (λ k. take k (moved.before ++ moved.since)) ahead.1 ∙ taken_ahead moved.before moved.since ahead.0)
+
+-- A cut leaves the marking of the claims ahead of it.
+cut_leaves : (setup : PlainSetup) (journal : List PlainEvent) (old : PlainState) (number : ℕ) (new : PlainState) → IsStamped setup.net setup.start → IsReached setup journal old → LeavesMarking setup old → MayCut setup old number new → LeavesMarking setup new
+cut_leaves setup journal old number new stamped reached leaves c =
+    let owed = owed_is setup old c.cut (uncut_where_owed setup journal old c.cut reached c.owed) c.owed in
+    let at : number ≡ committed setup old = c.number_is ∙ owed.number_is in
+    let moved = leaves.moved in
+    let since = committed_since setup old moved in
+    let first : take number old.claims ≡ moved.before ++ take since.0 moved.since = ap (λ k. take k old.claims) at ∙ since.1 in
+    let whole = take-append-drop (committed setup old) old.claims in
+    let left = left_split setup.start (committed_claims setup old) (drop (committed setup old) old.claims) leaves.last (subst (λ cs. marking_left setup.start cs ≡ Some leaves.last) (sym whole) leaves.is) in
+    let now = all_parts (λ k. k.time ≡ old.clock) (take since.0 moved.since) (drop since.0 moved.since) (subst (WereMadeAt old.clock) (sym (take-append-drop since.0 moved.since)) moved.made_now) in
     subst (LeavesMarking setup) (sym c.new_is) (record {
-      last = left.mid;
-      is = ap (marking_left setup.start) first ∙ left.is;
+      last = left.0;
+      is = ap (λ k. marking_left setup.start (take k old.claims)) at ∙ left.1;
       moved = record {
         before = moved.before;
-        since = behind.ahead;
-        claims_are = first ∙ behind.before_is;
+        since = take since.0 moved.since;
+        claims_are = first;
         before_done = moved.before_done;
+        before_in = moved.before_in;
         mid = moved.mid;
         mid_is = moved.mid_is;
         legal = moved.legal;
         made_now = now.0;
       };
-      true_cut = λ cut stands. subst (IsTrueFault setup.net left.mid old.clock) (sym owed.cause_is ∙ ap (λ (k : PlainCut). k.cause) (same_Some c.cut cut stands)) is_true;
+      true_cut = λ cut stands. subst (IsTrueFault setup.net left.0 old.clock) (ap (λ (k : PlainCut). k.cause) (same_Some c.cut cut stands)) (is_true owed.cause left.0 left.1);
     })
+  where
+    is_true
+        : ((monitor : ℕ) × (stop_in setup old ≡ Some monitor) × (c.cut.cause ≡ stopped_by monitor)) ⊎ ((stop_in setup old ≡ None) × IsForFault old.claims (committed setup old) c.cut)
+        → (mid : Marking) → marking_left setup.start (committed_claims setup old) ≡ Some mid → IsTrueFault setup.net mid old.clock c.cut.cause
+    is_true (inl (monitor, stop, cause)) mid mid_is = subst (IsTrueFault setup.net mid old.clock) (sym cause) tt
+    is_true (inr (goes_on, fault)) mid mid_is = fault_is_true setup old c.cut mid stamped reached.claims_are leaves fault mid_is
 
 -- ---- the committed claims
 
@@ -278,22 +311,19 @@ done_are_legal setup m clock (claim ∷ claims) last stamped now each done is =
       ),
     )
 
--- With no claim open and no cut owed, all claims are committed.
-pub all_are_committed : (claims : List PlainClaim) → list_any (λ claim. is_open claim.status) claims ≡ false → cut_at (done_prefix claims) (slice_get claims (done_prefix claims)) ≡ None → take (done_prefix claims) claims ≡ claims
-all_are_committed [] none_open none_owed = refl
-all_are_committed (claim ∷ claims) none_open none_owed = split claim.status refl (all_are_committed claims)
+-- With no claim open, no cut standing and no cut owed, all claims are committed.
+pub all_are_committed : (setup : PlainSetup) (state : PlainState) → list_any (λ claim. is_open claim.status) state.claims ≡ false → state.cut ≡ None → owed_cut setup state ≡ None → committed setup state ≡ length state.claims
+all_are_committed setup state none_open uncut none_owed =
+    let none = owes_none setup state uncut none_owed in
+    all_in setup.monitors [] setup.start state.claims none_open none.0 none.1
+
+-- so the committed claims are all claims
+pub all_taken : (setup : PlainSetup) (state : PlainState) → committed setup state ≡ length state.claims → committed_claims setup state ≡ state.claims
+all_taken setup state all = ap (λ k. take k state.claims) all ∙ whole state.claims
   where
-    split
-        : (status : Status) → claim.status ≡ status
-        → (list_any (λ c. is_open c.status) claims ≡ false → cut_at (done_prefix claims) (slice_get claims (done_prefix claims)) ≡ None → take (done_prefix claims) claims ≡ claims)
-        → take (done_prefix (claim ∷ claims)) (claim ∷ claims) ≡ claim ∷ claims
-    split open_claim is rest = let e : true ≡ false = rw is at none_open in cc
-    split (done_with outputs) is rest =
-        let none_open_later : list_any (λ c. is_open c.status) claims ≡ false = rw is at none_open in
-        let owed : cut_at (suc (done_prefix claims)) (slice_get claims (done_prefix claims)) ≡ None = rw is at none_owed in
-        ap (λ (status : Status). take (cond (is_done status) (suc (done_prefix claims)) 0) (claim ∷ claims)) is
-        ∙ ap (λ cs. claim ∷ cs) (rest none_open_later (no_cut_at_any (suc (done_prefix claims)) (done_prefix claims) (slice_get claims (done_prefix claims)) owed))
-    split (faulted_with fault) is rest = let e : cut_by 0 claim.element (faulted_with fault) ≡ None = rw is at none_owed in cc
+    whole : (cs : List PlainClaim) → take (length cs) cs ≡ cs
+    whole [] = refl
+    whole (c ∷ cs) = ap (λ ds. c ∷ ds) (whole cs)
 
 joined_timed : (xs ys : List PlainClaim) → map timed_claim xs ++ map timed_claim ys ≡ map timed_claim (xs ++ ys)
 joined_timed [] ys = refl
@@ -329,8 +359,8 @@ no_more_claims (c ∷ cs) = ap (λ ds. c ∷ ds) (no_more_claims cs)
 move_leaves : (setup : PlainSetup) (old : PlainState) (time : ℕ) (new : PlainState) → IsStamped setup.net setup.start → AllByRecursion (IsClaimOf setup) old.claims → LeavesMarking setup old → MayMove setup old time new → LeavesMarking setup new
 move_leaves setup old time new stamped claims leaves c =
     let moved = leaves.moved in
-    let all = all_are_committed old.claims c.none_open c.none_owed in
-    let done : AreDone old.claims = subst AreDone all (committed_are_done old.claims) in
+    let all = all_are_committed setup old c.none_open c.no_cut c.none_owed in
+    let done : AreDone old.claims = subst AreDone (all_taken setup old all) (committed_are_done setup.monitors [] setup.start old.claims) in
     let same : leaves.last ≡ c.marking = same_Some leaves.last c.marking (sym leaves.is ∙ c.marking_is) in
     let two = all_parts (λ claim. is_done claim.status ≡ true) moved.before moved.since (subst AreDone moved.claims_are done) in
     let up_to_now =
@@ -346,6 +376,7 @@ move_leaves setup old time new stamped claims leaves c =
         since = [];
         claims_are = sym (no_more_claims old.claims);
         before_done = done;
+        before_in = all;
         mid = leaves.last;
         mid_is = leaves.is;
         legal = legal_moved setup.net setup.start setup.clock (map timed_claim old.claims) leaves.last old.clock time legal (subst P (sym same) c.least);
@@ -370,7 +401,7 @@ event_leaves setup journal old (claim_made seat number) new start reached leaves
     claim_leaves setup old seat number new c (stamped_left setup setup.start old.claims c.marking reached.claims_are start.stamped c.marking_is) leaves.moved
 event_leaves setup journal old (claim_completed seat number) new start reached leaves c = completion_leaves setup journal old seat number new start.sorted reached leaves c
 event_leaves setup journal old (clock_moved time) new start reached leaves c = move_leaves setup old time new start.stamped reached.claims_are leaves c
-event_leaves setup journal old (cut_made number) new start reached leaves c = cut_leaves setup old number new start.stamped reached.claims_are leaves c
+event_leaves setup journal old (cut_made number) new start reached leaves c = cut_leaves setup journal old number new start.stamped reached leaves c
 
 events_leave
     : (setup : PlainSetup) (journal : List PlainEvent) (old : PlainState) (events : List PlainEvent) (state : PlainState)
@@ -386,42 +417,41 @@ events_leave setup journal old (event ∷ events) state start reached leaves lea
 -- What holds of every journal: the claims leave a marking; the committed ones leave one, and are a legal occurrence
 -- sequence from the start to it and the clock; where no claim is open and no cut is owed, all claims are committed and
 -- both markings are the same; and the element of the fault that a cut is for is covered in the settled marking at the clock,
--- and its outputs have the fault.
+-- and its outputs have the fault; and the
+-- monitor that a cut is for is the first that stops the run after the last committed claim.
 pub record Settles (setup : PlainSetup) (state : PlainState) : Type 0 where
   pub last : Marking
   pub leaves : unclaimed_in setup state ≡ Some last
   pub marking : Marking
   pub settled_is : settled_in setup state ≡ Some marking
   pub legal : Legal setup.net setup.start setup.clock (map timed (committed_occurrences setup state)) marking state.clock
-  pub all_committed : list_any (λ claim. is_open claim.status) state.claims ≡ false → owed_cut setup state ≡ None → take (committed setup state) state.claims ≡ state.claims
+  pub all_committed : list_any (λ claim. is_open claim.status) state.claims ≡ false → owed_cut setup state ≡ None → committed_claims setup state ≡ state.claims
   pub all_settled : list_any (λ claim. is_open claim.status) state.claims ≡ false → owed_cut setup state ≡ None → marking ≡ last
   pub true_cut : (cut : PlainCut) → state.cut ≡ Some cut → IsTrueFault setup.net marking state.clock cut.cause
-
--- the claims that are committed are those before the last move, and some of those at the clock
-front_of : (before since : List PlainClaim) → AreDone before → take (done_prefix (before ++ since)) (before ++ since) ≡ before ++ take (done_prefix since) since
-front_of [] since done = refl
-front_of (claim ∷ before) since done = rw done.0 (ap (λ cs. claim ∷ cs) (front_of before since done.1))
+  pub stop : (cut : PlainCut) → state.cut ≡ Some cut → IsTrueStop setup state cut.cause
 
 committed_legal
     : (setup : PlainSetup) (state : PlainState) (last : Marking)
     → IsStamped setup.net setup.start
     → SinceMove setup state.clock state.claims
-    → AllByRecursion (IsClaimOf setup) (take (committed setup state) state.claims)
-    → marking_left setup.start (take (committed setup state) state.claims) ≡ Some last
-    → Legal setup.net setup.start setup.clock (map timed_claim (take (committed setup state) state.claims)) last state.clock
+    → AllByRecursion (IsClaimOf setup) (committed_claims setup state)
+    → marking_left setup.start (committed_claims setup state) ≡ Some last
+    → Legal setup.net setup.start setup.clock (map timed_claim (committed_claims setup state)) last state.clock
 committed_legal setup state last stamped moved each is =
-    let j = done_prefix moved.since in
-    let at : take (committed setup state) state.claims ≡ moved.before ++ take j moved.since = ap (λ cs. take (done_prefix cs) cs) moved.claims_are ∙ front_of moved.before moved.since moved.before_done in
+    let since = committed_since setup state moved in
+    let j = since.0 in
+    let at = since.1 in
+    let done = all_parts (λ claim. is_done claim.status ≡ true) moved.before (take j moved.since) (subst AreDone at (committed_are_done setup.monitors [] setup.start state.claims)) in
     let now = all_parts (λ k. k.time ≡ state.clock) (take j moved.since) (drop j moved.since) (subst (WereMadeAt state.clock) (sym (take-append-drop j moved.since)) moved.made_now) in
     subst (λ cs. Legal setup.net setup.start setup.clock (map timed_claim cs) last state.clock) (sym at)
-    (all_legal setup state.clock moved.before (take j moved.since) moved.mid last stamped moved.legal moved.mid_is now.0 (subst (AllByRecursion (IsClaimOf setup)) at each) (committed_are_done moved.since)
+    (all_legal setup state.clock moved.before (take j moved.since) moved.mid last stamped moved.legal moved.mid_is now.0 (subst (AllByRecursion (IsClaimOf setup)) at each) done.1
     (subst (λ cs. marking_left setup.start cs ≡ Some last) at is))
 
 at_start : (setup : PlainSetup) → LeavesMarking setup (first_state setup)
 at_start setup = record {
   last = setup.start;
   is = refl;
-  moved = record { before = []; since = []; claims_are = refl; before_done = tt; mid = setup.start; mid_is = refl; legal = (refl, inl refl); made_now = tt };
+  moved = record { before = []; since = []; claims_are = refl; before_done = tt; before_in = refl; mid = setup.start; mid_is = refl; legal = (refl, inl refl); made_now = tt };
   true_cut = λ cut stands. absurd (not_none None cut stands refl);
 }
 
@@ -440,16 +470,28 @@ every_journal_settles setup journal state start reached =
       marking = front.0;
       settled_is = front.1;
       legal = subst (λ os. Legal setup.net setup.start setup.clock os front.0 state.clock) (sym (timed_numbered 0 (take k state.claims))) (committed_legal setup state front.0 start.stamped leaves.moved each.0 front.1);
-      all_committed = λ none_open none_owed. all_are_committed state.claims none_open none_owed;
-      all_settled =
-          λ none_open none_owed. same_Some front.0 leaves.last (sym front.1 ∙ ap (marking_left setup.start) (all_are_committed state.claims none_open none_owed) ∙ leaves.is);
+      all_committed = λ none_open none_owed. all_taken setup state (all none_open none_owed);
+      all_settled = λ none_open none_owed. same_Some front.0 leaves.last (sym front.1 ∙ ap (marking_left setup.start) (all_taken setup state (all none_open none_owed)) ∙ leaves.is);
       true_cut = λ cut stands.
-          let done = (r.cut_off cut stands).all_done in
-          let same : front.0 ≡ leaves.last =
-          same_Some front.0 leaves.last (sym front.1 ∙ ap (marking_left setup.start) (all_are_committed state.claims (done_are_closed state.claims done) (done_owe_none state.claims done)) ∙ leaves.is) in
+          let same : front.0 ≡ leaves.last = same_Some front.0 leaves.last (sym front.1 ∙ ap (marking_left setup.start) (all_taken setup state (r.cut_off cut stands).all_committed) ∙ leaves.is) in
           let P : Marking → Type 0 = λ m. IsTrueFault setup.net m state.clock cut.cause in
           subst P (sym same) (leaves.true_cut cut stands);
+      stop = λ cut stands. true_stop cut.cause (r.cut_off cut stands).made_for;
     }
+  where
+    all : list_any (λ claim. is_open claim.status) state.claims ≡ false → owed_cut setup state ≡ None → committed setup state ≡ length state.claims
+    all none_open none_owed = by state.cut refl
+      where
+        by : (cut : Option PlainCut) → state.cut ≡ cut → committed setup state ≡ length state.claims
+        by None uncut = all_are_committed setup state none_open uncut none_owed
+        by (Some cut) stands = ((every_state setup journal state reached).cut_off cut stands).all_committed
+
+    true_stop : (cause : PlainEnd) → IsCutFor setup state cause → IsTrueStop setup state cause
+    true_stop dead made_for = tt
+    true_stop steps_made made_for = tt
+    true_stop (until_passed time) made_for = tt
+    true_stop (fault_end e fault) made_for = tt
+    true_stop (stopped_by monitor) made_for = made_for
 
 -- where a run ends, all that it claimed has occurred: its last marking is the one that all its claims leave
 pub ended_is_settled : (setup : PlainSetup) (journal : List PlainEvent) (state : PlainState) (cause : PlainEnd) → IsStart setup → IsState setup journal state → EndsBy setup state cause → settled_in setup state ≡ unclaimed_in setup state
@@ -466,10 +508,26 @@ ends_truly setup state cause m is_true ends = by state.cut refl ends.has_cause
     without steps_made has = tt
     without (until_passed time) has = tt
     without (fault_end e fault) has = absurd has
+    without (stopped_by monitor) has = tt
 
     by : (cut : Option PlainCut) → state.cut ≡ cut → MatchOption cut (HasCause setup state cause) (λ k. cause ≡ k.cause) → IsTrueFault setup.net m state.clock cause
     by None stands has = without cause has
     by (Some cut) stands is = subst (IsTrueFault setup.net m state.clock) (sym is) (is_true cut stands)
+
+-- and by a monitor that stops it, or by none
+stops_truly : (setup : PlainSetup) (state : PlainState) (cause : PlainEnd) → ((cut : PlainCut) → state.cut ≡ Some cut → IsTrueStop setup state cut.cause) → EndsBy setup state cause → IsTrueStop setup state cause
+stops_truly setup state cause is_true ends = by state.cut refl ends.has_cause
+  where
+    without : (c : PlainEnd) → HasCause setup state c → IsTrueStop setup state c
+    without dead has = tt
+    without steps_made has = tt
+    without (until_passed time) has = tt
+    without (fault_end e fault) has = tt
+    without (stopped_by monitor) has = absurd has
+
+    by : (cut : Option PlainCut) → state.cut ≡ cut → MatchOption cut (HasCause setup state cause) (λ k. cause ≡ k.cause) → IsTrueStop setup state cause
+    by None stands has = without cause has
+    by (Some cut) stands is = subst (IsTrueStop setup state) (sym is) (is_true cut stands)
 
 -- a journal with an end is that of a run, for any number of seats: that its occurrences are legal follows
 pub ended_is_run
@@ -480,7 +538,7 @@ pub ended_is_run
     → settled_in setup state ≡ Some marking
     → HasOutlook setup setup.start setup.clock opening
     → HasOutlook setup marking state.clock closing
-    → IsRun setup (record { opening = opening; journal = journal; occurrences = committed_occurrences setup state; marking = marking; clock = state.clock; cause = cause; closing = closing })
+    → IsRun setup (record { opening = opening; journal = journal; occurrences = committed_occurrences setup state; marking = marking; clock = state.clock; cause = cause; closing = closing; values = values_in setup state })
 ended_is_run setup journal state cause marking opening closing start reached ends is at_start at_end =
     let s = every_journal_settles setup journal state start reached in
     let same : s.marking ≡ marking = same_Some s.marking marking (sym s.settled_is ∙ is) in
@@ -493,6 +551,8 @@ ended_is_run setup journal state cause marking opening closing start reached end
       clock_is = refl;
       legal = subst (λ m. Legal setup.net setup.start setup.clock (map timed (committed_occurrences setup state)) m state.clock) same s.legal;
       true_fault = subst (λ m. IsTrueFault setup.net m state.clock cause) same (ends_truly setup state cause s.marking s.true_cut ends);
+      true_stop = stops_truly setup state cause s.stop ends;
       opening = at_start;
       closing = at_end;
+      values_are = refl;
     }

@@ -7,6 +7,7 @@ mod OneJournal
 pub mod OneRun
 pub mod Journals
 pub mod BoundedStates
+pub mod MeasuredStates
 pub mod GrownRuns
 pub mod NumberedJournals
 mod Picks
@@ -22,6 +23,9 @@ mod WorkedNet
 mod TwoSeats
 mod FaultyRuns
 mod MovedRows
+mod MeasuredRows
+mod StopRows
+mod StoppedRuns
 mod GrownRows
 mod PlayableRows
 mod PhaseRows

@@ -5,6 +5,7 @@ use Rattle.cpn_definitions.specs.Marking.{Marking}
 use Rattle.cpn_definitions.specs.Occurrence.{Made, covered, needs_of, outputs_of, after}
 use Rattle.cpn_definitions.specs.Legal.{LeastTime}
 use Rattle.cpn_definitions.proofs.TruthValues.{not_both}
+use Rattle.cpn_monitor.specs.Monitors.{PlainMonitor}
 use Rattle.cpn_runs.specs.HoleRun.{PlainClaim, done_with}
 use Rattle.cpn_runs.specs.State.{PlainSetup, claim_made, claim_completed, clock_moved, dead, steps_made, until_passed, PlainState, first_state, new_claim, MayClaim, MayComplete, MayMove, EndsBy}
 use Rattle.cpn_runs.specs.Run.{PlainFinished, IsRun}
@@ -14,17 +15,21 @@ use Rattle.cpn_runs.proofs.WorkedNet.{seven, worked, move, seven_at_three, moved
 
 -- runs that may make so many claims up to a last time
 abbrev pub setup : ℕ → ℕ → PlainSetup
-setup steps until = record { net = worked; start = seven_at_three; clock = 0; limits = record { steps = steps; until = until; seats = 1 }; seed = 11 }
+setup steps until = record { net = worked; start = seven_at_three; clock = 0; limits = record { steps = steps; until = until; seats = 1 }; functions = []; monitors = []; seed = 11 }
+
+-- the same up to 3 with monitors
+abbrev pub monitored : List PlainMonitor → PlainSetup
+monitored monitors = record (setup 2 3) { monitors = monitors }
 
 -- a state at a clock with these claims
-abbrev state : ℕ → List PlainClaim → PlainState
+abbrev pub state : ℕ → List PlainClaim → PlainState
 state clock claims = record { clock = clock; claims = claims; cut = None }
 
 -- ---- where the clock moves
 
--- to 3, where the last time is 3
-moves_to_three : MayMove (setup 2 3) (first_state (setup 2 3)) 3 (state 3 [])
-moves_to_three = record {
+-- to 3, where the last time is 3, whatever monitors there are
+pub moves_to_three : (monitors : List PlainMonitor) → MayMove (monitored monitors) (first_state (monitored monitors)) 3 (state 3 [])
+moves_to_three monitors = record {
   no_cut = refl;
   none_owed = refl;
   below_limit = omega arith;
@@ -65,17 +70,17 @@ not_at_the_limit time new m = let below : 0 < 0 = m.below_limit in absurd (omega
 
 -- ---- the run: the clock moves, and the element occurs
 
-abbrev opened : PlainClaim
+abbrev pub opened : PlainClaim
 opened = new_claim worked 0 3 move
 
 abbrev output : Made
 output = record { place = 1; value = seven; stamp = 5 }
 
-abbrev done : PlainClaim
+abbrev pub done : PlainClaim
 done = record opened { status = done_with (output ∷ []) }
 
-claims_at_three : MayClaim (setup 2 3) (state 3 []) 0 0 (state 3 (opened ∷ []))
-claims_at_three = record {
+pub claims_at_three : (monitors : List PlainMonitor) → MayClaim (monitored monitors) (state 3 []) 0 0 (state 3 (opened ∷ []))
+claims_at_three monitors = record {
   no_cut = refl;
   none_owed = refl;
   next_number = refl;
@@ -91,9 +96,9 @@ claims_at_three = record {
   new_is = refl;
 }
 
-completes_at_three : MayComplete (setup 2 3) (state 3 (opened ∷ [])) 0 0 (state 3 (done ∷ []))
+pub completes_at_three : (monitors : List PlainMonitor) → MayComplete (monitored monitors) (state 3 (opened ∷ [])) 0 0 (state 3 (done ∷ []))
 unfolding outputs_of
-completes_at_three = record { none_owed = refl; held_claim = opened; claim_is = refl; held = refl; status = done_with (output ∷ []); status_is = refl; new_is = refl }
+completes_at_three monitors = record { none_owed = refl; held_claim = opened; claim_is = refl; held = refl; status = done_with (output ∷ []); status_is = refl; new_is = refl }
 
 abbrev pub moved_shown : PlainFinished
 moved_shown = record {
@@ -104,21 +109,24 @@ moved_shown = record {
   clock = 3;
   cause = dead;
   closing = record { ready_count = 0; next = None };
+  values = [];
 }
 
 pub moved_run : IsRun (setup 2 3) moved_shown
 unfolding covered needs_of outputs_of after
 moved_run = record {
   state = state 3 (done ∷ []);
-  reached = (state 3 [], moves_to_three, (state 3 (opened ∷ []), claims_at_three, (state 3 (done ∷ []), completes_at_three, refl)));
+  reached = (state 3 [], moves_to_three [], (state 3 (opened ∷ []), claims_at_three [], (state 3 (done ∷ []), completes_at_three [], refl)));
   ends = record { none_open = refl; none_owed = refl; has_cause = ((λ all. absurd (omega (arith, all))), (moved, refl, moved_is_dead)) };
   occurrences_are = refl;
   marking_is = refl;
   clock_is = refl;
   legal = (least_is_three, covered_at_three, (moved, after_three, (refl, inl refl)));
   true_fault = tt;
+  true_stop = tt;
   opening = record { entries = entry 3 ∷ []; enabled = one_is_enabled seven_at_three 0 3 (omega arith) covered_at_three (λ s from below. covered_no_earlier s below); ready_count_is = refl; next_is = refl };
   closing = record { entries = []; enabled = none_is_enabled moved 3 moved_is_dead; ready_count_is = refl; next_is = refl };
+  values_are = refl;
 }
 
 -- ---- runs that end where they start

@@ -1,13 +1,12 @@
 -- Each number and time of a journal is one of 64 bits: the limits of a run are.
 use Rattle.std.proofs.Common.{◌<◌, ◌^◌, List, [], ◌∷◌, length, arith}
 use Rattle.cpn_definitions.proofs.ListItems.{place_known}
-use Rattle.cpn_runs.specs.HoleRun.{done_prefix}
 use Rattle.cpn_runs.specs.Playable.{IsPlayable}
 use Rattle.cpn_runs.specs.Run.{PlainFinished, IsRun}
 use Rattle.cpn_runs.specs.State.{PlainSetup, PlainEvent, claim_made, claim_completed, clock_moved, cut_made, PlainState, first_state, Happens, Leads}
 use Rattle.cpn_runs.specs.WithoutSeats.{without_seat, AreNumbered}
 use Rattle.cpn_runs.proofs.BoundedStates.{IsWithin, first_within, event_within}
-use Rattle.cpn_runs.proofs.Cuts.{owed_is}
+use Rattle.cpn_runs.proofs.Cuts.{no_more_committed, owed_number}
 
 event_numbered : (setup : PlainSetup) (old : PlainState) (event : PlainEvent) (new : PlainState) → IsPlayable setup → IsWithin setup old → Happens setup old event new → (without_seat event).1 < 2 ^ 64
 event_numbered setup old (claim_made seat number) new playable within may =
@@ -24,10 +23,9 @@ event_numbered setup old (clock_moved time) new playable within may =
     let until = playable.until in
     omega (arith, in_time, until)
 event_numbered setup old (cut_made number) new playable within may =
-    let owed = owed_is old.claims may.cut may.owed in
-    let known : done_prefix old.claims < length old.claims = place_known old.claims (done_prefix old.claims) owed.faulted owed.claim_is in
+    let known = no_more_committed setup.monitors [] setup.start old.claims in
     let number_is = may.number_is in
-    let owed_at = owed.number_is in
+    let owed_at = owed_number setup old may.cut may.owed in
     let few = within.few_claims in
     let steps = playable.steps in
     omega (arith, number_is, owed_at, known, few, steps)

@@ -10,9 +10,9 @@ use Rattle.cpn_definitions.specs.Occurrence.{covered}
 use Rattle.cpn_definitions.specs.Legal.{LeastTime}
 use Rattle.cpn_definitions.proofs.TruthValues.{not_both}
 use Rattle.cpn_definitions.proofs.ListItems.{last_changed}
-use Rattle.cpn_runs.specs.HoleRun.{PlainClaim, is_open, done_prefix}
-use Rattle.cpn_runs.specs.State.{PlainSetup, PlainEvent, claim_made, claim_completed, clock_moved, cut_made, PlainEnd, dead, steps_made, until_passed, fault_end, PlainState, unclaimed_in, owed_cut, is_held_by, new_claim, PlainCut, MayClaim, MayComplete, MayMove, MayCut, Happens, Leads, HasCause, EndsBy}
-use Rattle.cpn_runs.proofs.Cuts.{AreDone, committed_are_done, done_owe_none, done_is_not_open, done_at, owed_is}
+use Rattle.cpn_runs.specs.HoleRun.{PlainClaim, is_open}
+use Rattle.cpn_runs.specs.State.{PlainSetup, PlainEvent, claim_made, claim_completed, clock_moved, cut_made, PlainEnd, dead, steps_made, until_passed, fault_end, stopped_by, PlainState, unclaimed_in, owed_cut, is_held_by, new_claim, PlainCut, MayClaim, MayComplete, MayMove, MayCut, Happens, Leads, HasCause, EndsBy}
+use Rattle.cpn_runs.proofs.Cuts.{AreDone, committed_are_done, done_is_not_open, done_at, owed_is, left_by, left_owes_none}
 use Rattle.cpn_runs.proofs.States.{claim_is_unique, completion_is_unique, least_is_unique, move_is_unique, cut_is_unique, closed_status, drawn_now}
 
 -- no claim is open
@@ -36,15 +36,16 @@ pub record IsBusy (setup : PlainSetup) (state : PlainState) : Type 0 where
   pub last_open : is_open last.status ≡ true
   pub seat : last.seat ≡ 0
 
--- After the cut: the claims that stand are all done.
-pub record IsCut (state : PlainState) : Type 0 where
+-- After the cut: the claims that stand are all done, and no cut is owed.
+pub record IsCut (setup : PlainSetup) (state : PlainState) : Type 0 where
   pub cut : PlainCut
   pub stands : state.cut ≡ Some cut
   pub all_done : AreDone state.claims
+  pub none_owed : owed_cut setup state ≡ None
 
 -- where a run of one seat is
 abbrev pub IsPhase : PlainSetup → PlainState → Type 0
-IsPhase setup state = IsCalm setup state ⊎ (IsBusy setup state ⊎ IsCut state)
+IsPhase setup state = IsCalm setup state ⊎ (IsBusy setup state ⊎ IsCut setup state)
 
 -- a claim among closed ones is not open
 closed_at : (claims : List PlainClaim) (i : ℕ) (claim : PlainClaim) → AreClosed claims → slice_get claims i ≡ Some claim → is_open claim.status ≡ false
@@ -175,14 +176,15 @@ not_owed_and_owed : (owed : Option PlainCut) (cut : PlainCut) → owed ≡ None 
 not_owed_and_owed owed cut none some = cc
 
 -- a cut is determined, and none follows it
-cut_same : (setup : PlainSetup) (old : PlainState) (number number' : ℕ) (new new' : PlainState) → MayCut setup old number new → MayCut setup old number' new' → IsSameEvent (cut_made number) (cut_made number') new new' × IsPhase setup new
-cut_same setup old number number' new new' a b =
+cut_same : (setup : PlainSetup) (old : PlainState) (number number' : ℕ) (new new' : PlainState) → old.cut ≡ None → MayCut setup old number new → MayCut setup old number' new' → IsSameEvent (cut_made number) (cut_made number') new new' × IsPhase setup new
+cut_same setup old number number' new new' uncut a b =
     let cuts : a.cut ≡ b.cut = same_Some a.cut b.cut (sym a.owed ∙ b.owed) in
     let numbers : number ≡ number' = a.number_is ∙ ap (λ (c : PlainCut). c.number) cuts ∙ sym b.number_is in
     let same : MayCut setup old number' new = subst (λ (k : ℕ). MayCut setup old k new) numbers a in
-    let at : number ≡ done_prefix old.claims = a.number_is ∙ (owed_is old.claims a.cut a.owed).number_is in (
+    let owed = owed_is setup old a.cut uncut a.owed in
+    let left : IsCut setup (left_by setup old a.cut) = record { cut = a.cut; stands = refl; all_done = committed_are_done setup.monitors [] setup.start old.claims; none_owed = left_owes_none setup old a.cut owed } in (
       record { events = ap cut_made numbers; news = cut_is_unique setup old number' new new' same b },
-      subst (IsPhase setup) (sym a.new_is) (inr (inr (record { cut = a.cut; stands = refl; all_done = subst (λ (k : ℕ). AreDone (take k old.claims)) (sym at) (committed_are_done old.claims) }))),
+      subst (IsPhase setup) (sym a.new_is) (inr (inr (subst (λ (k : ℕ). IsCut setup (record old { claims = take k old.claims; cut = Some a.cut })) (sym (a.number_is ∙ owed.number_is)) left))),
     )
 
 -- a move leads from a calm state to a calm one
@@ -213,7 +215,7 @@ calm_same setup old (clock_moved time) (cut_made number') new new' one calm a b 
 calm_same setup old (cut_made number) (claim_made seat' number') new new' one calm a b = absurd (not_owed_and_owed (owed_cut setup old) a.cut b.none_owed a.owed)
 calm_same setup old (cut_made number) (claim_completed seat' number') new new' one calm a b = absurd (none_completes_calmly setup old seat' number' new' calm b)
 calm_same setup old (cut_made number) (clock_moved time') new new' one calm a b = absurd (not_owed_and_owed (owed_cut setup old) a.cut b.none_owed a.owed)
-calm_same setup old (cut_made number) (cut_made number') new new' one calm a b = cut_same setup old number number' new new' a b
+calm_same setup old (cut_made number) (cut_made number') new new' one calm a b = cut_same setup old number number' new new' calm.no_cut a b
 
 open_is_found : (before : List PlainClaim) (last : PlainClaim) → is_open last.status ≡ true → list_any (λ claim. is_open claim.status) (before ++ last ∷ []) ≡ true
 open_is_found [] last opened = rw opened refl
@@ -242,15 +244,15 @@ busy_same setup old (clock_moved time) event' new new' one busy a b = absurd (no
 busy_same setup old (cut_made number) (claim_made seat' number') new new' one busy a b = absurd (none_claims_busily setup old seat' number' new' one busy b)
 busy_same setup old (cut_made number) (claim_completed seat' number') new new' one busy a b = absurd (not_owed_and_owed (owed_cut setup old) a.cut b.none_owed a.owed)
 busy_same setup old (cut_made number) (clock_moved time') new new' one busy a b = absurd (none_moves_busily setup old time' new' busy b)
-busy_same setup old (cut_made number) (cut_made number') new new' one busy a b = cut_same setup old number number' new new' a b
+busy_same setup old (cut_made number) (cut_made number') new new' one busy a b = cut_same setup old number number' new new' busy.no_cut a b
 
 -- after the cut nothing happens
-none_after_cut : (setup : PlainSetup) (old : PlainState) (event : PlainEvent) (new : PlainState) → IsCut old → Happens setup old event new → ⊥
+none_after_cut : (setup : PlainSetup) (old : PlainState) (event : PlainEvent) (new : PlainState) → IsCut setup old → Happens setup old event new → ⊥
 none_after_cut setup old (claim_made seat number) new over a = not_owed_and_owed old.cut over.cut a.no_cut over.stands
 none_after_cut setup old (claim_completed seat number) new over a =
     not_both (is_open a.held_claim.status) (held_is_open seat a.held_claim a.held).0 (done_is_not_open a.held_claim.status (done_at old.claims number a.held_claim over.all_done a.claim_is))
 none_after_cut setup old (clock_moved time) new over a = not_owed_and_owed old.cut over.cut a.no_cut over.stands
-none_after_cut setup old (cut_made number) new over a = not_owed_and_owed (owed_cut setup old) a.cut (done_owe_none old.claims over.all_done) a.owed
+none_after_cut setup old (cut_made number) new over a = not_owed_and_owed (owed_cut setup old) a.cut over.none_owed a.owed
 
 one_event : (setup : PlainSetup) (old : PlainState) (event event' : PlainEvent) (new new' : PlainState) → setup.limits.seats ≡ 1 → IsPhase setup old → Happens setup old event new → Happens setup old event' new' → IsSameEvent event event' new new' × IsPhase setup new
 one_event setup old event event' new new' one (inl calm) a b = calm_same setup old event event' new new' one calm a b
@@ -286,6 +288,7 @@ no_claim_at_end setup state (until_passed time) seat number new in_time has c =
     not_both (covered setup.net has.2.0 state.clock c.drawn.element) (subst P (one_unclaimed setup state c.marking has.2.0 c.marking_is has.2.1) (drawn_now setup state seat number new c))
     (has.2.2.none_earlier state.clock c.drawn.element (omega arith) (omega arith))
 no_claim_at_end setup state (fault_end e fault) seat number new in_time has c = has
+no_claim_at_end setup state (stopped_by monitor) seat number new in_time has c = has
 
 no_move_at_end : (setup : PlainSetup) (state : PlainState) (cause : PlainEnd) (time : ℕ) (new : PlainState) → HasCause setup state cause → MayMove setup state time new → ⊥
 no_move_at_end setup state steps_made time new has c =
@@ -302,6 +305,7 @@ no_move_at_end setup state (until_passed other) time new has c =
     let within : time ≤ setup.limits.until = c.in_time in
     absurd (omega arith)
 no_move_at_end setup state (fault_end e fault) time new has c = has
+no_move_at_end setup state (stopped_by monitor) time new has c = has
 
 -- a state that has an end has no event
 calm_end_has_no_event : (setup : PlainSetup) (state : PlainState) (cause : PlainEnd) (event : PlainEvent) (new : PlainState) → IsCalm setup state → EndsBy setup state cause → Happens setup state event new → ⊥

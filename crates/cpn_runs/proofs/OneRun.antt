@@ -6,7 +6,8 @@ use Rattle.std.proofs.lemmas.Option.{same_Some}
 use Rattle.cpn_definitions.specs.Marking.{Marking}
 use Rattle.cpn_definitions.specs.Legal.{LeastTime}
 use Rattle.cpn_definitions.specs.Enabled.{ready, next_time, IsDead}
-use Rattle.cpn_runs.specs.State.{PlainSetup, PlainEvent, PlainEnd, dead, steps_made, until_passed, fault_end, PlainCut, PlainState, first_state, IsState, HasCause, EndsBy, committed_occurrences, settled_in}
+use Rattle.cpn_runs.specs.State.{PlainSetup, PlainEvent, PlainEnd, dead, steps_made, until_passed, fault_end, stopped_by, PlainCut, PlainState, first_state, IsState, HasCause, EndsBy, committed_occurrences, settled_in}
+use Rattle.cpn_runs.specs.MeasuredStates.{values_in}
 use Rattle.cpn_runs.specs.Run.{PlainFinished, IsRun, Outlook, HasOutlook}
 use Rattle.cpn_definitions.proofs.OneEnabledList.{enabled_is_unique}
 use Rattle.cpn_runs.proofs.States.{one_state, least_is_unique}
@@ -39,9 +40,13 @@ one_cause setup s (until_passed time) (until_passed time') has has' =
     let P : Marking → Type 0 = λ m. LeastTime setup.net m s.clock time in
     ap until_passed (least_is_unique setup.net has'.2.0 s.clock time time' (subst P (same_Some has.2.0 has'.2.0 (sym has.2.1 ∙ has'.2.1)) has.2.2) has'.2.2)
 one_cause setup s (fault_end e f) c' has has' = absurd has
+one_cause setup s (stopped_by monitor) c' has has' = absurd has
 one_cause setup s steps_made (fault_end e f) has has' = absurd has'
 one_cause setup s dead (fault_end e f) has has' = absurd has'
 one_cause setup s (until_passed time) (fault_end e f) has has' = absurd has'
+one_cause setup s steps_made (stopped_by monitor) has has' = absurd has'
+one_cause setup s dead (stopped_by monitor) has has' = absurd has'
+one_cause setup s (until_passed time) (stopped_by monitor) has has' = absurd has'
 
 -- and so has each run, with a cut or without
 one_end : (setup : PlainSetup) (s : PlainState) (c c' : PlainEnd) → EndsBy setup s c → EndsBy setup s c' → c ≡ c'
@@ -58,12 +63,12 @@ one_outlook setup m clock o o' a b =
     ap₂ (λ count next. record { ready_count = count; next = next }) (a.ready_count_is ∙ ap (λ xs. length (ready clock xs)) same ∙ sym b.ready_count_is) (a.next_is ∙ ap next_time same ∙ sym b.next_is)
 
 same_finished
-    : (r r' : PlainFinished) → r.opening ≡ r'.opening → r.journal ≡ r'.journal → r.occurrences ≡ r'.occurrences → r.marking ≡ r'.marking → r.clock ≡ r'.clock → r.cause ≡ r'.cause → r.closing ≡ r'.closing → r ≡ r'
-same_finished r r' a j o m c e z =
+    : (r r' : PlainFinished) → r.opening ≡ r'.opening → r.journal ≡ r'.journal → r.occurrences ≡ r'.occurrences → r.marking ≡ r'.marking → r.clock ≡ r'.clock → r.cause ≡ r'.cause → r.closing ≡ r'.closing → r.values ≡ r'.values → r ≡ r'
+same_finished r r' a j o m c e z v =
     ap₂ (λ opening journal. record r { opening = opening; journal = journal }) a j
-    ∙ ap₂ (λ occurrences marking. record { opening = r'.opening; journal = r'.journal; occurrences = occurrences; marking = marking; clock = r.clock; cause = r.cause; closing = r.closing }) o m
-    ∙ ap₂ (λ clock cause. record { opening = r'.opening; journal = r'.journal; occurrences = r'.occurrences; marking = r'.marking; clock = clock; cause = cause; closing = r.closing }) c e
-    ∙ ap (λ closing. record r' { closing = closing }) z
+    ∙ ap₂ (λ occurrences marking. record { opening = r'.opening; journal = r'.journal; occurrences = occurrences; marking = marking; clock = r.clock; cause = r.cause; closing = r.closing; values = r.values }) o m
+    ∙ ap₂ (λ clock cause. record { opening = r'.opening; journal = r'.journal; occurrences = r'.occurrences; marking = r'.marking; clock = clock; cause = cause; closing = r.closing; values = r.values }) c e
+    ∙ ap₂ (λ closing values. record r' { closing = closing; values = values }) z v
 
 -- a journal is that of one run
 pub run_of_journal : (setup : PlainSetup) (r r' : PlainFinished) → r.journal ≡ r'.journal → IsRun setup r → IsRun setup r' → r ≡ r'
@@ -79,7 +84,7 @@ run_of_journal setup r r' journals a b =
     let R : Marking → ℕ → Type 0 = λ m clock. HasOutlook setup m clock r.closing in
     let closing : HasOutlook setup r'.marking r'.clock r.closing = subst (λ clock. R r'.marking clock) clocks (subst (λ m. R m r.clock) markings a.closing) in
     same_finished r r' (one_outlook setup setup.start setup.clock r.opening r'.opening a.opening b.opening) journals (a.occurrences_are ∙ ap (committed_occurrences setup) states ∙ sym b.occurrences_are) markings clocks causes
-    (one_outlook setup r'.marking r'.clock r.closing r'.closing closing b.closing)
+    (one_outlook setup r'.marking r'.clock r.closing r'.closing closing b.closing) (a.values_are ∙ ap (values_in setup) states ∙ sym b.values_are)
 
 -- with one seat a setup whose clock is one that the run may reach has one run
 pub one_run : (setup : PlainSetup) (r r' : PlainFinished) → setup.limits.seats ≡ 1 → setup.clock ≤ setup.limits.until → IsRun setup r → IsRun setup r' → r ≡ r'

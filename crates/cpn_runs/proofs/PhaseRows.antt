@@ -8,8 +8,10 @@ use Rattle.cpn_runs.specs.Phases.{PlainPhase, occurrences_of, IsInitialStart, Is
 use Rattle.cpn_runs.specs.Playable.{IsPlayable}
 use Rattle.cpn_runs.specs.State.{PlainSetup, PlainState}
 use Rattle.cpn_runs.proofs.GrownRuns.{phases_go_on}
+use Rattle.cpn_monitor.specs.Monitors.{counts, stops_by_count}
+use Rattle.cpn_runs.proofs.MeasuredRows.{monitor, each_kind}
 use Rattle.cpn_runs.proofs.MovedRows.{setup, moved_shown, moved_run}
-use Rattle.cpn_runs.proofs.PlayableRows.{worked_is_sound, seven_at, seven_is_marking}
+use Rattle.cpn_runs.proofs.PlayableRows.{worked_is_sound, seven_at, seven_is_marking, no_monitors, each_kind_fits, another_function}
 use Rattle.cpn_runs.proofs.States.{one_state}
 use Rattle.cpn_runs.proofs.WorkedNet.{seven, worked, seven_at_three, moved}
 
@@ -29,7 +31,7 @@ phase = record { setup = setup 2 3; run = moved_shown }
 
 first_phase : IsPhase worked.places 3 [] phase
 first_phase = record {
-  setup = record { sound = worked_is_sound; places_are = refl; start = inl (initial 3); until_is = refl; steps = omega arith; some_seat = omega arith; few_seats = omega arith };
+  setup = record { sound = worked_is_sound; places_are = refl; start = inl (initial 3); until_is = refl; steps = omega arith; some_seat = omega arith; few_seats = omega arith; monitors = no_monitors };
   is_run = moved_run;
 }
 
@@ -42,13 +44,13 @@ one_occurrence = refl
 -- ---- setups of the next one
 
 abbrev next_from : Marking → ℕ → ℕ → ℕ → PlainSetup
-next_from start clock steps until = record { net = worked; start = start; clock = clock; limits = record { steps = steps; until = until; seats = 64 }; seed = 5 }
+next_from start clock steps until = record { net = worked; start = start; clock = clock; limits = record { steps = steps; until = until; seats = 64 }; functions = []; monitors = []; seed = 5 }
 
 abbrev IsNext : PlainSetup → Type 0
 IsNext next = IsNextSetup worked.places 3 (phase ∷ []) next
 
 next_with : (start : Marking) (clock steps : ℕ) → IsNextStart worked.places (phase ∷ []) start clock → steps ≤ 999999 → IsNext (next_from start clock steps 3)
-next_with start clock steps is few = record { sound = worked_is_sound; places_are = refl; start = is; until_is = refl; steps = omega (arith, few); some_seat = omega arith; few_seats = omega arith }
+next_with start clock steps is few = record { sound = worked_is_sound; places_are = refl; start = is; until_is = refl; steps = omega (arith, few); some_seat = omega arith; few_seats = omega arith; monitors = no_monitors }
 
 -- where the phase ended, with 7 at 5 on place 1, at clock 3, with the claims that it left
 here : IsNext (next_from moved 3 999999 3)
@@ -64,6 +66,13 @@ initially = next_with seven_at_three 0 999999 (inl (initial 3)) (omega arith)
 
 at_another_marking : IsNext (next_from (seven_at 8) 0 1 3)
 at_another_marking = next_with (seven_at 8) 0 1 (inl (initial 8)) (omega arith)
+
+-- with monitors that fit the net, whatever the phase had; and so a run may start with them
+with_each_kind : IsNext (record (next_from moved 3 999999 3) { monitors = each_kind })
+with_each_kind = record { sound = worked_is_sound; places_are = refl; start = inr (refl, refl); until_is = refl; steps = omega arith; some_seat = omega arith; few_seats = omega arith; monitors = each_kind_fits }
+
+each_kind_is_playable : IsPlayable (record (next_from moved 3 999999 3) { monitors = each_kind })
+each_kind_is_playable = phases_go_on worked.places 3 (phase ∷ []) (record (next_from moved 3 999999 3) { monitors = each_kind }) (omega arith) one_phase with_each_kind
 
 -- ---- no setups of the next one
 
@@ -84,6 +93,13 @@ no_seat is = let seats : 0 < 0 = is.some_seat in omega (arith, seats)
 
 a_seat_too_many : IsNext (record (next_from moved 3 999999 3) { limits = record { steps = 999999; until = 3; seats = 65 } }) → ⊥
 a_seat_too_many is = let seats : 65 ≤ 64 = is.few_seats in omega (arith, seats)
+
+-- with a monitor of a transition that the net does not have, and with functions that are not the net's
+no_transition_to_stop_at : IsNext (record (next_from moved 3 999999 3) { monitors = monitor (stops_by_count 1 5) ∷ [] }) → ⊥
+no_transition_to_stop_at is = let there : 1 < 1 = is.monitors.measurable.0 in absurd (omega (arith, there))
+
+not_its_functions : IsNext (record (next_from moved 3 999999 3) { functions = another_function; monitors = monitor (counts 0) ∷ [] }) → ⊥
+not_its_functions is = let same = is.monitors.functions_are in cc
 
 -- where the phase ended, but at clock 0 or 2 or with another token: that is where it ended neither, nor initial
 not_at_another_clock : (clock : ℕ) → 0 < clock → clock < 3 → IsNextStart worked.places (phase ∷ []) moved clock → ⊥
@@ -117,7 +133,7 @@ not_with_tokens_too_many number more is =
 
 -- the same phase again, which starts at the initial marking
 once_more : ArePhases worked.places 3 (phase ∷ phase ∷ [])
-once_more = (record { setup = record { sound = worked_is_sound; places_are = refl; start = inl (initial 3); until_is = refl; steps = omega arith; some_seat = omega arith; few_seats = omega arith }; is_run = moved_run }, one_phase)
+once_more = (record { setup = record { sound = worked_is_sound; places_are = refl; start = inl (initial 3); until_is = refl; steps = omega arith; some_seat = omega arith; few_seats = omega arith; monitors = no_monitors }; is_run = moved_run }, one_phase)
 
 -- what is shown is no run of the setup: it ended at clock 3, and not at 4
 not_with_another_end : IsPhase worked.places 3 [] (record { setup = setup 2 3; run = record moved_shown { clock = 4 } }) → ⊥

@@ -90,14 +90,18 @@ fault_adds_nothing = refl
 abbrev state_of : List PlainClaim → PlainState
 state_of claims = record { clock = 5; claims = claims; cut = None }
 
+-- a setup without monitors
+abbrev unmonitored : PlainSetup → PlainSetup
+unmonitored setup = record setup { monitors = [] }
+
 -- one that is done, then a hole, then one that is done
 abbrev at_a_hole : PlainState
 at_a_hole = state_of (claim 0 5 (need 0 0 ∷ []) (done_with (output 1 6 ∷ [])) ∷ claim 0 5 [] open_claim ∷ claim 1 5 (need 0 0 ∷ []) (done_with (output 1 8 ∷ [])) ∷ [])
 
-one_is_committed : (setup : PlainSetup) → committed setup at_a_hole ≡ 1
+one_is_committed : (setup : PlainSetup) → committed (unmonitored setup) at_a_hole ≡ 1
 one_is_committed setup = refl
 
-one_occurrence : (setup : PlainSetup) → committed_occurrences setup at_a_hole ≡ record { number = 0; time = 5; element = element } ∷ []
+one_occurrence : (setup : PlainSetup) → committed_occurrences (unmonitored setup) at_a_hole ≡ record { number = 0; time = 5; element = element } ∷ []
 one_occurrence setup = refl
 
 settled_at_a_hole : settled start 1 at_a_hole.claims ≡ Some ((token_at seven 0 ∷ []) ∷ (token_at seven 6 ∷ []) ∷ [])
@@ -106,23 +110,23 @@ settled_at_a_hole = refl
 unclaimed_past_it : unclaimed start at_a_hole.claims ≡ Some ([] ∷ (token_at seven 6 ∷ token_at seven 8 ∷ []) ∷ [])
 unclaimed_past_it = refl
 
-none_is_committed : (setup : PlainSetup) → committed setup (state_of (claim 0 5 [] (faulted_with overflow) ∷ claim 1 5 [] (done_with []) ∷ [])) ≡ 0
+none_is_committed : (setup : PlainSetup) → committed (unmonitored setup) (state_of (claim 0 5 [] (faulted_with overflow) ∷ claim 1 5 [] (done_with []) ∷ [])) ≡ 0
 none_is_committed setup = refl
 
-numbers_from_0 : (setup : PlainSetup) → committed_occurrences setup (state_of (claim 0 5 [] (done_with []) ∷ claim 1 5 [] (done_with []) ∷ [])) ≡ record { number = 0; time = 5; element = element } ∷ record { number = 1; time = 5; element = element } ∷ []
+numbers_from_0 : (setup : PlainSetup) → committed_occurrences (unmonitored setup) (state_of (claim 0 5 [] (done_with []) ∷ claim 1 5 [] (done_with []) ∷ [])) ≡ record { number = 0; time = 5; element = element } ∷ record { number = 1; time = 5; element = element } ∷ []
 numbers_from_0 setup = refl
 
 -- ---- which cut is owed
 
 -- the first claim that is not committed has a fault: the cut has its number and the fault as its cause
-cut_is_owed : (setup : PlainSetup) → owed_cut setup (state_of (claim 0 5 [] (done_with []) ∷ claim 1 5 [] (faulted_with not_in_colour) ∷ claim 0 5 [] (faulted_with overflow) ∷ [])) ≡ Some (record { number = 1; cause = fault_end element not_in_colour })
+cut_is_owed : (setup : PlainSetup) → owed_cut (unmonitored setup) (state_of (claim 0 5 [] (done_with []) ∷ claim 1 5 [] (faulted_with not_in_colour) ∷ claim 0 5 [] (faulted_with overflow) ∷ [])) ≡ Some (record { number = 1; cause = fault_end element not_in_colour })
 cut_is_owed setup = refl
 
 -- behind an open claim a fault owes none yet; and none is owed where each claim is done
-none_behind_a_hole : (setup : PlainSetup) → owed_cut setup (state_of (claim 0 5 [] (done_with []) ∷ claim 1 5 [] open_claim ∷ claim 0 5 [] (faulted_with overflow) ∷ [])) ≡ None
+none_behind_a_hole : (setup : PlainSetup) → owed_cut (unmonitored setup) (state_of (claim 0 5 [] (done_with []) ∷ claim 1 5 [] open_claim ∷ claim 0 5 [] (faulted_with overflow) ∷ [])) ≡ None
 none_behind_a_hole setup = refl
 
-none_where_done : (setup : PlainSetup) → owed_cut setup (state_of (claim 0 5 [] (done_with []) ∷ claim 1 5 [] (done_with []) ∷ [])) ≡ None
+none_where_done : (setup : PlainSetup) → owed_cut (unmonitored setup) (state_of (claim 0 5 [] (done_with []) ∷ claim 1 5 [] (done_with []) ∷ [])) ≡ None
 none_where_done setup = refl
 
 -- ---- what becomes of a claim

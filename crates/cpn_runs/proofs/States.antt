@@ -9,7 +9,7 @@ use Rattle.std.proofs.lemmas.Option.{same_Some}
 use Rattle.std.proofs.lemmas.List.{take-append-drop}
 use Rattle.std.proofs.lemmas.List.Sums.{sum_by-cons, sum_by-append}
 use Rattle.cpn_definitions.specs.Marking.{Marking}
-use Rattle.cpn_definitions.specs.Outcome.{Fault, Outcome, gives, faults, no_meaning}
+use Rattle.cpn_definitions.specs.Outcome.{Outcome, gives, faults, no_meaning}
 use Rattle.cpn_definitions.specs.Net.{PlainNet}
 use Rattle.cpn_definitions.specs.Occurrence.{PlainElement, Made, covered, needs_of, outputs_of}
 use Rattle.cpn_definitions.specs.Legal.{LeastTime}
@@ -17,9 +17,9 @@ use Rattle.cpn_definitions.specs.Enabled.{PlainEntry, Enabled, ready}
 use Rattle.cpn_definitions.proofs.RisingLists.{in_filter_from, contains_from_in, each_appended}
 use Rattle.cpn_definitions.proofs.OneEnabledList.{enabled_is_unique}
 use Rattle.cpn_definitions.proofs.ListItems.{IsSplit, split_at, in_from_get, map_more, all_parts}
-use Rattle.cpn_runs.specs.HoleRun.{PlainClaim, Status, done_with, faulted_with, is_open, done_prefix}
-use Rattle.cpn_runs.specs.State.{PlainSetup, PlainEvent, claim_made, claim_completed, clock_moved, cut_made, PlainEnd, fault_end, PlainCut, PlainState, first_state, owed_cut, is_held_by, given_needs, new_claim, status_after, IsDrawn, MayClaim, MayComplete, MayMove, MayCut, Happens, Leads, IsState, HasCause, EndsBy}
-use Rattle.cpn_runs.proofs.Cuts.{AreDone, committed_are_done, as_many_are_committed, done_owe_none, done_is_not_open, done_at, fewer_first, IsOwed, owed_is}
+use Rattle.cpn_runs.specs.HoleRun.{PlainClaim, Status, done_with, faulted_with, is_open}
+use Rattle.cpn_runs.specs.State.{PlainSetup, PlainEvent, claim_made, claim_completed, clock_moved, cut_made, PlainEnd, dead, steps_made, until_passed, fault_end, stopped_by, PlainCut, PlainState, first_state, committed, stop_in, owed_cut, is_held_by, given_needs, new_claim, status_after, IsDrawn, MayClaim, MayComplete, MayMove, MayCut, Happens, Leads, IsState, HasCause, EndsBy}
+use Rattle.cpn_runs.proofs.Cuts.{AreDone, committed_are_done, as_many_are_committed, done_is_not_open, done_at, fewer_first, IsForFault, IsOwed, owed_is, left_by, left_all, left_stop, left_owes_none}
 
 -- ---- one state
 
@@ -180,16 +180,22 @@ pub record IsUncut (journal : List PlainEvent) (state : PlainState) : Type 0 whe
   pub claimed_by : map (λ (claim : PlainClaim). claim.seat) state.claims ≡ claim_seats journal
   pub balance : (seat : ℕ) → count_by (is_held_by seat) state.claims + count_by (is_completion_by seat) journal ≡ count_by (is_claim_by seat) journal
 
--- What a cut leaves: just the claims ahead of its number, which are all done. It was made for the claim of that number, which
--- was done with a fault; the fault is the cause.
+-- What a cut was made for: a claim of the run that was done with a fault, where no monitor stops the run after the last claim; or the first
+-- monitor that does.
+abbrev pub IsCutFor : PlainSetup → PlainState → PlainEnd → Type 0
+IsCutFor setup state dead = ⊥
+IsCutFor setup state steps_made = ⊥
+IsCutFor setup state (until_passed time) = ⊥
+IsCutFor setup state (fault_end e fault) = (removed : PlainClaim) × IsClaimOf setup removed × (removed.status ≡ faulted_with fault) × (removed.element ≡ e) × (stop_in setup state ≡ None)
+IsCutFor setup state (stopped_by monitor) = stop_in setup state ≡ Some monitor
+
+-- What a cut leaves: just the claims ahead of its number, which are all done and committed, and no other cut is owed.
 pub record IsCutOff (setup : PlainSetup) (state : PlainState) (cut : PlainCut) : Type 0 where
   pub number_is : cut.number ≡ length state.claims
   pub all_done : AreDone state.claims
-  pub removed : PlainClaim
-  pub removed_is : IsClaimOf setup removed
-  pub fault : Fault
-  pub fault_is : removed.status ≡ faulted_with fault
-  pub cause_is : cut.cause ≡ fault_end removed.element fault
+  pub all_committed : committed setup state ≡ length state.claims
+  pub none_owed : owed_cut setup state ≡ None
+  pub made_for : IsCutFor setup state cut.cause
 
 -- What holds in each state that a journal allows: the clock did not go back, and is one that the run may reach; at most as many claims were made as may be,
 -- numbered from 0; each that stands is one of the run; no seat has two open claims; and what holds before a cut and after it.
@@ -435,6 +441,31 @@ move_reaches setup journal old time new r c =
 
 -- ---- a cut
 
+-- no cut stands where one is owed
+pub uncut_where_owed : (setup : PlainSetup) (journal : List PlainEvent) (old : PlainState) (cut : PlainCut) → IsReached setup journal old → owed_cut setup old ≡ Some cut → old.cut ≡ None
+uncut_where_owed setup journal old cut r owed = by old.cut refl
+  where
+    by : (stands : Option PlainCut) → old.cut ≡ stands → stands ≡ None
+    by None is = refl
+    by (Some stood) is = absurd (some_is_not_none (owed_cut setup old) cut owed (r.cut_off stood is).none_owed)
+
+-- what is left by a cut that is owed
+left_by_a_cut : (setup : PlainSetup) (journal : List PlainEvent) (old : PlainState) (cut : PlainCut) → IsReached setup journal old → IsOwed setup old cut → IsCutOff setup (left_by setup old cut) cut
+left_by_a_cut setup journal old cut r owed = record {
+  number_is = owed.number_is ∙ sym (as_many_are_committed setup.monitors [] setup.start old.claims);
+  all_done = committed_are_done setup.monitors [] setup.start old.claims;
+  all_committed = left_all setup old cut;
+  none_owed = left_owes_none setup old cut owed;
+  made_for = for_it owed.cause;
+}
+  where
+    for_it : ((monitor : ℕ) × (stop_in setup old ≡ Some monitor) × (cut.cause ≡ stopped_by monitor)) ⊎ ((stop_in setup old ≡ None) × IsForFault old.claims (committed setup old) cut) → IsCutFor setup (left_by setup old cut) cut.cause
+    for_it (inl (monitor, stop, cause)) = subst (IsCutFor setup (left_by setup old cut)) (sym cause) (left_stop setup old cut ∙ stop)
+    for_it (inr (goes_on, fault)) =
+        let parts = split_at old.claims (committed setup old) fault.faulted fault.claim_is in
+        let removed_is : IsClaimOf setup fault.faulted = (all_parts (IsClaimOf setup) parts.before (fault.faulted ∷ parts.later) (subst (AllByRecursion (IsClaimOf setup)) parts.is r.claims_are)).1.0 in
+        subst (IsCutFor setup (left_by setup old cut)) (sym fault.cause_is) (fault.faulted, removed_is, fault.fault_is, refl, left_stop setup old cut ∙ goes_on)
+
 cut_reaches : (setup : PlainSetup) (journal : List PlainEvent) (old : PlainState) (number : ℕ) (new : PlainState) → IsReached setup journal old → MayCut setup old number new → IsReached setup (journal ++ cut_made number ∷ []) new
 cut_reaches setup journal old number new r c =
     let numbers_are = numbers_joined journal (cut_made number ∷ []) ∙ no_more (claim_numbers journal) in
@@ -446,28 +477,13 @@ cut_reaches setup journal old number new r c =
       claims_are = (all_parts (IsClaimOf setup) (take number old.claims) (drop number old.claims) whole).0;
       one_each = λ s. fewer (fewer_first (is_held_by s) number old.claims) (r.one_each s);
       uncut = λ none. absurd (some_is_not_none (Some c.cut) c.cut refl none);
-      cut_off = λ cut is. subst (IsCutOff setup cut_state) (same_Some c.cut cut is) (record {
-        number_is = sym c.number_is ∙ at ∙ sym (as_many_are_committed old.claims) ∙ ap (λ (k : ℕ). length (take k old.claims)) (sym at);
-        all_done = subst (λ (k : ℕ). AreDone (take k old.claims)) (sym at) (committed_are_done old.claims);
-        removed = owed.faulted;
-        removed_is = (all_parts (IsClaimOf setup) parts.before (owed.faulted ∷ parts.later) (subst (AllByRecursion (IsClaimOf setup)) parts.is r.claims_are)).1.0;
-        fault = owed.fault;
-        fault_is = owed.fault_is;
-        cause_is = owed.cause_is;
-      });
+      cut_off = λ cut is.
+          subst (λ k. IsCutOff setup (record old { claims = take k old.claims; cut = Some c.cut }) cut) (sym (c.number_is ∙ owed.number_is))
+          (subst (λ k. IsCutOff setup (record old { claims = take (committed setup old) old.claims; cut = Some c.cut }) k) (same_Some c.cut cut is) (left_by_a_cut setup journal old c.cut r owed));
     })
   where
-    cut_state : PlainState
-    cut_state = record old { claims = take number old.claims; cut = Some c.cut }
-
-    owed : IsOwed old.claims c.cut
-    owed = owed_is old.claims c.cut c.owed
-
-    at : number ≡ done_prefix old.claims
-    at = c.number_is ∙ owed.number_is
-
-    parts : IsSplit old.claims (done_prefix old.claims) owed.faulted
-    parts = split_at old.claims (done_prefix old.claims) owed.faulted owed.claim_is
+    owed : IsOwed setup old c.cut
+    owed = owed_is setup old c.cut (uncut_where_owed setup journal old c.cut r c.owed) c.owed
 
     whole : AllByRecursion (IsClaimOf setup) (take number old.claims ++ drop number old.claims)
     whole = subst (AllByRecursion (IsClaimOf setup)) (sym (take-append-drop number old.claims)) r.claims_are
@@ -513,4 +529,4 @@ nothing_happens_after_a_cut setup journal old cut (claim_made seat number) new r
 nothing_happens_after_a_cut setup journal old cut (claim_completed seat number) new r stands happens = no_completion_after_a_cut setup journal old seat number new cut r stands happens
 nothing_happens_after_a_cut setup journal old cut (clock_moved time) new r stands happens = some_is_not_none old.cut cut stands happens.no_cut
 nothing_happens_after_a_cut setup journal old cut (cut_made number) new r stands happens =
-    some_is_not_none (owed_cut setup old) happens.cut happens.owed (done_owe_none old.claims (r.cut_off cut stands).all_done)
+    some_is_not_none (owed_cut setup old) happens.cut happens.owed (r.cut_off cut stands).none_owed

@@ -8,6 +8,7 @@ use Rattle.cpn_definitions.specs.Enabled.{PlainEntry, Enabled}
 use Rattle.cpn_definitions.specs.Legal.{LeastTime, Legal}
 use Rattle.cpn_definitions.proofs.TruthValues.{not_both}
 use Rattle.cpn_draw.specs.Draw.{word}
+use Rattle.cpn_monitor.specs.Monitors.{PlainMonitor}
 use Rattle.cpn_runs.specs.HoleRun.{PlainClaim, done_with}
 use Rattle.cpn_runs.specs.State.{PlainSetup, PlainEvent, claim_made, claim_completed, PlainEnd, dead, steps_made, fault_end, PlainState, first_state, new_claim, IsDrawn, MayClaim, MayComplete, IsState, EndsBy}
 use Rattle.cpn_runs.specs.Run.{HasOutlook, PlainFinished, IsRun}
@@ -18,7 +19,11 @@ abbrev pub start : Marking
 start = (token_at seven 0 ∷ token_at seven 3 ∷ []) ∷ [] ∷ []
 
 abbrev pub setup : PlainSetup
-setup = record { net = worked; start = start; clock = 3; limits = record { steps = 2; until = 100; seats = 2 }; seed = 11 }
+setup = record { net = worked; start = start; clock = 3; limits = record { steps = 2; until = 100; seats = 2 }; functions = []; monitors = []; seed = 11 }
+
+-- the same with monitors
+abbrev pub monitored : List PlainMonitor → PlainSetup
+monitored monitors = record setup { monitors = monitors }
 
 -- its states: seat 0 claims, seat 1 claims, seat 1 completes, seat 0 completes
 abbrev pub with_claims : List PlainClaim → PlainState
@@ -27,22 +32,22 @@ with_claims claims = record { clock = 3; claims = claims; cut = None }
 abbrev pub opened : ℕ → PlainClaim
 opened seat = new_claim worked seat 3 move
 
-abbrev output : Made
+abbrev pub output : Made
 output = record { place = 1; value = seven; stamp = 5 }
 
 abbrev pub done : ℕ → PlainClaim
 done seat = record (opened seat) { status = done_with (output ∷ []) }
 
-abbrev one_claimed : PlainState
+abbrev pub one_claimed : PlainState
 one_claimed = with_claims (opened 0 ∷ [])
 
-abbrev both_claimed : PlainState
+abbrev pub both_claimed : PlainState
 both_claimed = with_claims (opened 0 ∷ opened 1 ∷ [])
 
-abbrev second_done : PlainState
+abbrev pub second_done : PlainState
 second_done = with_claims (opened 0 ∷ done 1 ∷ [])
 
-abbrev both_done : PlainState
+abbrev pub both_done : PlainState
 both_done = with_claims (done 0 ∷ done 1 ∷ [])
 
 remainder_by_one : (x : ℕ) → x % 1 ≡ 0
@@ -55,9 +60,10 @@ drawn_alone seed k x = subst (λ i. slice_get (x ∷ []) i ≡ Some x) (sym (rem
 pub enabled_now : (m : Marking) → covered worked m 3 move ≡ true → Enabled worked m 3 (entry 3 ∷ [])
 enabled_now m is = one_is_enabled m 3 3 (omega arith) is (λ s from below. absurd (omega arith))
 
-first_claim : MayClaim setup (first_state setup) 0 0 one_claimed
+-- whatever monitors there are: nothing is committed before claim 0 is done
+pub first_claim : (monitors : List PlainMonitor) → MayClaim (monitored monitors) (first_state (monitored monitors)) 0 0 one_claimed
 unfolding covered needs_of
-first_claim = record {
+first_claim monitors = record {
   no_cut = refl;
   none_owed = refl;
   next_number = refl;
@@ -73,9 +79,9 @@ first_claim = record {
   new_is = refl;
 }
 
-second_claim : MayClaim setup one_claimed 1 1 both_claimed
+pub second_claim : (monitors : List PlainMonitor) → MayClaim (monitored monitors) one_claimed 1 1 both_claimed
 unfolding covered needs_of
-second_claim = record {
+second_claim monitors = record {
   no_cut = refl;
   none_owed = refl;
   next_number = refl;
@@ -91,32 +97,32 @@ second_claim = record {
   new_is = refl;
 }
 
-second_completion : MayComplete setup both_claimed 1 1 second_done
+pub second_completion : (monitors : List PlainMonitor) → MayComplete (monitored monitors) both_claimed 1 1 second_done
 unfolding outputs_of
-second_completion = record { none_owed = refl; held_claim = opened 1; claim_is = refl; held = refl; status = done_with (output ∷ []); status_is = refl; new_is = refl }
+second_completion monitors = record { none_owed = refl; held_claim = opened 1; claim_is = refl; held = refl; status = done_with (output ∷ []); status_is = refl; new_is = refl }
 
-first_completion : MayComplete setup second_done 0 0 both_done
+pub first_completion : (monitors : List PlainMonitor) → MayComplete (monitored monitors) second_done 0 0 both_done
 unfolding outputs_of
-first_completion = record { none_owed = refl; held_claim = opened 0; claim_is = refl; held = refl; status = done_with (output ∷ []); status_is = refl; new_is = refl }
+first_completion monitors = record { none_owed = refl; held_claim = opened 0; claim_is = refl; held = refl; status = done_with (output ∷ []); status_is = refl; new_is = refl }
 
-abbrev journal : List PlainEvent
+abbrev pub journal : List PlainEvent
 journal = claim_made 0 0 ∷ claim_made 1 1 ∷ claim_completed 1 1 ∷ claim_completed 0 0 ∷ []
 
 reached : IsState setup journal both_done
-reached = (one_claimed, first_claim, (both_claimed, second_claim, (second_done, second_completion, (both_done, first_completion, refl))))
+reached = (one_claimed, first_claim [], (both_claimed, second_claim [], (second_done, second_completion [], (both_done, first_completion [], refl))))
 
 ends_by_steps : EndsBy setup both_done steps_made
 ends_by_steps = record { none_open = refl; none_owed = refl; has_cause = refl }
 
 -- ---- the run
 
-abbrev last : Marking
+abbrev pub last : Marking
 last = [] ∷ (token_at seven 5 ∷ token_at seven 5 ∷ []) ∷ []
 
-least_at_three : (m : Marking) → covered worked m 3 move ≡ true → LeastTime worked m 3 3
+pub least_at_three : (m : Marking) → covered worked m 3 move ≡ true → LeastTime worked m 3 3
 least_at_three m is = record { not_before = omega arith; some = (move, is); none_earlier = λ s e from below. absurd (omega arith) }
 
-legal : Legal worked start 3 (record { element = move; time = 3 } ∷ record { element = move; time = 3 } ∷ []) last 3
+pub legal : Legal worked start 3 (record { element = move; time = 3 } ∷ record { element = move; time = 3 } ∷ []) last 3
 unfolding covered needs_of outputs_of after
 legal =
     let between : Marking = (token_at seven 0 ∷ []) ∷ (token_at seven 5 ∷ []) ∷ [] in
@@ -126,7 +132,7 @@ not_covered_last : (time : ℕ) → covered worked last time move ≡ false
 unfolding covered needs_of
 not_covered_last time = refl
 
-abbrev run : PlainFinished
+abbrev pub run : PlainFinished
 run = record {
   opening = record { ready_count = 1; next = Some 3 };
   journal = journal;
@@ -135,18 +141,19 @@ run = record {
   clock = 3;
   cause = steps_made;
   closing = record { ready_count = 0; next = None };
+  values = [];
 }
 
-opening : HasOutlook setup start 3 (record { ready_count = 1; next = Some 3 })
+pub opening : (monitors : List PlainMonitor) → HasOutlook (monitored monitors) start 3 (record { ready_count = 1; next = Some 3 })
 unfolding covered needs_of
-opening = record { entries = entry 3 ∷ []; enabled = enabled_now start refl; ready_count_is = refl; next_is = refl }
+opening monitors = record { entries = entry 3 ∷ []; enabled = enabled_now start refl; ready_count_is = refl; next_is = refl }
 
-closing : HasOutlook setup last 3 (record { ready_count = 0; next = None })
-closing = record { entries = []; enabled = none_is_enabled last 3 (λ time e. no_other last time e (not_covered_last time)); ready_count_is = refl; next_is = refl }
+pub closing : (monitors : List PlainMonitor) → HasOutlook (monitored monitors) last 3 (record { ready_count = 0; next = None })
+closing monitors = record { entries = []; enabled = none_is_enabled last 3 (λ time e. no_other last time e (not_covered_last time)); ready_count_is = refl; next_is = refl }
 
 is_run : IsRun setup run
 unfolding needs_of
-is_run = record { state = both_done; reached = reached; ends = ends_by_steps; occurrences_are = refl; marking_is = refl; clock_is = refl; legal = legal; opening = opening; true_fault = tt; closing = closing }
+is_run = record { state = both_done; reached = reached; ends = ends_by_steps; occurrences_are = refl; marking_is = refl; clock_is = refl; legal = legal; opening = opening []; true_fault = tt; true_stop = tt; closing = closing []; values_are = refl }
 
 -- ---- what ends a run, and what does not
 

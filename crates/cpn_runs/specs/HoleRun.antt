@@ -1,5 +1,5 @@
 -- The marking that the claims of a run leave, and the stamps that each of them took. Source: own choice.
-use Rattle.std.specs.Prelude.{ℕ, suc, Bool, true, false, if◌then◌else◌, List, [], ◌∷◌, take, Option, Some, None}
+use Rattle.std.specs.Prelude.{ℕ, Bool, true, false, if◌then◌else◌, List, [], ◌∷◌, take, Option, Some, None}
 use Rattle.std.specs.Option.{option_map}
 use Rattle.cpn_definitions.specs.Value.{PlainValue}
 use Rattle.cpn_definitions.specs.Marking.{Marking, tokens_at, on_place, stamps, begins_by, without_token}
@@ -90,8 +90,3 @@ abbrev pub is_done : Status → Bool
 is_done open_claim = false
 is_done (done_with outputs) = true
 is_done (faulted_with fault) = false
-
--- the length of the longest prefix of claims in which each is done without fault
-abbrev pub done_prefix : List PlainClaim → ℕ
-done_prefix [] = 0
-done_prefix (claim ∷ claims) = if is_done claim.status then suc (done_prefix claims) else 0

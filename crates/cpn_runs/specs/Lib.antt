@@ -1,6 +1,8 @@
 pub mod HoleRun
 pub mod Filling
+pub mod Commits
 pub mod State
+pub mod MeasuredStates
 pub mod Run
 pub mod Views
 pub mod FinishedViews

@@ -6,6 +6,7 @@ use Rattle.cpn_definitions.specs.Net.{Coloured}
 use Rattle.cpn_definitions.specs.Sound.{IsSound, IsMarking}
 use Rattle.cpn_definitions.specs.Terms.{most_tokens}
 use Rattle.cpn_definitions.specs.Times.{last_time}
+use Rattle.cpn_monitor.specs.Fitting.{FitNet}
 use Rattle.cpn_runs.specs.Bounds.{most_steps}
 use Rattle.cpn_runs.specs.Playable.{IsPlayable}
 use Rattle.cpn_runs.specs.Run.{PlainFinished, IsRun}
@@ -36,13 +37,14 @@ abbrev pub IsNextStart : List Coloured → List PlainPhase → Marking → ℕ �
 IsNextStart places earlier start clock = IsInitialStart places start clock ⊎ IsWhereLatestEnded earlier start clock
 
 -- A setup of the next phase: a sound net with these places, whatever its guards are; a next start; the last time of all phases; no more
--- claims than 1,000,000 less the earlier occurrences; and 1 to 64 seats.
+-- claims than 1,000,000 less the earlier occurrences; monitors that fit the net; and 1 to 64 seats.
 pub record IsNextSetup (places : List Coloured) (until : ℕ) (earlier : List PlainPhase) (setup : PlainSetup) : Type 0 where
   pub sound : IsSound setup.net
   pub places_are : setup.net.places ≡ places
   pub start : IsNextStart places earlier setup.start setup.clock
   pub until_is : setup.limits.until ≡ until
   pub steps : setup.limits.steps ≤ most_steps - occurrences_of earlier
+  pub monitors : FitNet setup.net setup.functions setup.monitors
   pub some_seat : 0 < setup.limits.seats
   pub few_seats : setup.limits.seats ≤ 64
 

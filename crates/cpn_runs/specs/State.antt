@@ -1,8 +1,9 @@
 -- What a run's journal says: the events that may happen, and the state that they lead to.
 -- Source: own choice. The occurrences of such a run are a legal occurrence sequence of Jensen and
 -- Kristensen, chapter 11, which is a theorem and no part of this definition.
-use Rattle.std.specs.Prelude.{◌≡◌, ◌≢◌, ℕ, suc, ◌<◌, ◌≤◌, ◌%◌, ◌&&◌, ◌==◌, Bool, true, false, List, [], ◌∷◌, ◌++◌, length, take, Option, Some, None, MatchOption, slice_get, slice_set}
+use Rattle.std.specs.Prelude.{◌≡◌, ◌≢◌, ℕ, suc, ◌<◌, ◌≤◌, ◌%◌, ◌&&◌, ◌==◌, if◌then◌else◌, Bool, true, false, List, [], ◌∷◌, ◌++◌, length, take, Option, Some, None, MatchOption, slice_get, slice_set}
 use Rattle.std.specs.List.{list_any}
+use Rattle.cpn_definitions.specs.Inscription.{Functions}
 use Rattle.cpn_definitions.specs.Marking.{Marking}
 use Rattle.cpn_definitions.specs.Net.{PlainNet}
 use Rattle.cpn_definitions.specs.Outcome.{Fault, Outcome, gives, faults, no_meaning}
@@ -10,7 +11,10 @@ use Rattle.cpn_definitions.specs.Occurrence.{PlainElement, Needed, Made, covered
 use Rattle.cpn_definitions.specs.Enabled.{PlainEntry, Enabled, ready, IsDead}
 use Rattle.cpn_definitions.specs.Legal.{LeastTime, PlainOccurrence}
 use Rattle.cpn_draw.specs.Draw.{word}
-use Rattle.cpn_runs.specs.HoleRun.{PlainClaim, Status, open_claim, done_with, faulted_with, unclaimed, settled, is_open, done_prefix}
+use Rattle.cpn_monitor.specs.Monitors.{PlainMonitor}
+use Rattle.std.specs.Option.{option_or}
+use Rattle.cpn_runs.specs.Commits.{marked_from, stop_at_last, committed_from}
+use Rattle.cpn_runs.specs.HoleRun.{PlainClaim, Status, open_claim, done_with, faulted_with, unclaimed, settled, is_open}
 
 -- The limits of a run: how many claims it may make, the last time that it may reach, and its seats.
 pub record PlainLimits : Type 0 where
@@ -18,12 +22,14 @@ pub record PlainLimits : Type 0 where
   pub until : ℕ
   pub seats : ℕ
 
--- What a run starts from: its net, marking and clock, its limits, and the seed of its draws.
+-- What a run starts from: its net, marking and clock, its limits, its monitors with the functions that they call, and the seed of its draws.
 pub record PlainSetup : Type 0 where
   pub net : PlainNet
   pub start : Marking
   pub clock : ℕ
   pub limits : PlainLimits
+  pub functions : Functions
+  pub monitors : List PlainMonitor
   pub seed : ℕ
 
 -- An event of a run: a seat claims a ready element, under the next number; a seat completes the
@@ -35,12 +41,13 @@ pub data PlainEvent : Type 0 where
   cut_made : ℕ → PlainEvent
 
 -- How a run ends: no element is covered at any time; as many claims were made as it may make; the least time at which an
--- element is covered is above the last one that it may reach; or the outputs of an element had a fault.
+-- element is covered is above the last one that it may reach; the outputs of an element had a fault; or the monitor of a number stopped it.
 pub data PlainEnd : Type 0 where
   dead : PlainEnd
   steps_made : PlainEnd
   until_passed : ℕ → PlainEnd
   fault_end : PlainElement → Fault → PlainEnd
+  stopped_by : ℕ → PlainEnd
 
 -- A cut: the number from which on claims were removed, and the cause.
 pub record PlainCut : Type 0 where
@@ -60,9 +67,16 @@ first_state setup = record { clock = setup.clock; claims = []; cut = None }
 abbrev pub unclaimed_in : PlainSetup → PlainState → Option Marking
 unclaimed_in setup state = unclaimed setup.start state.claims
 
--- how many claims are committed: those of the longest prefix in which each is done without fault
+-- how many claims are committed: those of the longest prefix in which each is done without fault, and no monitor stops the run after any but the last
 abbrev pub committed : PlainSetup → PlainState → ℕ
-committed setup state = done_prefix state.claims
+committed setup state = committed_from setup.monitors [] setup.start state.claims
+
+abbrev pub committed_claims : PlainSetup → PlainState → List PlainClaim
+committed_claims setup state = take (committed setup state) state.claims
+
+-- the first of the monitors that stops the run after the last committed claim, if one does
+abbrev pub stop_in : PlainSetup → PlainState → Option ℕ
+stop_in setup state = stop_at_last setup.monitors (marked_from setup.start (committed_claims setup state))
 
 -- the marking that the committed claims leave
 abbrev pub settled_in : PlainSetup → PlainState → Option Marking
@@ -78,9 +92,28 @@ abbrev pub cut_at : ℕ → Option PlainClaim → Option PlainCut
 cut_at k None = None
 cut_at k (Some claim) = cut_by k claim.element claim.status
 
--- the cut that is owed: at the first claim that is not committed, where it is done with a fault
+-- whether a cause is that a monitor stops the run
+abbrev pub is_cause : ℕ → PlainEnd → Bool
+is_cause monitor dead = false
+is_cause monitor steps_made = false
+is_cause monitor (until_passed time) = false
+is_cause monitor (fault_end e fault) = false
+is_cause monitor (stopped_by other) = monitor == other
+
+-- whether a cut is the one that a monitor makes after so many claims
+abbrev pub is_cut_by_stop : ℕ → ℕ → Option PlainCut → Bool
+is_cut_by_stop k monitor None = false
+is_cut_by_stop k monitor (Some cut) = (k == cut.number) && is_cause monitor cut.cause
+
+-- the cut that a monitor makes owed which stops the run after so many claims, unless it stands
+abbrev pub cut_by_stop : ℕ → Option ℕ → Option PlainCut → Option PlainCut
+cut_by_stop k None stands = None
+cut_by_stop k (Some monitor) stands = if is_cut_by_stop k monitor stands then None else Some (record { number = k; cause = stopped_by monitor })
+
+-- the cut that is owed: after the committed claims, where a monitor stops the run after the last of them; else at the first claim that is not
+-- committed, where it is done with a fault
 abbrev pub owed_cut : PlainSetup → PlainState → Option PlainCut
-owed_cut setup state = cut_at (committed setup state) (slice_get state.claims (committed setup state))
+owed_cut setup state = option_or (cut_by_stop (committed setup state) (stop_in setup state) state.cut) (cut_at (committed setup state) (slice_get state.claims (committed setup state)))
 
 -- whether a claim is open, and is open for the seat
 abbrev pub is_held_by : ℕ → PlainClaim → Bool
@@ -185,7 +218,7 @@ numbered k (claim ∷ claims) = record { number = k; time = claim.time; element 
 
 -- the occurrences of the committed claims, in claim order
 abbrev pub committed_occurrences : PlainSetup → PlainState → List PlainOccurrence
-committed_occurrences setup state = numbered 0 (take (committed setup state) state.claims)
+committed_occurrences setup state = numbered 0 (committed_claims setup state)
 
 -- the cause for which a run with no cut ends, the first that holds: the limit of claims is reached; nothing is covered at any
 -- time; or the least time at which something is covered is above the last that the run may reach
@@ -199,6 +232,7 @@ HasCause setup state (until_passed time) =
     × (setup.limits.until < time)
     × ((marking : Marking) × (unclaimed_in setup state ≡ Some marking) × LeastTime setup.net marking state.clock time)
 HasCause setup state (fault_end e fault) = ⊥
+HasCause setup state (stopped_by monitor) = ⊥
 
 -- End: no claim is open and no cut is owed. The cause is that of the last cut, or else that for which a run
 -- with no cut ends.

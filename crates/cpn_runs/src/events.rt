@@ -31,6 +31,8 @@ pub struct Limits {
 /// The cause of a run's end, in the order in which they are tried.
 #[derive(Drop)]
 pub enum End {
+    /// The monitor of this number, from 0, stops the run after its last occurrence.
+    Stop(u64),
     /// The outputs of the element have this fault.
     Fault(Element, EvalFault),
     /// As many claims were made as the limit allows.

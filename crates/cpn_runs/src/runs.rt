@@ -2,6 +2,7 @@
 
 use crate::events::{End, Event, Limits};
 use cpn_core::{Net, Occurrence};
+use cpn_monitor::{Monitors, Values14};
 use cpn_tmset::Marking;
 use std::sync::Arc;
 
@@ -18,6 +19,8 @@ pub struct Setup {
     pub clock: u64,
     /// The limits of the run.
     pub limits: Limits,
+    /// What is measured of the run, and what may stop it.
+    pub monitors: Arc<Monitors>,
     /// The seed of the run's draws.
     pub seed: u64,
 }
@@ -51,4 +54,6 @@ pub struct Finished {
     pub cause: End,
     /// What is enabled at the end.
     pub closing: Outlook,
+    /// What the monitors measured, up to the last clock.
+    pub values: Values14,
 }

@@ -1,5 +1,5 @@
 -- A run may start from what is accepted; and so a report with its trace tells the journal of its run, but for the seats.
-use Rattle.std.proofs.Common.{◌≡◌, ℕ, List, sym, ◌∙◌, subst, arith}
+use Rattle.std.proofs.Common.{◌≡◌, ℕ, List, refl, sym, ◌∙◌, subst, arith}
 use Rattle.cpn_definitions.specs.Terms.{most_tokens}
 use Rattle.cpn_definitions.proofs.BoundedMarkings.{bounded_by}
 use Rattle.cpn_runs.specs.Bounds.{most_at_start}
@@ -28,6 +28,7 @@ accepted_is_playable bytes words loaded options reads given =
       clock = omega arith;
       until = ranges.in_time;
       steps = ranges.few_steps;
+      monitors = record { functions_are = refl; measurable = tt };
       some_seat = omega (arith, one);
       few_seats = omega (arith, one);
     }
@@ -54,7 +55,7 @@ module _ (printable : RunsArePrintable) (bytes : List ℕ) (words : List (List �
 pub reports_tell_journals : RunsArePrintable → JournalsDiffer → ReportsTellJournals
 reports_tell_journals printable differ bytes other_bytes words other_words status other_status text report other on other_on =
     differ (setup_from report.is_report.loaded report.options) (setup_from other.is_report.loaded other.options) report.is_report.is_report.run other.is_report.is_report.run
-    (its_well printable bytes words status text report).written.spelled (its_well printable other_bytes other_words other_status text other).written.spelled
+    (its_well printable bytes words status text report).written.spelled (its_well printable other_bytes other_words other_status text other).written.spelled refl refl
     (its_printable printable bytes words status text report) (its_printable printable other_bytes other_words other_status text other)
     (its_playable printable bytes words status text report) (its_playable printable other_bytes other_words other_status text other)
     report.is_report.is_report.is_run other.is_report.is_report.is_run

@@ -1,6 +1,6 @@
 -- The report that a run of a document gives, and the status that it has. Source: own choice.
-use Rattle.std.specs.Prelude.{◌≡◌, ℕ, ◌⊎◌, List, Some}
-use Rattle.cpn_runs.specs.State.{PlainSetup, PlainEnd, dead, steps_made, until_passed, fault_end}
+use Rattle.std.specs.Prelude.{◌≡◌, ℕ, ◌⊎◌, List, [], Some}
+use Rattle.cpn_runs.specs.State.{PlainSetup, PlainEnd, dead, steps_made, until_passed, fault_end, stopped_by}
 use Rattle.cpn_runs.specs.Run.{PlainFinished, IsRun}
 use Rattle.cpn_flat.specs.Flat.{PlainLoaded}
 use Rattle.cpn_file.specs.Reading.{read}
@@ -10,15 +10,24 @@ use Rattle.cpn_sim.specs.Options.{PlainOptions, options_from}
 use Rattle.cpn_sim.specs.declared.statuses.Status.{Status}
 use Rattle.cpn_sim.specs.declared.statuses.Status.TheVariants as statuses
 
--- what the one run of a loaded net starts from: the initial marking at clock 0, with a seat for each worker
+-- what the one run of a loaded net starts from: the initial marking at clock 0, with a seat for each worker, and no monitors
 abbrev pub setup_from : PlainLoaded → PlainOptions → PlainSetup
-setup_from loaded options = record { net = loaded.net; start = loaded.initial; clock = 0; limits = record { steps = options.steps; until = options.until; seats = options.workers }; seed = options.seed }
+setup_from loaded options = record {
+  net = loaded.net;
+  start = loaded.initial;
+  clock = 0;
+  limits = record { steps = options.steps; until = options.until; seats = options.workers };
+  functions = loaded.net.functions;
+  monitors = [];
+  seed = options.seed;
+}
 
 -- the status of a run that has ended by the cause
 abbrev pub status_after : PlainEnd → Status
 status_after dead = statuses.Done
 status_after steps_made = statuses.Done
 status_after (until_passed time) = statuses.Done
+status_after (stopped_by monitor) = statuses.Done
 status_after (fault_end e fault) = statuses.RunFault
 
 -- the status is that of a report
@@ -27,8 +36,9 @@ IsReported status = (status ≡ statuses.Done) ⊎ (status ≡ statuses.RunFault
 
 -- The text is the report of a run of the loaded net, and the status is that of its end: the run's journal leads to a state
 -- that ends by the cause, its occurrences are a legal occurrence sequence from the initial marking to the printed one; where
--- the cause is a fault, its element is covered at the printed marking and clock, and its outputs have the fault; and what is
--- printed as ready and next, at the start and at the end, is that of the enabled elements.
+-- the cause is a fault, its element is covered at the printed marking and clock, and its outputs have the fault, and where it is a
+-- stop, its monitor is the first that stops the run after the last occurrence; what is printed as ready and next, at the start and at
+-- the end, is that of the enabled elements; and what is printed of each monitor is what it measures of those occurrences, up to the printed clock.
 pub record IsReportOf (loaded : PlainLoaded) (options : PlainOptions) (status : Status) (report : List ℕ) : Type 0 where
   pub run : PlainFinished
   pub is_run : IsRun (setup_from loaded options) run

@@ -20,6 +20,7 @@ use cpn_book::Book;
 use cpn_core::Memory;
 use cpn_file::{Loaded, load};
 use cpn_io::{ReadError, Source, read_all};
+use cpn_monitor::Monitors;
 use cpn_report::{printable_runs, report};
 use cpn_runs::{End, Limits, Setup};
 use std::alloc::Global;
@@ -71,6 +72,10 @@ fn report_of(alloc: Global, options: &Options, loaded: Loaded) -> Result<Report,
     ensures report { IfOk result (λ report. IsReportOf (loaded_view loaded) (options_view options.now) report.status (string_bytes report.text)) }
     ensures status { IfOk result (λ report. IsReported report.status) }
 {
+    let monitors = Monitors {
+        funs: loaded.net.funs.clone()?,
+        monitors: Vec::new(alloc),
+    };
     let setup = Setup {
         net: Arc::new(alloc, loaded.net)?,
         start: loaded.initial,
@@ -80,6 +85,7 @@ fn report_of(alloc: Global, options: &Options, loaded: Loaded) -> Result<Report,
             until: options.until,
             seats: options.workers as u32,
         },
+        monitors: Arc::new(alloc, monitors)?,
         seed: options.seed,
     };
     let book = Book::start(alloc, setup)?;
@@ -100,5 +106,6 @@ fn status_after(cause: &End) -> Status
         End::Steps => Status::Done,
         End::Dead => Status::Done,
         End::Until(_) => Status::Done,
+        End::Stop(_) => Status::Done,
     }
 }

@@ -11,6 +11,7 @@ use crate::refusals::Refusal;
 use clap::{Arg, ArgAction, ArgMatches, Command};
 use cpn_core::Memory;
 use cpn_file::Loaded;
+use cpn_monitor::Monitors;
 use cpn_runs::{Limits, Setup};
 use std::alloc::{AllocError, Global};
 use std::sync::Arc;
@@ -32,16 +33,21 @@ pub struct Options<'a> {
 }
 
 impl Options<'_> {
-    /// The setup of a run of the loaded net under the options.
+    /// The setup of a run of the loaded net under the options, without monitors.
     pub fn setup(&self, alloc: Global, loaded: Loaded) -> Result<Setup, Memory>
         requires well_loaded { IsWellLoaded (loaded_view loaded) }
         ensures shown { IfOk result (λ setup. IsShownSetup (setup_view setup)) }
     {
+        let monitors = Monitors {
+            funs: loaded.net.funs.clone()?,
+            monitors: Vec::new(alloc),
+        };
         Ok(Setup {
             net: Arc::new(alloc, loaded.net)?,
             start: loaded.initial,
             clock: 0,
             limits: self.limits,
+            monitors: Arc::new(alloc, monitors)?,
             seed: self.seed,
         })
     }

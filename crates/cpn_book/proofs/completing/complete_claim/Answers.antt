@@ -8,6 +8,7 @@ use Rattle.cpn_book.specs.Standings.{cut_view, events_in}
 use Rattle.cpn_book.specs.States.{cut_events}
 use Rattle.cpn_book.specs.Tickets.{evaluated_number}
 use Rattle.cpn_book.proofs.CommittedStandings.{same_but_journal, still_at, still_through}
+use Rattle.cpn_book.proofs.OwedCuts.{told_of}
 use Rattle.cpn_book.proofs.HeldSeats.{where_ok, freed}
 use Rattle.cpn_book.proofs.completing.complete_claim.Goals as goal
 
@@ -42,10 +43,14 @@ returns-clause-frees c =
 pub returns-clause-committed : goal.returns-clause-committed
 returns-clause-committed c =
     let s = setup_view c.args.setup.now in
-    let told = c.in_ok-fill_claim.ensures.told in
     let first = c.fill_claim.ensures.committed in
     still_through s c.args.standing.now c.fill_claim.new.standing c.make_owed_cut.new.standing (record { committed = first.committed; more = first.more; occurrences = first.occurrences })
-    (still_through s c.fill_claim.new.standing c.commit_all.new.standing c.make_owed_cut.new.standing (c.commit_all.ensures.committed s told) (c.make_owed_cut.ensures.committed s (c.in_ok-commit_all.ensures.told s told)))
+    (still_through s c.fill_claim.new.standing c.commit_all.new.standing c.make_owed_cut.new.standing c.commit_all.ensures.committed (c.make_owed_cut.ensures.committed s (told_of s c.commit_all.new.standing c.in_ok-stop.stop c.in_ok-stop.ensures.no_more)))
 
 pub returns-in_err-reserve-clause-committed : goal.returns-in_err-reserve-clause-committed
 returns-in_err-reserve-clause-committed c = still_at (setup_view c.args.setup.now) c.args.standing.now _ c.requires.at.at refl refl refl
+
+pub returns-in_err-stop-clause-committed : goal.returns-in_err-stop-clause-committed
+returns-in_err-stop-clause-committed c =
+    let first = c.fill_claim.ensures.committed in
+    still_through (setup_view c.args.setup.now) c.args.standing.now c.fill_claim.new.standing c.commit_all.new.standing (record { committed = first.committed; more = first.more; occurrences = first.occurrences }) c.commit_all.ensures.committed

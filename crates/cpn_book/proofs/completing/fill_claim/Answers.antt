@@ -6,7 +6,7 @@ use Rattle.cpn_runs.specs.Views.{event_view}
 use Rattle.cpn_runs.specs.declared.events.Event.TheVariants as events
 use Rattle.cpn_book.specs.Tickets.{evaluated_job}
 use Rattle.cpn_book.proofs.CommittedStandings.{still_at}
-use Rattle.cpn_book.proofs.FilledStandings.{IsBrought, held_known, open_in_log, outputs_fit, none_cut_now, filled}
+use Rattle.cpn_book.proofs.FilledStandings.{IsBrought, held_known, open_in_log, outputs_fit, none_cut_now, filled_may_commit}
 use Rattle.cpn_book.proofs.completing.fill_claim.Goals as goal
 use Rattle.cpn_definitions.proofs.ListItems.{map_more}
 
@@ -36,13 +36,13 @@ pub returns-clause-uncut : goal.returns-clause-uncut
 returns-clause-uncut c =
     none_cut_now (setup_view c.args.setup.now) c.args.standing.now c.requires.at c.args.seat c.args.done.number (evaluated_job c.args.done) c.args.done.result (record { held = c.requires.held; job_is = c.requires.job; tells = c.args.done.tells })
 
-pub returns-clause-told : goal.returns-clause-told
-returns-clause-told c =
+pub returns-clause-may : goal.returns-clause-may
+returns-clause-may c =
     let s = setup_view c.args.setup.now in
     let old = c.args.standing.now in
     let events_more : map event_view c.push_reserved.new.self.items ≡ map event_view old.journal.items ++ claim_completed c.args.seat c.args.done.number ∷ [] =
     ap (map event_view) c.push_reserved.ensures.items ∙ map_more event_view old.journal.items (events.Done c.args.seat c.args.done.number) in
-    filled s old c.requires.at c.args.seat c.args.done.number (evaluated_job c.args.done) c.args.done.result (record { held = c.requires.held; job_is = c.requires.job; tells = c.args.done.tells })
+    filled_may_commit s old c.requires.at c.args.seat c.args.done.number (evaluated_job c.args.done) c.args.done.result (record { held = c.requires.held; job_is = c.requires.job; tells = c.args.done.tells })
     _ c.in_ok-complete_in.ensures.done c.complete_in.ensures.jobs c.complete_in.ensures.committed c.complete_in.ensures.settled c.in_ok-complete_in.ensures.kept refl events_more refl
 
 pub returns-clause-committed : goal.returns-clause-committed

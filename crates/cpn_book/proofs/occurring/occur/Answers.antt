@@ -1,5 +1,5 @@
 -- The claim that is drawn finds its needs, its outputs are few, and the run stands with it, done and committed.
-use Rattle.std.proofs.Common.{Global, ◌≡◌, ℕ, List, [], ◌∷◌, ◌++◌, map, refl, ap, ◌∙◌, append_assoc}
+use Rattle.std.proofs.Common.{Global, ◌≡◌, ℕ, List, [], ◌∷◌, ◌++◌, map, sym, ap, ◌∙◌, subst, append_assoc}
 use Rattle.std.proofs.Math.Path.{ap₂}
 use Rattle.std.specs.declared.sync.Arc.{Arc}
 use Rattle.cpn_core.specs.declared.bindings.Element.{Element}
@@ -8,6 +8,12 @@ use Rattle.cpn_definitions.proofs.ListItems.{map_more}
 use Rattle.cpn_core.specs.declared.occurrences.Occurrence.{Occurrence}
 use Rattle.cpn_core.specs.Elements.{element_view}
 use Rattle.cpn_jobs.specs.declared.work.Job.{Job}
+use Rattle.cpn_log.specs.Kept.{IsKept}
+use Rattle.cpn_log.specs.LogViews.{log_view, jobs_in}
+use Rattle.cpn_log.specs.declared.logs.Log.{Log}
+use Rattle.cpn_monitor.specs.Views.{marked_view}
+use Rattle.cpn_book.specs.declared.standings.Standing.{Standing}
+use Rattle.cpn_runs.specs.Commits.{marked_claim}
 use Rattle.cpn_runs.specs.FinishedViews.{setup_view}
 use Rattle.cpn_runs.specs.State.{claim_made, claim_completed}
 use Rattle.cpn_core.specs.Occurrences.{occurrence_view}
@@ -15,7 +21,7 @@ use Rattle.cpn_runs.specs.Views.{event_view}
 use Rattle.cpn_runs.specs.declared.events.Event.{Event}
 use Rattle.cpn_runs.specs.declared.events.Event.TheVariants as events
 use Rattle.cpn_book.proofs.DrawnClaims.{drawn_in_time, drawn_covered}
-use Rattle.cpn_book.proofs.OccurredStandings.{HasOccurred, all_in, few_outputs, occurred, still_occurred, one_more}
+use Rattle.cpn_book.proofs.OccurredStandings.{HasOccurred, done, all_in, few_outputs, marked_now, may_note_now, commits_no_more, still_occurred, one_more}
 use Rattle.cpn_book.proofs.occurring.occur.Goals.{After-drop-needs-inside-2}
 use Rattle.cpn_book.proofs.occurring.occur.Goals as goal
 
@@ -47,32 +53,66 @@ occur-requires-clause-covered c = drawn_covered (setup_view c.args.setup.now) c.
 pub occur-requires-clause-few : goal.occur-requires-clause-few
 occur-requires-clause-few c = few_outputs (setup_view c.args.setup.now) c.args.standing.now c.args.number c.args.job.value c.args.needs c.requires.drawn c.requires.playable c.requires.none_open c.args.outputs c.requires.outputs
 
+pub note_last-requires-clause-may : goal.note_last-requires-clause-may
+note_last-requires-clause-may c =
+    may_note_now (setup_view c.args.setup.now) c.args.standing.now c.args.number c.args.job.value c.args.needs c.requires.drawn c.requires.playable c.requires.none_open c.args.outputs c.requires.outputs
+    c.occur.new.self c.in_ok-occur.ensures.occurred c.in_ok-occur.ensures.kept (record { number = c.args.number; time = c.deref.result.now.time; element = c.in_ok-clone.field-0 })
+    (ap (λ (j : Job). j.time) c.deref.ensures) (ap element_view c.in_ok-clone.ensures.cases ∙ ap (λ (j : Job). element_view j.element.value) c.deref-2.ensures)
+
 -- what the code has done when it answers
 did
     : (c : After-drop-needs-inside-2)
-    → HasOccurred c.args.standing.now (record c.args.standing.now { log = c.occur.new.self; journal = c.push_reserved-3.new.self; occurrences = c.push_reserved.new.self }) c.args.number c.args.job.value c.args.needs c.args.outputs
+    → HasOccurred c.args.standing.now (record c.note_last.new.standing { journal = c.push_reserved-2.new.self }) c.args.number c.args.job.value c.args.needs c.args.outputs
 did c =
     let old = c.args.standing.now in
     let job = c.args.job.value in
+    let noted = c.note_last.new.standing in
+    let others = c.note_last.ensures.others in
+    let log_same : noted.log ≡ c.occur.new.self = ap (λ (s : Standing). s.log) others in
     let same : c.deref-2.result.now ≡ job = c.deref-2.ensures in
     let element : element_view c.in_ok-clone.field-0.value ≡ element_view job.element.value = ap element_view c.in_ok-clone.ensures.cases ∙ ap (λ (j : Job). element_view j.element.value) same in
     record {
-      log = c.in_ok-occur.ensures.occurred;
-      jobs = c.in_ok-occur.ensures.jobs;
-      kept = c.in_ok-occur.ensures.kept;
-      occurrences = occurrence_noted c.reserve-2.new.self.items old.occurrences.items c.push_reserved.new.self.items c.args.number c.deref.result.now.time job.time c.in_ok-clone.field-0 (element_view job.element.value) c.reserve-2.ensures.items c.push_reserved.ensures.items (ap (λ (j : Job). j.time) c.deref.ensures) element;
-      events = events_noted c.reserve.new.self.items old.journal.items c.push_reserved-2.new.self.items c.push_reserved-3.new.self.items c.args.number c.reserve.ensures.items c.push_reserved-2.ensures.items c.push_reserved-3.ensures.items;
-      others = refl;
+      log = ap log_view log_same ∙ c.in_ok-occur.ensures.occurred;
+      jobs = ap jobs_in log_same ∙ c.in_ok-occur.ensures.jobs;
+      kept = subst (λ (l : Log). IsKept (log_view l)) (sym log_same) c.in_ok-occur.ensures.kept;
+      occurrences = occurrence_noted c.reserve-2.new.self.items old.occurrences.items noted.occurrences.items c.args.number c.deref.result.now.time job.time c.in_ok-clone.field-0 (element_view job.element.value) c.reserve-2.ensures.items c.note_last.ensures.occurrences (ap (λ (j : Job). j.time) c.deref.ensures) element;
+      events = events_noted c.reserve.new.self.items old.journal.items c.push_reserved.new.self.items c.push_reserved-2.new.self.items c.args.number c.reserve.ensures.items (c.push_reserved.ensures.items ∙ ap (λ es. es ++ events.Claim 0 c.args.number ∷ []) (ap (λ (s : Standing). s.journal.items) others)) c.push_reserved-2.ensures.items;
+      others = ap (λ (s : Standing). record s { journal = c.push_reserved-2.new.self }) others ∙ ap (λ (l : Log). record old { log = l; journal = c.push_reserved-2.new.self; occurrences = noted.occurrences; values = noted.values }) (sym log_same);
     }
 
-pub returns-clause-at : goal.returns-clause-at
-returns-clause-at c = occurred (setup_view c.args.setup.now) c.args.standing.now c.args.number c.args.job.value c.args.needs c.requires.drawn c.requires.playable c.requires.none_open c.args.outputs c.requires.outputs _ (did c)
+-- its occurrence, with the marking after it
+abbrev occurrence_in : After-drop-needs-inside-2 → Occurrence
+occurrence_in c = record { number = c.args.number; time = c.deref.result.now.time; element = c.in_ok-clone.field-0 }
+
+marked_in
+    : (c : After-drop-needs-inside-2)
+    → marked_view (occurrence_in c) (log_view c.occur.new.self).settled
+    ≡ marked_claim (log_view c.args.standing.now.log).settled (done (setup_view c.args.setup.now) c.args.standing.now c.args.number c.args.job.value c.args.needs c.requires.drawn c.requires.playable c.requires.none_open c.args.outputs c.requires.outputs)
+marked_in c =
+    let element : element_view c.in_ok-clone.field-0.value ≡ element_view c.args.job.value.element.value = ap element_view c.in_ok-clone.ensures.cases ∙ ap (λ (j : Job). element_view j.element.value) c.deref-2.ensures in
+    marked_now (setup_view c.args.setup.now) c.args.standing.now c.args.number c.args.job.value c.args.needs c.requires.drawn c.requires.playable c.requires.none_open c.args.outputs c.requires.outputs
+    c.occur.new.self c.in_ok-occur.ensures.occurred c.in_ok-occur.ensures.kept (occurrence_in c) (ap (λ (j : Job). j.time) c.deref.ensures) element
+
+pub returns-clause-no_more : goal.returns-clause-no_more
+returns-clause-no_more c =
+    let s = setup_view c.args.setup.now in
+    let old = c.args.standing.now in
+    commits_no_more s old c.args.number c.args.job.value c.args.needs c.requires.drawn c.requires.playable c.requires.none_open c.args.outputs c.requires.outputs _ (did c)
+    (marked_view (occurrence_in c) (log_view c.occur.new.self).settled) (marked_in c) c.in_ok-stop.ensures.measured c.in_ok-stop.stop c.in_ok-stop.ensures.stop
 
 pub returns-clause-made : goal.returns-clause-made
-returns-clause-made c = one_more (setup_view c.args.setup.now) c.args.standing.now c.args.number c.args.job.value c.args.needs c.requires.drawn c.requires.playable c.requires.none_open c.args.outputs c.requires.outputs _ (did c)
+returns-clause-made c =
+    let s = setup_view c.args.setup.now in
+    let old = c.args.standing.now in
+    one_more s old c.args.number c.args.job.value c.args.needs c.requires.drawn c.requires.playable c.requires.none_open c.args.outputs c.requires.outputs _ (did c)
+    (marked_view (occurrence_in c) (log_view c.occur.new.self).settled) (marked_in c) c.in_ok-stop.ensures.measured
 
 pub returns-clause-events : goal.returns-clause-events
 returns-clause-events c = (did c).events
 
 pub returns-clause-committed : goal.returns-clause-committed
-returns-clause-committed c = still_occurred (setup_view c.args.setup.now) c.args.standing.now c.args.number c.args.job.value c.args.needs c.requires.drawn c.requires.playable c.requires.none_open c.args.outputs c.requires.outputs _ (did c)
+returns-clause-committed c =
+    let s = setup_view c.args.setup.now in
+    let old = c.args.standing.now in
+    still_occurred s old c.args.number c.args.job.value c.args.needs c.requires.drawn c.requires.playable c.requires.none_open c.args.outputs c.requires.outputs _ (did c)
+    (marked_view (occurrence_in c) (log_view c.occur.new.self).settled) (marked_in c) c.in_ok-stop.ensures.measured

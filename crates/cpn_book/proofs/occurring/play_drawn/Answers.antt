@@ -1,14 +1,16 @@
 -- No seat holds a claim before, and none after.
-use Rattle.std.proofs.Common.{[], ◌∷◌, ◌++◌, Some, ap, ◌∙◌, append_assoc, arith, slice_get}
+use Rattle.std.proofs.Common.{[], ◌∷◌, ◌++◌, Some, sym, ap, ◌∙◌, append_assoc, arith, slice_get}
 use Rattle.std.specs.Option.{option_map}
 use Rattle.cpn_runs.specs.FinishedViews.{setup_view}
 use Rattle.cpn_runs.specs.State.{claim_made, claim_completed}
 use Rattle.cpn_book.specs.Standings.{cut_view, events_in}
 use Rattle.cpn_book.specs.States.{cut_events}
 use Rattle.cpn_book.proofs.GoingAlone.{one_round}
-use Rattle.cpn_book.proofs.HeldSeats.{where_ok}
+use Rattle.cpn_book.proofs.HeldSeats.{where_ok, in_any_case}
+use Rattle.cpn_book.proofs.CommittedStandings.{still_through}
+use Rattle.cpn_book.proofs.OwedCuts.{told_of}
 use Rattle.cpn_book.proofs.OccurredStandings.{free_now}
-use Rattle.cpn_book.proofs.PlayedRounds.{none_open_after}
+use Rattle.cpn_book.proofs.PlayedRounds.{none_open_after, none_open_still}
 use Rattle.cpn_book.proofs.occurring.play_drawn.Goals as goal
 use Rattle.cpn_definitions.proofs.ListItems.{set_there}
 
@@ -37,3 +39,25 @@ returns-in_ok-make_claim-in-Err-clause-rounds c =
     where_ok c.complete_claim.result _ _
     (λ events. (claim_made 0 n ∷ claim_completed 0 n ∷ cut_events cut, events ∙ ap (λ es. es ++ claim_completed 0 n ∷ cut_events cut) c.in_ok-make_claim-in-Err.ensures.events ∙ append_assoc (events_in old) (claim_made 0 n ∷ []) (claim_completed 0 n ∷ cut_events cut), one_round n cut))
     c.complete_claim.ensures.events
+
+pub returns-in_ok-stop-in-Ok-clause-none_open : goal.returns-in_ok-stop-in-Ok-clause-none_open
+returns-in_ok-stop-in-Ok-clause-none_open c =
+    where_ok c.make_owed_cut.result _ _
+    (λ frees. none_open_still c.args.standing.now.held.items c.make_owed_cut.new.standing.held.items c.requires.none_open (λ s k holds. ap (λ hs. slice_get hs.items s) (sym c.occur.ensures.held) ∙ frees s k holds))
+    c.make_owed_cut.ensures.frees
+
+pub returns-in_ok-stop-in-Ok-clause-rounds : goal.returns-in_ok-stop-in-Ok-clause-rounds
+returns-in_ok-stop-in-Ok-clause-rounds c =
+    let n = c.args.done.number in
+    let old = c.args.standing.now in
+    let cut = option_map cut_view c.make_owed_cut.new.standing.cut in
+    where_ok c.make_owed_cut.result _ _
+    (λ events. (claim_made 0 n ∷ claim_completed 0 n ∷ cut_events cut, events ∙ ap (λ es. es ++ cut_events cut) c.in_ok-stop-in-Ok.ensures.events ∙ append_assoc (events_in old) (claim_made 0 n ∷ claim_completed 0 n ∷ []) (cut_events cut), one_round n cut))
+    c.make_owed_cut.ensures.events
+
+pub returns-in_ok-stop-in-Ok-clause-committed : goal.returns-in_ok-stop-in-Ok-clause-committed
+returns-in_ok-stop-in-Ok-clause-committed c =
+    let s = setup_view c.args.setup.now in
+    in_any_case c.make_owed_cut.result _
+    (still_through s c.args.standing.now c.occur.new.standing c.make_owed_cut.new.standing c.in_ok-stop-in-Ok.ensures.committed
+    (c.make_owed_cut.ensures.committed s (told_of s c.occur.new.standing c.in_ok-stop-in-Ok.stop c.in_ok-stop-in-Ok.ensures.no_more)))

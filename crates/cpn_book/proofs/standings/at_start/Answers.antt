@@ -3,7 +3,7 @@ use Rattle.std.proofs.Common.{◌≡◌, ℕ, zero, suc, ◌<◌, ◌≤◌, ◌
 use Rattle.cpn_definitions.specs.Marking.{Marking, tokens_at, AreSorted}
 use Rattle.cpn_definitions.proofs.Markings.{held_at}
 use Rattle.cpn_log.specs.Kept.{IsKept}
-use Rattle.cpn_log.specs.Logs.{started, heads}
+use Rattle.cpn_log.specs.Logs.{PlainLog, started, heads}
 use Rattle.cpn_log.specs.LogViews.{log_view}
 use Rattle.cpn_jobs.specs.Views.{job_view}
 use Rattle.cpn_core.specs.Occurrences.{occurrence_view}
@@ -11,7 +11,16 @@ use Rattle.cpn_runs.specs.Views.{event_view}
 use Rattle.cpn_book.specs.StandingRuns.{IsTold, StandsAt}
 use Rattle.cpn_book.specs.Standings.{job_for}
 use Rattle.std.proofs.lemmas.List.{length-replicate}
+use Rattle.std.specs.List.{AllByRecursion}
+use Rattle.cpn_core.specs.Inscriptions.{funs_view}
+use Rattle.cpn_monitor.specs.Fitting.{AreMeasured}
+use Rattle.cpn_monitor.specs.Noted.{MayLook}
+use Rattle.cpn_monitor.specs.Views.{monitors_view, values_view}
+use Rattle.cpn_monitor.specs.declared.monitors.Monitors.{Monitors}
 use Rattle.cpn_runs.specs.HoleRun.{PlainClaim}
+use Rattle.cpn_runs.specs.MeasuredStates.{run_of}
+use Rattle.cpn_runs.proofs.MeasuredStates.{may_look_at_start}
+use Rattle.cpn_book.proofs.MeasuredStandings.{measured_alike}
 use Rattle.cpn_runs.specs.State.{first_state, numbered}
 use Rattle.cpn_runs.specs.FinishedViews.{setup_view}
 use Rattle.cpn_book.proofs.StartedRuns.{stands_at_start}
@@ -22,6 +31,10 @@ start-requires-clause-sorted c = λ p. subst (λ (m : Marking). AreSorted (token
 
 pub start-requires-clause-few : goal.start-requires-clause-few
 start-requires-clause-few c = λ p. subst (λ (m : Marking). length (tokens_at m p) ≤ 2 ^ 47) (sym c.in_ok-copy.ensures.same) (c.requires.playable.bounded p)
+
+pub start-requires-2-clause-seen : goal.start-requires-2-clause-seen
+start-requires-2-clause-seen c =
+    subst (λ (d : Monitors). AllByRecursion (λ monitor. MayLook c.args.setup.now.start monitor.measure) (monitors_view d)) (sym c.deref.ensures) (may_look_at_start (setup_view c.args.setup.now) c.requires.playable)
 
 abbrev nobody : Option ℕ
 nobody = None
@@ -58,8 +71,12 @@ returns-clause-starts c =
         cut = refl;
         jobs = ap (map job_view) c.in_ok-log.ensures.jobs ∙ sym (ap (λ l. map (job_for s.net) (heads l)) is);
         occurrences = ap (map occurrence_view) c.new-2.ensures.items ∙ ap (numbered 0) (sym (none_taken (length (log_view log).committed)));
+        measured =
+            measured_alike s s.clock s.clock [] (take (length (log_view log).committed) no_claims) (values_view c.in_ok-values.values) (values_view c.in_ok-values.values) refl (none_taken (length (log_view log).committed)) refl
+            (subst (λ (d : Monitors). AreMeasured (funs_view d.funs.value) (monitors_view d) (run_of s s.clock []) (values_view c.in_ok-values.values)) c.deref.ensures c.in_ok-values.ensures.started);
+        made_now = subst (λ (l : PlainLog). AllByRecursion (λ (claim : PlainClaim). claim.time ≡ s.clock) l.claims) (sym is) tt;
         draw = λ none_yet. c.new-3.ensures;
       };
-      stops = stands.stops;
+      all_committed = stands.all_committed;
       none_owed = stands.none_owed;
     }

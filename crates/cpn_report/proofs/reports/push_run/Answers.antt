@@ -7,4 +7,4 @@ use Rattle.cpn_report.proofs.ReportTexts.{run_parts}
 use Rattle.cpn_report.proofs.reports.push_run.Goals as goal
 
 pub returns : goal.returns
-returns c = record { written = rw (run_parts (string_bytes c.args.out.now) c.args.trace (setup_view c.args.finished.now.setup) c.args.number (finished_view c.args.finished.now)) (first_of (search rules, grind (arith, common_steps))) }
+returns c = record { written = rw (run_parts (string_bytes c.args.out.now) c.args.trace (setup_view c.args.finished.now.setup) c.args.number c.args.start (finished_view c.args.finished.now)) (first_of (search rules, grind (arith, common_steps))) }

@@ -24,6 +24,9 @@ returns-then-open-gt0-clause-answer c = λ unspent.
     let none : length (ready c.args.self.now.standing.clock (map enabled_view c.args.self.now.listed.items)) ≡ 0 = omega (arith, c.ready.ensures, c.if-ready-gt0.false) in
     some_open c.args.self.now (c.requires.kept.running unspent) (sym c.is_some.ensures ∙ c.if-is_some.false) (λ all. c.if-len-self.false (c.len.ensures ∙ all)) none c.open-open.result c.open-open.ensures.count c.if-open-gt0.true
 
+pub move_clock-requires-clause-running : goal.move_clock-requires-clause-running
+move_clock-requires-clause-running c = c.requires.kept.running c.if-self.false
+
 pub move_clock-requires-clause-below : goal.move_clock-requires-clause-below
 move_clock-requires-clause-below c = claims_below (setup_in c.args.self.now) c.args.self.now.standing (c.requires.kept.running c.if-self.false).at c.requires.kept.playable (λ all. c.if-len-self.false (c.len.ensures ∙ all))
 

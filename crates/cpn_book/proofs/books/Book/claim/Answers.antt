@@ -25,6 +25,9 @@ returns-then-ready-eq0-clause-answer c =
     nothing c.args.self.now running (sym c.is_some.ensures ∙ c.if-is_some.false) (λ all. c.if-len-self.false (c.len.ensures ∙ all)) c.args.seat c.ready.result c.open-held.result c.requires.known
     (holds_none c.args.self.now running c.args.seat c.requires.known c.in_default.ensures.held) c.ready.ensures c.if-ready-eq0.true c.open-held.ensures.count
 
+pub claim_ready-requires-clause-running : goal.claim_ready-requires-clause-running
+claim_ready-requires-clause-running c = c.requires.kept.running c.if-self.false
+
 pub claim_ready-requires-clause-below : goal.claim_ready-requires-clause-below
 claim_ready-requires-clause-below c = claims_below (setup_in c.args.self.now) c.args.self.now.standing (c.requires.kept.running c.if-self.false).at c.requires.kept.playable (λ all. c.if-len-self.false (c.len.ensures ∙ all))
 

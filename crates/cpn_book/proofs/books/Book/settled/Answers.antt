@@ -1,6 +1,6 @@
 -- The marking is the one that the state's committed claims leave, by a legal sequence, and within its bounds; where no claim is open
 -- each is committed, and it is the unclaimed one.
-use Rattle.std.proofs.Common.{◌≡◌, ◌-◌, ◌^◌, ap, sym, ◌∙◌, subst, length, map, Some}
+use Rattle.std.proofs.Common.{◌≡◌, ◌-◌, ◌^◌, ap, sym, ◌∙◌, subst, length, map, [], Some}
 use Rattle.std.proofs.lemmas.Option.{same_Some}
 use Rattle.cpn_definitions.specs.Bounds.{IsBounded}
 use Rattle.cpn_definitions.specs.Legal.{Legal, timed}
@@ -62,4 +62,4 @@ returns-clause-all_committed c =
     let claims = running.at.at.state.claims in
     let settles : Settles (setup_in book) running.at.at.state = every_journal_settles (setup_in book) (journal_in book) running.at.at.state (marking_is_start (setup_in book) c.requires.kept.playable.marking) running.at.at.told.reached in
     in_state book running (λ state. open_claims state ≡ 0 → committed (setup_in book) state ≡ length state.claims)
-    (λ none. sym (as_many_are_committed claims) ∙ ap length (settles.all_committed (none_counted claims none) running.at.none_owed))
+    (λ none. sym (as_many_are_committed (setup_in book).monitors [] (setup_in book).start claims) ∙ ap length (settles.all_committed (none_counted claims none) running.at.none_owed))

@@ -2,7 +2,7 @@
 use Rattle.std.proofs.Common.{subst, sym}
 use Rattle.cpn_core.specs.Inscriptions.{funs_view}
 use Rattle.cpn_monitor.specs.Fitting.{AreMeasured}
-use Rattle.cpn_monitor.specs.Steps.{at_clock}
+use Rattle.cpn_monitor.specs.MeasuredRuns.{at_clock}
 use Rattle.cpn_monitor.specs.Views.{monitors_view}
 use Rattle.cpn_monitor.proofs.ToldRuns.{closed_is_measured, each_up_to}
 use Rattle.cpn_monitor.proofs.monitors.Monitors.close.Goals as goal

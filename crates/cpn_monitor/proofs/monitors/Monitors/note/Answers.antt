@@ -6,7 +6,7 @@ use Rattle.cpn_definitions.specs.Inscription.{Functions}
 use Rattle.cpn_monitor.specs.Monitors.{PlainMonitor}
 use Rattle.cpn_monitor.specs.MonitorValues.{PlainMeasured, PlainMonitorValue}
 use Rattle.cpn_monitor.specs.Noted.{with_measured, all_noted}
-use Rattle.cpn_monitor.specs.Steps.{PlainStep, MeasuredRun, with_step}
+use Rattle.cpn_monitor.specs.MeasuredRuns.{MarkedOccurrence, MeasuredRun, with_occurrence}
 use Rattle.cpn_monitor.specs.Views.{monitor_view, value_view, measured_view}
 use Rattle.cpn_monitor.specs.declared.values.Measured.{Measured}
 use Rattle.cpn_monitor.proofs.ToldRuns.{may_all_note, one_each, all_are_noted, noted_is_measured, first_that_stops}
@@ -29,10 +29,10 @@ first_stop-requires c = record {
 }
 
 -- the values that have been noted
-noted_so : (funs : Functions) (monitors : List PlainMonitor) (step : PlainStep) (vs new : List PlainMonitorValue) (items noted : List Measured) → new ≡ with_measured (map measured_view items) vs → items ≡ noted → map measured_view noted ≡ all_noted funs step monitors vs
-    → (run : MeasuredRun) → AreMeasured funs monitors run vs → run.last_clock ≤ step.occurrence.time → AreMeasured funs monitors (with_step step run) new
-noted_so funs monitors step vs new items noted new_is items_are noted_are run are to =
-    subst (AreMeasured funs monitors (with_step step run)) (sym (new_is ∙ ap (λ xs. with_measured (map measured_view xs) vs) items_are ∙ ap (λ ms. with_measured ms vs) noted_are)) (noted_is_measured funs monitors run step vs are to)
+noted_so : (funs : Functions) (monitors : List PlainMonitor) (marked : MarkedOccurrence) (vs new : List PlainMonitorValue) (items noted : List Measured) → new ≡ with_measured (map measured_view items) vs → items ≡ noted → map measured_view noted ≡ all_noted funs marked monitors vs
+    → (run : MeasuredRun) → AreMeasured funs monitors run vs → run.last_clock ≤ marked.occurrence.time → AreMeasured funs monitors (with_occurrence marked run) new
+noted_so funs monitors marked vs new items noted new_is items_are noted_are run are to =
+    subst (AreMeasured funs monitors (with_occurrence marked run)) (sym (new_is ∙ ap (λ xs. with_measured (map measured_view xs) vs) items_are ∙ ap (λ ms. with_measured ms vs) noted_are)) (noted_is_measured funs monitors run marked vs are to)
 
 pub returns-clause-noted : goal.returns-clause-noted
 returns-clause-noted c = noted_so _ _ _ _ _ _ _ c.replace.ensures.replaced c.deref.ensures.value c.in_ok-noted.ensures.noted

@@ -2,7 +2,7 @@
 use Rattle.std.proofs.Common.{◌≡◌, map, take}
 use Rattle.cpn_core.specs.Inscriptions.{funs_view}
 use Rattle.cpn_monitor.specs.MonitorValues.{values_of}
-use Rattle.cpn_monitor.specs.Steps.{begun}
+use Rattle.cpn_monitor.specs.MeasuredRuns.{begun}
 use Rattle.cpn_monitor.specs.Views.{monitor_view, value_view}
 use Rattle.cpn_monitor.proofs.monitors.Monitors.start.Given as goal
 

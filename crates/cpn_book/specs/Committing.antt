@@ -1,0 +1,45 @@
+-- What the commits of a run lead to, and which cut is owed then. Source: own choice.
+use Rattle.std.specs.Prelude.{◌≡◌, ℕ, ◌+◌, false, length, Option, Some, None}
+use Rattle.cpn_log.specs.Logs.{begin_done}
+use Rattle.cpn_log.specs.LogViews.{log_view}
+use Rattle.cpn_runs.specs.State.{PlainSetup, committed, owed_cut}
+use Rattle.cpn_runs.specs.Views.{end_view}
+use Rattle.cpn_runs.specs.declared.events.End.{End}
+use Rattle.cpn_book.specs.StandingRuns.{stop_behind, GoesOn}
+use Rattle.cpn_book.specs.Standings.{IsToldAt}
+use Rattle.cpn_book.specs.declared.committing.Commit.{Commit}
+use Rattle.cpn_book.specs.declared.committing.Commit.TheVariants as commits
+use Rattle.cpn_book.specs.declared.standings.Standing.{Standing}
+
+-- The next claim may be committed, if it is done: no monitor stops the run after the last committed one.
+pub record MayCommit (setup : PlainSetup) (s : Standing) : Type 0 where
+  pub told : IsToldAt setup s
+  pub goes_on : GoesOn setup told.state (log_view s.log)
+
+-- The monitor of a number stops the run after the last committed claim.
+pub record IsStopped (setup : PlainSetup) (s : Standing) (monitor : ℕ) : Type 0 where
+  pub told : IsToldAt setup s
+  pub stop : stop_behind setup told.state (log_view s.log) ≡ Some monitor
+
+-- the next claim is not done with its outputs, or there is none
+abbrev pub NextWaits : Standing → Type 0
+NextWaits s = begin_done (log_view s.log).claims ≡ false
+
+-- No more can be committed: a monitor stops the run, or the next claim waits.
+abbrev pub CommitsNoMore : PlainSetup → Standing → Option ℕ → Type 0
+CommitsNoMore setup s (Some monitor) = IsStopped setup s monitor
+CommitsNoMore setup s None = MayCommit setup s × NextWaits s
+
+-- what the commit of the next claim leads to
+abbrev pub CommitLeads : PlainSetup → Standing → Standing → Commit → Type 0
+CommitLeads setup old new commits.Nothing = (new ≡ old) × NextWaits old
+CommitLeads setup old new commits.Next = MayCommit setup new × (length (log_view new.log).committed ≡ length (log_view old.log).committed + 1)
+CommitLeads setup old new (commits.Stop monitor) = IsStopped setup new monitor
+
+-- The committed claims of the log are those of the state, and the cut that is owed is at the next claim, by the cause; or none is.
+abbrev pub OwesCut : PlainSetup → Standing → Option End → Type 0
+OwesCut setup s None = (told : IsToldAt setup s) × (committed setup told.state ≡ length (log_view s.log).committed) × (owed_cut setup told.state ≡ None)
+OwesCut setup s (Some cause) =
+    (told : IsToldAt setup s)
+    × (committed setup told.state ≡ length (log_view s.log).committed)
+    × (owed_cut setup told.state ≡ Some (record { number = length (log_view s.log).committed; cause = end_view cause }))
