@@ -154,6 +154,24 @@ CHANGES = {
         "a further module, with a place C of the initial marking ``1`x``": more("modules", module("M", "1`x")),
         "the same, with ``1`(7 div 0)`` there": more("modules", module("M", "1`(7 div 0)")),
     },
+    "measured_queue": {
+        "the place `Desk/Line` for `queue`": put("monitors", "queue", "place", "Desk/Line"),
+        "the place `Queue` for `queue`": put("monitors", "queue", "place", "Queue"),
+        "the transition `Desk/Queue` for `served`": put("monitors", "served", "transition", "Desk/Queue"),
+        **{
+            f"the text `{text}` for `waiting`": put("monitors", "waiting", "expr", text)
+            for text in ("came", "waited > 3", "time - waited", "if waited > 3 then 1 else 0", "10 div waited")
+        },
+        "a monitor `crowded` that stops at 2 in the queue": more(
+            "monitors", {"name": "crowded", "kind": "stop_size", "place": "Desk/Queue", "op": "at_least", "n": 2}
+        ),
+    },
+    "production_cell": {
+        "the place `Cell/press/In` for `press`": put("monitors", "press", "place", "Cell/press/In"),
+        "the place `Cell/Press In` for `press`": put("monitors", "press", "place", "Cell/Press In"),
+        "the transition `Cell/load` for `loaded`": put("monitors", "loaded", "transition", "Cell/load"),
+        "the transition `Move/take` for `loaded`": put("monitors", "loaded", "transition", "Move/take"),
+    },
     "simple_protocol": {
         '`"top": "Net"`': put("top", "Net"),
         "the module `Net` for `Sub Network`": put(*SUB, "module", "Net"),

@@ -454,6 +454,80 @@ def some_line_takes_35(runs):
     return any(run.clock == 35 for run in runs)
 
 
+# ---- what monitors measure
+
+def any_arrivals(draw, document):
+    times = sorted(draw.randrange(25) for _ in range(draw.randint(1, 7)))
+    place_of(document, "Coming")["initial"] = " ++ ".join(f"1`{n}@{at}" for n, at in enumerate(times, 1))
+    set_value(document, "service", draw.randint(1, 6))
+
+
+def any_stop(draw, document):
+    document["monitors"][0]["n"] = draw.randint(1, 5)
+
+
+desk = Group("measured_queue", draws=False)
+any_desk = Group("measured_queue", "measured_queue, its customers drawn", change=any_arrivals)
+cell = Group("production_cell")
+any_batch = Group("production_cell", "production_cell, its batch drawn", change=any_stop)
+
+
+@desk.run
+def the_queue_is_as_by_hand(run):
+    """the queue sums up to 12 and the clerk's work to 20 of 25, and five customers wait 12"""
+    wanted = ["size 0 2 0 12 queue", "size 0 1 0 20 busy", "value 5 12 0 6 0 waiting", "count 5 served"]
+    return run.end == "dead" and run.clock == 25 and run.monitors == wanted
+
+
+def waits(document):
+    """Returns how long each customer waits: until the one before is done."""
+    service = int(re.search(r"service = (\d+)", document["declarations"][0])[1])
+    times, free, found = [int(it) for it in re.findall(r"@(\d+)", place_of(document, "Coming")["initial"])], 0, []
+    for at in times:
+        found.append(max(free - at, 0))
+        free = max(free, at) + service
+    return service, found, free
+
+
+@any_desk.run
+def the_queue_is_what_is_waited(run):
+    """the queue sums up over the time to what the customers wait, and the clerk's work to their services"""
+    (service, found, free), lines = waits(run.document), [it.split() for it in run.monitors]
+    queue, busy, waiting, served = [[int(number) for number in it[1:-1]] for it in lines]
+    values = [len(found), sum(found), min(found), max(found), 0]
+    return (queue[3], busy[3], waiting, served, run.clock) == (sum(found), service * len(found), values, [len(found)], free)
+
+
+STATIONS = {"Press": ("load", "press"), "Drill": ("transfer", "drill")}
+
+
+@cell.marking
+def one_part_in_each_machine(state):
+    """the room of a machine, its parts, and the one that the robot brings are one together"""
+    there = lambda name, way, machine: [f"{name} Room", f"{name} In", f"{machine}/At Work", f"{name} Out", f"{way}/Held"]
+    return all(sum(state.number(f"Cell/{it}") for it in there(name, *of)) == 1 for name, of in STATIONS.items())
+
+
+@cell.marking
+def the_robot_holds_one_part(state):
+    """the robot is idle or holds one part"""
+    return sum(state.number(f"Cell/{it}") for it in ("Robot", "load/Held", "transfer/Held", "deliver/Held")) == 1
+
+
+@cell.run
+def the_cell_is_as_by_hand(run):
+    """the third part is delivered at 36; the robot is idle for 16 of that, the press works for 22, and the drill for 12"""
+    wanted = ["stop_count 3 three parts", "count 4 loaded", "size 0 1 1 16 robot idle", "size 0 1 1 22 press", "size 0 1 0 12 drill"]
+    return run.end == "stop three parts" and run.clock == 36 and run.monitors == wanted
+
+
+@any_batch.run
+def each_part_takes_10(run):
+    """a batch of k parts is delivered at 6 + 10k"""
+    batch = run.document["monitors"][0]["n"]
+    return run.end == "stop three parts" and run.clock == 6 + 10 * batch and run.monitors[0] == f"stop_count {batch} three parts"
+
+
 # ---- buffers
 
 bounded = Group("bounded_queue")

@@ -157,11 +157,24 @@ class Net:
         for sub in module.get("subs", []):
             yield from self.instances(sub["module"], f"{path}/{sub['name']}")
 
-    def markings(self, name):
-        """Returns the written initial markings of the compound place of a name: pointer and text, each once."""
+    def names(self, kind):
+        """Returns the flat names of all places of instances, or of all their transitions, in order."""
+        return [f"{path}/{it['name']}" for path, module in self.instances() for it in module[kind]]
+
+    def variables_of(self, name):
+        """Returns the variables of the transition of a flat name, as they are declared."""
+        path, _, transition = name.rpartition("/")
+        module = dict(self.instances())[path]
+        texts = [it.get(key, "") for it in module["transitions"] if it["name"] == transition for key in ("guard", "delay")]
+        texts += [arc.get("expr", "") for arc in module["arcs"] if arc["transition"] == transition]
+        declared = [re.match(r"\s*var\b([^:]*):", it) for it in self.document["declarations"]]
+        names = [name.strip() for it in declared if it for name in it[1].split(",")]
+        return [name for name in names if name in TOKEN.findall(" ".join(texts))]
+
+    def one_with(self, name):
+        """Returns all that is joined with the place of a flat name: flat names, and the numbers of fusion sets."""
         beside = collections.defaultdict(set)
-        places = [*self.instances()]
-        for path, module in places:
+        for path, module in self.instances():
             for sub in module.get("subs", []):
                 for it in sub["assign"]:
                     join(beside, f"{path}/{it['socket']}", f"{path}/{sub['name']}/{it['port']}")
@@ -174,8 +187,17 @@ class Net:
             if (it := new.pop()) not in found:
                 found.add(it)
                 new += beside[it]
-        written = {}
-        for path, module in places:
+        return found
+
+    def compound_name(self, name):
+        """Returns the one name of the compound place that the place of a flat name belongs to: that of its first member."""
+        found = self.one_with(name)
+        return next(it for it in self.names("places") if it in found)
+
+    def markings(self, name):
+        """Returns the written initial markings of the compound place of a name: pointer and text, each once."""
+        found, written = self.one_with(name), {}
+        for path, module in self.instances():
             for at, place in enumerate(module["places"]):
                 if "initial" in place and f"{path}/{place['name']}" in found:
                     written[f"/modules/{self.document['modules'].index(module)}/places/{at}/initial"] = place["initial"]

@@ -10,7 +10,11 @@ import re
 from net_document import TOKEN
 
 TOP = os.path.dirname(os.path.dirname(os.path.abspath(__file__)))
-ROOTS = {"guard": "In a guard a truth value is wanted, or several in [ ].", "delay": "In a delay an integer is wanted."}
+ROOTS = {
+    "guard": "In a guard a truth value is wanted, or several in [ ].",
+    "delay": "In a delay an integer is wanted.",
+    "monitors": "In what a monitor measures an integer is wanted.",
+}
 TABLES = ("The document", "The texts", "The modules and the flat net", "How a run ends")
 TYPES = {"int": "an integer", "string": "a string", "bool": "a truth value"}
 LITERALS = ((r'".*', "a string"), (r"~?\d+", "an integer"), ("true|false", "a truth value"))
@@ -67,8 +71,8 @@ def mismatch_facts(net, parts, text, at):
     it, before, after = tokens[i], tokens[i - 1] if i else "", (*tokens, "")[i + 1]
     if it == "empty" or it.isdigit() and after == "`":
         yield f"{it} begins a form for tokens, and one value is wanted here."
-    elif not i and parts[-1] in ROOTS:
-        yield ROOTS[parts[-1]]
+    elif not i and (parts[0] == "monitors" or parts[-1] in ROOTS):
+        yield ROOTS["monitors" if parts[0] == "monitors" else parts[-1]]
     for signs, (left, right) in rows("What stands beside a sign").items():
         yield from [f"After {before} {right} is wanted."] if right and before in signs.split() else []
         if left and after in signs.split() and not (after == "`" and it.isdigit()):
@@ -78,7 +82,7 @@ def mismatch_facts(net, parts, text, at):
         yield f"After #{before} a product with at least so many parts is wanted."
     opened = [j for j in range(1, i) if tokens[j] == "(" and tokens[j:i].count("(") > tokens[j:i].count(")")]
     yield from name_facts(net, tokens[opened[-1] - 1]) if opened else []
-    if parts[-1] in ("expr", "initial"):
+    if parts[-1] in ("expr", "initial") and parts[0] != "monitors":
         owner = net.get(parts[:-1])
         place = next(one for one in net.get(parts[:2])["places"] if one["name"] == owner.get("place", owner.get("name")))
         yield f"The colour set of place {place['name']} is {place['colour']}: {net.declaration(place['colour'])}"
@@ -124,4 +128,7 @@ def text_facts(net, parts, key, detail):
     if key == "type 1 unknown" and not said:
         known = [it for it in {*TOKEN.findall(" ".join(net.document["declarations"])), *PREDECLARED} if name_facts(net, it)]
         said = (form_facts(text, ats[0]) if ats else []) or [nearest(detail, known)]
+    if key == "type 1 unknown" and parts[0] == "monitors":
+        transition = net.get(parts[:2])["transition"]
+        said = [*said, f"The transition {transition} has {', '.join(net.variables_of(transition)) or 'no variable'}."]
     return ats, said

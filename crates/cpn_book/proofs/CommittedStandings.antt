@@ -22,7 +22,7 @@ use Rattle.cpn_runs.specs.Commits.{marked_claim, marked_from, stop_at_last}
 use Rattle.cpn_runs.specs.State.{PlainSetup, PlainState, PlainEnd, cut_made, status_after, numbered, committed, owed_cut, committed_occurrences}
 use Rattle.cpn_runs.specs.Views.{event_view}
 use Rattle.cpn_runs.proofs.States.{IsClaimOf, every_state}
-use Rattle.cpn_book.specs.StandingRuns.{IsTold, stop_behind, GoesOn, StandsAt}
+use Rattle.cpn_book.specs.StandingRuns.{IsTold, stop_behind, NoneStops, StandsAt}
 use Rattle.cpn_book.proofs.CompletedClaims.{told_committed, stands_cut}
 use Rattle.cpn_book.specs.Standings.{IsToldAt, IsAt, committed_of, IsDoneClaim, HasCommitted, StillCommitted, job_for, cut_view, events_in, occurrences_in}
 use Rattle.cpn_book.specs.declared.standings.Standing.{Standing}
@@ -86,7 +86,7 @@ module _ (setup : PlainSetup) (old new : Standing) (claim : PlainClaim) (rest : 
     (log_is : log_view new.log ≡ with_committed (log_view old.log) claim rest) (kept : IsKept (log_view new.log)) (jobs_same : jobs_in new.log ≡ jobs_in old.log)
     (others : new ≡ record old { log = new.log; occurrences = new.occurrences; values = new.values })
     (occurrences : occurrences_in new ≡ occurrences_in old ++ record { number = length (log_view old.log).committed; time = claim.time; element = claim.element } ∷ []) where
-  module _ (at : IsToldAt setup old) (goes_on : GoesOn setup at.state (log_view old.log)) where
+  module _ (at : IsToldAt setup old) (goes_on : NoneStops setup at.state (log_view old.log)) where
     pub told : IsTold setup (events_in new) at.state (log_view new.log) new.held.items
     told =
         let first_told = told_committed setup (events_in old) at.state (log_view old.log) old.held.items claim rest at.told goes_on first done (subst IsKept log_is kept) in

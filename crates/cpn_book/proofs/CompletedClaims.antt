@@ -14,7 +14,7 @@ use Rattle.cpn_runs.proofs.States.{IsCutOff, leads_more, every_state, closed_sta
 use Rattle.cpn_book.specs.Held.{held_from, AreHeld}
 use Rattle.cpn_log.specs.Kept.{IsKept}
 use Rattle.cpn_log.specs.Logs.{PlainLog, PlainHead, head_of, with_status, with_committed}
-use Rattle.cpn_book.specs.StandingRuns.{IsTold, GoesOn, StandsAt}
+use Rattle.cpn_book.specs.StandingRuns.{IsTold, NoneStops, StandsAt}
 use Rattle.cpn_book.proofs.HeldClaims.{held_changed, held_closed, done_hold_none}
 use Rattle.cpn_book.proofs.LoggedClaims.{has_changed, has_committed, has_first}
 use Rattle.cpn_book.specs.Logged.{HasClaims}
@@ -106,7 +106,7 @@ module _ (setup : PlainSetup) (journal : List PlainEvent) (state : PlainState) (
 
 pub told_committed : (setup : PlainSetup) (journal : List PlainEvent) (state : PlainState) (log : PlainLog) (held : List (Option ℕ)) (claim : PlainClaim) (rest : List PlainClaim)
     → IsTold setup journal state log held
-    → GoesOn setup state log
+    → NoneStops setup state log
     → log.claims ≡ claim ∷ rest
     → is_done claim.status ≡ true
     → IsKept (with_committed log claim rest)

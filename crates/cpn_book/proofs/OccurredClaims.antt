@@ -36,12 +36,12 @@ module _ (setup : PlainSetup) (journal : List PlainEvent) (state : PlainState) (
   -- where no seat holds a claim all are committed
   pub all_committed : log.claims ≡ []
   all_committed = none_left log.claims (
-    let has = stands.told.has in
-    let all = every_claim in
-    let many = stands.all_committed in
-    let front = as_many setup.start state.claims log has in
-    let long = ap (λ (cs : List PlainClaim). length cs) has.claims_are ∙ length-append has.committed log.claims in
-    omega (arith, all, many, front, long))
+      let has = stands.told.has in
+      let all = every_claim in
+      let many = stands.all_committed in
+      let front = as_many setup.start state.claims log has in
+      let long = ap (λ (cs : List PlainClaim). length cs) has.claims_are ∙ length-append has.committed log.claims in
+      omega (arith, all, many, front, long))
     where
       none_left : (claims : List PlainClaim) → length claims ≡ 0 → claims ≡ []
       none_left [] none = refl
@@ -103,11 +103,11 @@ module _ (setup : PlainSetup) (journal : List PlainEvent) (state : PlainState) (
   -- all claims were committed, and no monitor stopped the run
   whole : take (length log.committed) state.claims ≡ state.claims
   whole = take_all (length log.committed) state.claims (
-    let has = stands.told.has in
-    let front = as_many setup.start state.claims log has in
-    let none : length log.claims ≡ 0 = ap (λ (cs : List PlainClaim). length cs) all in
-    let long = ap (λ (cs : List PlainClaim). length cs) has.claims_are ∙ length-append has.committed log.claims in
-    omega (arith, front, none, long))
+      let has = stands.told.has in
+      let front = as_many setup.start state.claims log has in
+      let none : length log.claims ≡ 0 = ap (λ (cs : List PlainClaim). length cs) all in
+      let long = ap (λ (cs : List PlainClaim). length cs) has.claims_are ∙ length-append has.committed log.claims in
+      omega (arith, front, none, long))
 
   many_are : length log.committed ≡ length state.claims
   many_are =

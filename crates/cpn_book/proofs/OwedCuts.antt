@@ -8,7 +8,7 @@ use Rattle.cpn_runs.specs.HoleRun.{PlainClaim}
 use Rattle.cpn_runs.specs.State.{PlainSetup, PlainState, PlainCut, stopped_by, committed, owed_cut, cut_at, cut_by_stop}
 use Rattle.cpn_book.specs.Committing.{MayCommit, IsStopped, NextWaits, CommitsNoMore}
 use Rattle.cpn_book.specs.Logged.{HasClaims}
-use Rattle.cpn_book.specs.StandingRuns.{stop_behind, GoesOn}
+use Rattle.cpn_book.specs.StandingRuns.{stop_behind, NoneStops}
 use Rattle.cpn_book.specs.Standings.{IsToldAt}
 use Rattle.cpn_book.specs.declared.standings.Standing.{Standing}
 use Rattle.cpn_book.proofs.ClaimedStandings.{uncut_in}
@@ -32,7 +32,7 @@ module _ (setup : PlainSetup) (state : PlainState) (log : PlainLog) (has : HasCl
   owed_by_stop : (monitor : ℕ) → stop_behind setup state log ≡ Some monitor → owed_cut setup state ≡ Some (record { number = length log.committed; cause = stopped_by monitor })
   owed_by_stop monitor is = owed_by (Some monitor) is
 
-  owed_at_next : GoesOn setup state log → owed_cut setup state ≡ cut_at (length log.committed) (slice_get log.claims 0)
+  owed_at_next : NoneStops setup state log → owed_cut setup state ≡ cut_at (length log.committed) (slice_get log.claims 0)
   owed_at_next is = owed_by None is
 
 -- where a monitor stops the run its cut is owed

@@ -5,7 +5,7 @@ use Rattle.cpn_log.specs.LogViews.{log_view}
 use Rattle.cpn_runs.specs.State.{PlainSetup, committed, owed_cut}
 use Rattle.cpn_runs.specs.Views.{end_view}
 use Rattle.cpn_runs.specs.declared.events.End.{End}
-use Rattle.cpn_book.specs.StandingRuns.{stop_behind, GoesOn}
+use Rattle.cpn_book.specs.StandingRuns.{stop_behind, NoneStops}
 use Rattle.cpn_book.specs.Standings.{IsToldAt}
 use Rattle.cpn_book.specs.declared.committing.Commit.{Commit}
 use Rattle.cpn_book.specs.declared.committing.Commit.TheVariants as commits
@@ -14,7 +14,7 @@ use Rattle.cpn_book.specs.declared.standings.Standing.{Standing}
 -- The next claim may be committed, if it is done: no monitor stops the run after the last committed one.
 pub record MayCommit (setup : PlainSetup) (s : Standing) : Type 0 where
   pub told : IsToldAt setup s
-  pub goes_on : GoesOn setup told.state (log_view s.log)
+  pub goes_on : NoneStops setup told.state (log_view s.log)
 
 -- The monitor of a number stops the run after the last committed claim.
 pub record IsStopped (setup : PlainSetup) (s : Standing) (monitor : ℕ) : Type 0 where

@@ -22,8 +22,8 @@ abbrev pub stop_behind : PlainSetup → PlainState → PlainLog → Option ℕ
 stop_behind setup state log = stop_at_last setup.monitors (marked_from setup.start (take (length log.committed) state.claims))
 
 -- none does
-abbrev pub GoesOn : PlainSetup → PlainState → PlainLog → Type 0
-GoesOn setup state log = stop_behind setup state log ≡ None
+abbrev pub NoneStops : PlainSetup → PlainState → PlainLog → Type 0
+NoneStops setup state log = stop_behind setup state log ≡ None
 
 -- Between two events all that can be committed is committed, and no cut is owed.
 pub record StandsAt (setup : PlainSetup) (journal : List PlainEvent) (state : PlainState) (log : PlainLog) (held : List (Option ℕ)) : Type 0 where

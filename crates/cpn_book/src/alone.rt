@@ -106,13 +106,7 @@ impl Book {
         let Ok(done) = ticket.evaluate() else {
             return Err(Memory);
         };
-        play_drawn(
-            self.alloc,
-            &self.setup,
-            &mut self.standing,
-            done,
-            needs,
-        )?;
+        play_drawn(self.alloc, &self.setup, &mut self.standing, done, needs)?;
         self.search()
     }
 

@@ -57,11 +57,7 @@ pub(crate) fn commit_all(
 }
 
 /// Commits the next claim, if it is done with its outputs; the monitors note its occurrence.
-fn commit_next(
-    alloc: Global,
-    setup: &Setup,
-    standing: &mut Standing,
-) -> Result<Commit, Memory>
+fn commit_next(alloc: Global, setup: &Setup, standing: &mut Standing) -> Result<Commit, Memory>
     requires playable { IsPlayable (setup_view setup.now) }
     requires may { MayCommit (setup_view setup.now) standing.old }
     ensures leads { IfOk result (λ commit. CommitLeads (setup_view setup.now) standing.old standing.new commit) }

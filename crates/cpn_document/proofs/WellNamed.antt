@@ -205,7 +205,7 @@ monitors_named : (version : ℕ) (d : Data) → first_broken (monitors_rules ver
 unfolding monitors_rules each_monitor
 monitors_named version d h =
     let k = simp broken_append at h in
-    are_names monitor_in (λ monitor. monitor.name) (λ e. refl) [] (items_at (codes "monitors") d) (each_new (monitor_rules version) (monitor_new version) 0 [] (items_at (codes "monitors") d) (none_parts _ _ (none_parts _ _ k).0).1)
+    are_names monitor_in (λ monitor. monitor.name) (λ e. refl) [] (items_at (codes "monitors") d) (each_new (monitor_rules version) (monitor_new version) 0 [] (items_at (codes "monitors") d) (none_parts _ _ k).1)
 
 -- ---- the document
 

@@ -6,7 +6,7 @@ use Rattle.std.specs.Str.{bytes_eq}
 use Rattle.serde_json.specs.Data.{Data}
 use Rattle.cpn_document.specs.Refusals.{shape}
 use Rattle.cpn_document.specs.Rules.{Rule}
-use Rattle.cpn_document.specs.Parts.{text_at, number_at, items_at, object_rules, text_rules, flat_name_rules, new_name_rules, number_rules, word_rules, list_rules, where_there, each_named, unserved_rules}
+use Rattle.cpn_document.specs.Parts.{text_at, number_at, items_at, object_rules, text_rules, flat_name_rules, new_name_rules, number_rules, word_rules, list_rules, where_there, each_named}
 use Rattle.cpn_document.specs.declared.pointers.Pointer.TheVariants as at
 use Rattle.cpn_document.specs.declared.pointers.MonitorPart.TheVariants as of_monitor
 use Rattle.cpn_document.specs.declared.document.Bound.{Bound}
@@ -122,9 +122,8 @@ monitor_rules version i earlier d =
 unfoldable pub each_monitor : ℕ → List Data → List Rule
 each_monitor version ds = each_named (monitor_rules version) 0 [] ds
 
--- The monitors: maybe a list of them. None is run yet.
+-- The monitors: maybe a list of them.
 unfoldable pub monitors_rules : ℕ → Data → List Rule
 monitors_rules version d =
     where_there (codes "monitors") d (list_rules (codes "monitors") at.Root at.Monitors d)
     ++ each_monitor version (items_at (codes "monitors") d)
-    ++ unserved_rules at.Monitors (items_at (codes "monitors") d)

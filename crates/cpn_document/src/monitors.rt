@@ -12,8 +12,8 @@ ghost use Rattle.cpn_document.specs.declared.monitors.MonitorForm.TheVariants as
 use crate::document::{Bound, Monitor, MonitorKind};
 use crate::names::{Names, new_name_at_key};
 use crate::parts::{
-    check_keys, check_unserved, flat_name_at_key, number_at_key, optional_list_at_key, text_at_key,
-    text_or_empty, word_at_key,
+    check_keys, flat_name_at_key, number_at_key, optional_list_at_key, text_at_key, text_or_empty,
+    word_at_key,
 };
 use crate::pointers::{MonitorPart, Pointer};
 use crate::refusals::{DocError, Refused};
@@ -259,7 +259,7 @@ fn monitors_of(alloc: Global, version: u64, list: &[Value]) -> Result<Vec<Monito
     Ok(monitors)
 }
 
-/// The monitors of a document. None is run yet.
+/// The monitors of a document.
 #[tactic(auto, using(crate::proofs::BrokenRules::broken_append), unfolding(crate::specs::Monitors::monitors_rules))]
 pub(crate) fn monitors_in(
     alloc: Global,
@@ -269,7 +269,5 @@ pub(crate) fn monitors_in(
     ensures gives { Gives (λ monitors. map monitor_view monitors.items) result (map monitor_in (items_at (codes "monitors") (view value.now))) (monitors_rules version (view value.now)) }
 {
     let list = optional_list_at_key(value, "monitors", Pointer::Root, Pointer::Monitors)?;
-    let monitors = monitors_of(alloc, version, list)?;
-    check_unserved(list, Pointer::Monitors)?;
-    Ok(monitors)
+    monitors_of(alloc, version, list)
 }

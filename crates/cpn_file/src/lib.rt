@@ -14,5 +14,6 @@ mod text_lines;
 
 pub use cpn_document::{DocError, Pointer};
 pub use cpn_flat::Loaded;
+pub use lines::pointer_line;
 pub use reading::load;
 pub use refusals::LoadError;

@@ -35,8 +35,12 @@ fn numbered_line(
     Ok(line)
 }
 
-/// The same, where the refusal carries a pointer.
-fn pointer_line(
+/// The line of a refusal by its number, of what is refused, with the pointer that it carries, and its line feed.
+///
+/// # Errors
+///
+/// [`Memory`]: memory ran out.
+pub fn pointer_line(
     alloc: Global,
     what: &str,
     number: u64,

@@ -46,7 +46,7 @@ fn loaded_of(alloc: Global, document: Document) -> Result<Loaded, LoadError>
 ///
 /// # Errors
 ///
-/// - [`LoadError::Document`]: the bytes are no document, or one with monitors or phases, which are not served yet.
+/// - [`LoadError::Document`]: the bytes are no document, or one with phases, which are not served yet.
 /// - [`LoadError::Inscription`]: a text, or the variables of a transition, are not accepted.
 /// - [`LoadError::Module`]: the modules make no hierarchy.
 /// - [`LoadError::Flat`]: there are too many instances, or an initial marking has a fault or differs from another.

@@ -69,7 +69,7 @@ bytes_behind (byte ∷ front) name h plain =
     let parts = and_parts (is_path_byte byte) (list_all is_path_byte front) h in
     and_from (is_path_byte byte) (list_all is_path_byte (front ++ 0x2F ∷ name)) parts.0 (bytes_behind front name parts.1 plain)
 
-spelled_from_name : (text : List ℕ) → is_name text ≡ true → is_path text ≡ true
+pub spelled_from_name : (text : List ℕ) → is_name text ≡ true → is_path text ≡ true
 unfolding is_name
 spelled_from_name [] h = cc
 spelled_from_name (first ∷ rest) h =

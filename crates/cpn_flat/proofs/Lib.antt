@@ -15,7 +15,7 @@ mod CompoundColours
 mod NamedFlatNets
 mod ShortFlatNets
 mod ApartInstances
-mod JoinedNames
+pub mod JoinedNames
 mod FlatNameRows
 mod InstancePaths
 pub mod DistinctFlatNames

@@ -5,7 +5,7 @@ mod PlaceColours
 mod Bindables
 mod ArcEnds
 mod JoinedArcs
-mod AcceptedTexts
+pub mod AcceptedTexts
 mod AcceptedArcs
 mod AcceptedTransitions
 mod ReadNets

@@ -2,9 +2,8 @@
 use Rattle.std.proofs.Common.{◌≡◌, ℕ, ◌≤◌, List, length, Some, None, Option, IfSome, sym, ◌∙◌, ap, subst, arith}
 use Rattle.std.proofs.lemmas.Option.{same_Some}
 use Rattle.cpn_runs.proofs.OneRun.{one_run}
-use Rattle.cpn_flat.specs.Flat.{PlainLoaded}
-use Rattle.cpn_file.specs.Reading.{Refusal, read, refused}
-use Rattle.cpn_file.specs.Reads.{IsReadAs}
+use Rattle.cpn_model.specs.Reading.{PlainModel, ModelRefusal, read, refused}
+use Rattle.cpn_model.specs.Models.{IsModel}
 use Rattle.cpn_report.specs.Report.{report_text}
 use Rattle.cpn_sim.specs.Limits.{most_bytes}
 use Rattle.cpn_sim.specs.Options.{PlainOptions, options_from}
@@ -14,30 +13,30 @@ use Rattle.cpn_sim.specs.Reported.{IsReport, IsReportUnder, IsReportOf, setup_fr
 use Rattle.cpn_sim.specs.declared.statuses.Status.{Status}
 
 -- what is read is not refused
-pub read_not_refused : (bytes : List ℕ) → HaveOneReading bytes → (loaded : PlainLoaded) (r : Refusal) → IsReadAs bytes (read loaded) → IsReadAs bytes (refused r) → ⊥
-read_not_refused bytes one loaded r a b = let e : read loaded ≡ refused r = one (read loaded) (refused r) a b in cc
+pub read_not_refused : (bytes : List ℕ) → HaveOneReading bytes → (model : PlainModel) (r : ModelRefusal) → IsModel bytes (read model) → IsModel bytes (refused r) → ⊥
+read_not_refused bytes one model r a b = let e : read model ≡ refused r = one (read model) (refused r) a b in cc
 
-one_loaded : (bytes : List ℕ) → HaveOneReading bytes → (l l' : PlainLoaded) → IsReadAs bytes (read l) → IsReadAs bytes (read l') → l ≡ l'
-one_loaded bytes once l l' a b = let e : read l ≡ read l' = once (read l) (read l') a b in cc
+the_one_model : (bytes : List ℕ) → HaveOneReading bytes → (l l' : PlainModel) → IsModel bytes (read l) → IsModel bytes (read l') → l ≡ l'
+the_one_model bytes once l l' a b = let e : read l ≡ read l' = once (read l) (read l') a b in cc
 
 -- Two reports with their statuses are the same.
 pub record IsSameReport (status status' : Status) (report other : List ℕ) : Type 0 where
   pub reports : report ≡ other
   pub statuses : status ≡ status'
 
-of_one_net : (loaded : PlainLoaded) (options : PlainOptions) (s s' : Status) (report other : List ℕ) → options.workers ≡ 1 → IsReportOf loaded options s report → IsReportOf loaded options s' other → IsSameReport s s' report other
-of_one_net loaded options s s' report other one a b =
+of_one_net : (model : PlainModel) (options : PlainOptions) (s s' : Status) (report other : List ℕ) → options.workers ≡ 1 → IsReportOf model options s report → IsReportOf model options s' other → IsSameReport s s' report other
+of_one_net model options s s' report other one a b =
     let in_time : 0 ≤ options.until = omega arith in
-    let same = one_run (setup_from loaded options) a.run b.run one in_time a.is_run b.is_run in
+    let same = one_run (setup_from model options) a.run b.run one in_time a.is_run b.is_run in
     record {
-      reports = a.text_is ∙ ap (report_text options.trace (setup_from loaded options)) same ∙ sym b.text_is;
+      reports = a.text_is ∙ ap (report_text options.trace (setup_from model options)) same ∙ sym b.text_is;
       statuses = a.status_is ∙ ap (λ (run : PlainFinished). status_after run.cause) same ∙ sym b.status_is;
     }
 
 under_one : (bytes : List ℕ) → HaveOneReading bytes → (options : PlainOptions) (s s' : Status) (report other : List ℕ) → options.workers ≡ 1 → IsReportUnder bytes options s report → IsReportUnder bytes options s' other → IsSameReport s s' report other
 under_one bytes once options s s' report other one a b =
-    let P : PlainLoaded → Type 0 = λ l. IsReportOf l options s report in
-    of_one_net b.loaded options s s' report other one (subst P (one_loaded bytes once a.loaded b.loaded a.reads b.reads) a.is_report) b.is_report
+    let P : PlainModel → Type 0 = λ l. IsReportOf l options s report in
+    of_one_net b.model options s s' report other one (subst P (the_one_model bytes once a.model b.model a.reads b.reads) a.is_report) b.is_report
 
 -- the words ask for one worker
 abbrev AskForOne : List (List ℕ) → Type 0

@@ -3,11 +3,11 @@ use Rattle.std.proofs.Common.{◌≡◌, Bool, true, false, ℕ, ◌<◌, ◌≤
 use Rattle.std.proofs.lemmas.Option.{same_Some}
 use Rattle.std.specs.Option.{MatchOption}
 use Rattle.std.specs.Io.KnownBytes.{Appends}
-use Rattle.cpn_flat.specs.Flat.{PlainLoaded}
 use Rattle.cpn_module_nets.specs.Reading.{of_modules, inscription}
-use Rattle.cpn_file.specs.Reading.{Refusal, of_form, of_net, of_flat, Reading, read, refused}
-use Rattle.cpn_file.specs.Reads.{IsReadAs}
-use Rattle.cpn_file.specs.Refusals.{refusal_line}
+use Rattle.cpn_file.specs.Reading.{of_form, of_net, of_flat}
+use Rattle.cpn_model.specs.Reading.{PlainModel, ModelRefusal, of_document, unknown_name, Reading, read, refused}
+use Rattle.cpn_model.specs.Models.{IsModel}
+use Rattle.cpn_model.specs.Lines.{model_line}
 use Rattle.cpn_io.specs.Outside.{Rose}
 use Rattle.cpn_sim.specs.Limits.{most_bytes}
 use Rattle.cpn_sim.specs.Options.{PlainOptions, options_from}
@@ -42,20 +42,20 @@ cause_of_length bad_words words left before now cause options some bytes is long
 cause_of_length read_fault words left before now cause options some bytes is long = inr cause.1
 cause_of_length too_long words left before now cause options some bytes is long = inl refl
 cause_of_length (bad_document r) words left before now cause options some bytes is long =
-    let short : length bytes ≤ most_bytes = (given_left (λ b. (length b ≤ most_bytes) × IsReadAs b (refused r)) left bytes is cause.1).0 in
+    let short : length bytes ≤ most_bytes = (given_left (λ b. (length b ≤ most_bytes) × IsModel b (refused r)) left bytes is cause.1).0 in
     absurd (omega arith)
 
 -- where no more are left, the refusal is of the document, but for a fault
 pub cause_of_document : (refusal : PlainRefusal) (words : List (List ℕ)) (left : Option (List ℕ)) (before now : ℕ) → HasCause refusal words left before now
     → (options : PlainOptions) → options_from words ≡ Some options → (bytes : List ℕ) → left ≡ Some bytes → length bytes ≤ most_bytes
-    → ((r : Refusal) × (refusal ≡ bad_document r) × IsReadAs bytes (refused r)) ⊎ Rose before now
+    → ((r : ModelRefusal) × (refusal ≡ bad_document r) × IsModel bytes (refused r)) ⊎ Rose before now
 cause_of_document bad_words words left before now cause options some bytes is short = absurd (not_both (options_from words) options cause some)
 cause_of_document read_fault words left before now cause options some bytes is short = inr cause.1
 cause_of_document too_long words left before now cause options some bytes is short =
     let long : most_bytes < length bytes = given_left (λ b. most_bytes < length b) left bytes is cause.1 in
     absurd (omega arith)
 cause_of_document (bad_document r) words left before now cause options some bytes is short =
-    inl (r, refl, (given_left (λ b. (length b ≤ most_bytes) × IsReadAs b (refused r)) left bytes is cause.1).1)
+    inl (r, refl, (given_left (λ b. (length b ≤ most_bytes) × IsModel b (refused r)) left bytes is cause.1).1)
 
 -- ---- statuses
 
@@ -72,14 +72,15 @@ is_of_document statuses.WriteFault = false
 is_of_document statuses.Memory = false
 is_of_document statuses.TooLong = false
 
-of_its_status : (r : Refusal) → is_of_document (status_of_document r) ≡ true
-of_its_status (of_form reason) = refl
-of_its_status (of_net (inscription place reason)) = refl
-of_its_status (of_net (of_modules reason)) = refl
-of_its_status (of_flat reason) = refl
+of_its_status : (r : ModelRefusal) → is_of_document (status_of_document r) ≡ true
+of_its_status (of_document (of_form reason)) = refl
+of_its_status (of_document (of_net (inscription place reason))) = refl
+of_its_status (of_document (of_net (of_modules reason))) = refl
+of_its_status (of_document (of_flat reason)) = refl
+of_its_status (unknown_name monitor) = refl
 
 -- a status that is no document's is not that of one
-no_document : {A : Type 0} (r : Refusal) (status : Status) → is_of_document status ≡ false → status_of_document r ≡ status → A
+no_document : {A : Type 0} (r : ModelRefusal) (status : Status) → is_of_document status ≡ false → status_of_document r ≡ status → A
 no_document r status none is = let e : true ≡ false = sym (of_its_status r) ∙ ap is_of_document is ∙ none in absurd cc
 
 -- the refusal of a status
@@ -102,11 +103,11 @@ of_length too_long is = refl
 of_length (bad_document r) is = no_document r statuses.TooLong refl is
 
 -- the refusal of a status of the document is one of the document
-of_document : (refusal : PlainRefusal) (s : Status) → is_of_document s ≡ true → status_of refusal ≡ s → (r : Refusal) × (refusal ≡ bad_document r) × (status_of_document r ≡ s)
-of_document bad_words s its is = let e : false ≡ true = ap is_of_document is ∙ its in absurd cc
-of_document read_fault s its is = let e : false ≡ true = ap is_of_document is ∙ its in absurd cc
-of_document too_long s its is = let e : false ≡ true = ap is_of_document is ∙ its in absurd cc
-of_document (bad_document r) s its is = (r, refl, is)
+document_of : (refusal : PlainRefusal) (s : Status) → is_of_document s ≡ true → status_of refusal ≡ s → (r : ModelRefusal) × (refusal ≡ bad_document r) × (status_of_document r ≡ s)
+document_of bad_words s its is = let e : false ≡ true = ap is_of_document is ∙ its in absurd cc
+document_of read_fault s its is = let e : false ≡ true = ap is_of_document is ∙ its in absurd cc
+document_of too_long s its is = let e : false ≡ true = ap is_of_document is ∙ its in absurd cc
+document_of (bad_document r) s its is = (r, refl, is)
 
 is_no_report : (refusal : PlainRefusal) → IsReported (status_of refusal) → ⊥
 is_no_report bad_words (inl is) = cc
@@ -124,11 +125,11 @@ plain_of refusal None memory once written not_memory = absurd (not_memory memory
 plain_of refusal (Some plain) cause once written not_memory = (plain, cause, once, written)
 
 -- the refusal that is read, if one is
-abbrev the_refusal : Reading PlainLoaded → Option Refusal
-the_refusal (read loaded) = None
+abbrev the_refusal : Reading PlainModel → Option ModelRefusal
+the_refusal (read model) = None
 the_refusal (refused r) = Some r
 
-same_refusal : (bytes : List ℕ) → HaveOneReading bytes → (r r' : Refusal) → IsReadAs bytes (refused r) → IsReadAs bytes (refused r') → r ≡ r'
+same_refusal : (bytes : List ℕ) → HaveOneReading bytes → (r r' : ModelRefusal) → IsModel bytes (refused r) → IsModel bytes (refused r') → r ≡ r'
 same_refusal bytes one r r' a b = same_Some r r' (ap the_refusal (one (refused r) (refused r') a b))
 
 -- the status of the refusal, or an excuse
@@ -162,10 +163,10 @@ module _ (refusal : PlainRefusal) (words : List (List ℕ)) (left : Option (List
   pub long_told : status ≡ statuses.TooLong → HasCause too_long words left before after × Appends old new (error_line too_long)
   long_told is = let same = told statuses.TooLong (λ e. cc) (λ e. cc) is in having statuses.TooLong too_long is same (of_length refusal same)
 
-  pub document_told : (s : Status) → is_of_document s ≡ true → (s ≡ statuses.Memory → ⊥) → (s ≡ statuses.WriteFault → ⊥) → status ≡ s → (r : Refusal) × HasCause (bad_document r) words left before after × (status_of_document r ≡ s) × Appends old new (refusal_line r)
+  pub document_told : (s : Status) → is_of_document s ≡ true → (s ≡ statuses.Memory → ⊥) → (s ≡ statuses.WriteFault → ⊥) → status ≡ s → (r : ModelRefusal) × HasCause (bad_document r) words left before after × (status_of_document r ≡ s) × Appends old new (model_line r)
   document_told s its not_memory not_write is =
       let same = told s not_memory not_write is in
-      let which = of_document refusal s its same in
+      let which = document_of refusal s its same in
       let both = having s (bad_document which.0) is same which.1 in
       (which.0, both.0, which.2, both.1)
 
@@ -180,10 +181,10 @@ module _ (refusal : PlainRefusal) (words : List (List ℕ)) (left : Option (List
       (cause_of_length refusal words left before after cause options some bytes is long)
 
   -- the document that is left has one reading, where its refusal is the cause
-  read_once : (bytes : List ℕ) → left ≡ Some bytes → (r : Refusal) → refusal ≡ bad_document r → HaveOneReading bytes
+  read_once : (bytes : List ℕ) → left ≡ Some bytes → (r : ModelRefusal) → refusal ≡ bad_document r → HaveOneReading bytes
   read_once bytes is r which = given_left HaveOneReading left bytes is (let Q : PlainRefusal → Type 0 = λ q. IsReadOnce q left in subst Q which once)
 
-  pub refused_document : (wanted : Status) (options : PlainOptions) → options_from words ≡ Some options → (bytes : List ℕ) → left ≡ Some bytes → length bytes ≤ most_bytes → (r : Refusal) → IsReadAs bytes (refused r) → status_of_document r ≡ wanted → IsOrExcused status wanted (Rose before after) (Rose faults now)
+  pub refused_document : (wanted : Status) (options : PlainOptions) → options_from words ≡ Some options → (bytes : List ℕ) → left ≡ Some bytes → length bytes ≤ most_bytes → (r : ModelRefusal) → IsModel bytes (refused r) → status_of_document r ≡ wanted → IsOrExcused status wanted (Rose before after) (Rose faults now)
   refused_document wanted options some bytes is short r reads its =
       ⊎_elim
       (λ which.
@@ -192,7 +193,7 @@ module _ (refusal : PlainRefusal) (words : List (List ℕ)) (left : Option (List
       (λ rose. inr (inr (inl rose)))
       (cause_of_document refusal words left before after cause options some bytes is short)
 
-  pub refused_complete : (options : PlainOptions) → options_from words ≡ Some options → (bytes : List ℕ) → left ≡ Some bytes → length bytes ≤ most_bytes → (loaded : PlainLoaded) → IsReadAs bytes (read loaded) → IsReportedOrExcused status (Rose before after) (Rose faults now)
-  refused_complete options some bytes is short loaded reads =
-      ⊎_elim (λ which. absurd (read_not_refused bytes (read_once bytes is which.0 which.1) loaded which.0 reads which.2)) (λ rose. inr (inr (inl rose)))
+  pub refused_complete : (options : PlainOptions) → options_from words ≡ Some options → (bytes : List ℕ) → left ≡ Some bytes → length bytes ≤ most_bytes → (model : PlainModel) → IsModel bytes (read model) → IsReportedOrExcused status (Rose before after) (Rose faults now)
+  refused_complete options some bytes is short model reads =
+      ⊎_elim (λ which. absurd (read_not_refused bytes (read_once bytes is which.0 which.1) model which.0 reads which.2)) (λ rose. inr (inr (inl rose)))
       (cause_of_document refusal words left before after cause options some bytes is short)

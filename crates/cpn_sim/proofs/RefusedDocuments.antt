@@ -2,8 +2,8 @@
 use Rattle.std.proofs.Common.{◌≡◌, ℕ, ◌≤◌, List, length, Option, Some, None, IfSome, sym, subst}
 use Rattle.std.specs.Prelude.{option_map, not}
 use Rattle.std.specs.Option.{MatchOption}
-use Rattle.cpn_file.specs.Reading.{Refusal, refused}
-use Rattle.cpn_file.specs.Reads.{IsReadAs}
+use Rattle.cpn_model.specs.Reading.{ModelRefusal, refused}
+use Rattle.cpn_model.specs.Models.{IsModel}
 use Rattle.cpn_sim.specs.Limits.{most_bytes}
 use Rattle.cpn_sim.specs.Causes.{PlainRefusal, bad_document, GiveOptions, HasCause, HaveOneReading, IsReadOnce}
 use Rattle.cpn_sim.specs.RefusalViews.{refusal_view}
@@ -21,22 +21,22 @@ in_left P (Some xs) bytes same holds = subst P same holds
 pub read_once : (left : Option (List ℕ)) (bytes : List ℕ) → IfSome left (λ xs. bytes ≡ xs) → HaveOneReading bytes → IfSome left HaveOneReading
 read_once left bytes same one = in_left HaveOneReading left bytes same one
 
-module _ (o : Option Refusal) (refusal : TheRefusal) (left : Option (List ℕ)) (bytes : List ℕ) (is : refusal_view refusal ≡ option_map bad_document o) (same : IfSome left (λ xs. bytes ≡ xs)) where
+module _ (o : Option ModelRefusal) (refusal : TheRefusal) (left : Option (List ℕ)) (bytes : List ℕ) (is : refusal_view refusal ≡ option_map bad_document o) (same : IfSome left (λ xs. bytes ≡ xs)) where
   -- the refusal has its cause
-  pub its_cause : (words : List (List ℕ)) (before now : ℕ) → (refusal_view refusal ≡ None → refusal ≡ refusals.Memory) → GiveOptions words → length bytes ≤ most_bytes → IfSome o (λ r. IsReadAs bytes (refused r))
+  pub its_cause : (words : List (List ℕ)) (before now : ℕ) → (refusal_view refusal ≡ None → refusal ≡ refusals.Memory) → GiveOptions words → length bytes ≤ most_bytes → IfSome o (λ r. IsModel bytes (refused r))
       → MatchOption (refusal_view refusal) (refusal ≡ refusals.Memory) (λ plain. HasCause plain words left before now)
   its_cause words before now memory given short refuses = by o is refuses
     where
-      by : (p : Option Refusal) → refusal_view refusal ≡ option_map bad_document p → IfSome p (λ r. IsReadAs bytes (refused r)) → MatchOption (refusal_view refusal) (refusal ≡ refusals.Memory) (λ plain. HasCause plain words left before now)
+      by : (p : Option ModelRefusal) → refusal_view refusal ≡ option_map bad_document p → IfSome p (λ r. IsModel bytes (refused r)) → MatchOption (refusal_view refusal) (refusal ≡ refusals.Memory) (λ plain. HasCause plain words left before now)
       by None e reads = subst (λ (v : Option PlainRefusal). MatchOption v (refusal ≡ refusals.Memory) (λ plain. HasCause plain words left before now)) (sym e) (memory e)
       by (Some r) e reads =
           subst (λ (v : Option PlainRefusal). MatchOption v (refusal ≡ refusals.Memory) (λ plain. HasCause plain words left before now)) (sym e)
-          (given, in_left (λ b. (length b ≤ most_bytes) × IsReadAs b (refused r)) left bytes same (short, reads))
+          (given, in_left (λ b. (length b ≤ most_bytes) × IsModel b (refused r)) left bytes same (short, reads))
 
   -- and the document, one reading
   pub its_reading : HaveOneReading bytes → IfSome (refusal_view refusal) (λ plain. IsReadOnce plain left)
   its_reading one = by o is
     where
-      by : (p : Option Refusal) → refusal_view refusal ≡ option_map bad_document p → IfSome (refusal_view refusal) (λ plain. IsReadOnce plain left)
+      by : (p : Option ModelRefusal) → refusal_view refusal ≡ option_map bad_document p → IfSome (refusal_view refusal) (λ plain. IsReadOnce plain left)
       by None e = subst (λ (v : Option PlainRefusal). IfSome v (λ plain. IsReadOnce plain left)) (sym e) tt
       by (Some r) e = subst (λ (v : Option PlainRefusal). IfSome v (λ plain. IsReadOnce plain left)) (sym e) (in_left HaveOneReading left bytes same one)

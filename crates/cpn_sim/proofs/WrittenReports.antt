@@ -1,9 +1,8 @@
 -- What a report that was written gives: its clauses, and that its status is no other.
 use Rattle.std.proofs.Common.{◌≡◌, ℕ, ◌<◌, ◌≤◌, Bool, true, false, List, length, Some, None, Option, IfSome, sym, ap, ◌∙◌, subst, inl, inr, arith}
 use Rattle.std.specs.Io.KnownBytes.{Appends}
-use Rattle.cpn_flat.specs.Flat.{PlainLoaded}
-use Rattle.cpn_file.specs.Reading.{Refusal, read, refused}
-use Rattle.cpn_file.specs.Reads.{IsReadAs}
+use Rattle.cpn_model.specs.Reading.{PlainModel, ModelRefusal, read, refused}
+use Rattle.cpn_model.specs.Models.{IsModel}
 use Rattle.cpn_sim.specs.Limits.{most_bytes}
 use Rattle.cpn_sim.specs.Options.{PlainOptions, options_from}
 use Rattle.cpn_sim.specs.Causes.{GiveOptions, HaveOneReading}
@@ -41,13 +40,13 @@ written words None status given report old new is same appended = tt
 written words (Some bytes) status given report old new is same appended = (is.0, (report, subst (λ s. IsReport bytes words s report) same is.1, appended))
 
 -- a report of the net that bytes are read as is one of the bytes that were left
-pub read_reported : (words : List (List ℕ)) (left : Option (List ℕ)) (bytes : List ℕ) (options : PlainOptions) (loaded : PlainLoaded) (status : Status) (report : List ℕ)
-    → IfSome left (λ xs. bytes ≡ xs) → length bytes ≤ most_bytes → options_from words ≡ Some options → IsReadAs bytes (read loaded) → IsReportOf loaded options status report
+pub read_reported : (words : List (List ℕ)) (left : Option (List ℕ)) (bytes : List ℕ) (options : PlainOptions) (model : PlainModel) (status : Status) (report : List ℕ)
+    → IfSome left (λ xs. bytes ≡ xs) → length bytes ≤ most_bytes → options_from words ≡ Some options → IsModel bytes (read model) → IsReportOf model options status report
     → IfSome left (λ xs. (length xs ≤ most_bytes) × IsReport xs words status report)
-read_reported words None bytes options loaded status report same short given reads is = tt
-read_reported words (Some xs) bytes options loaded status report same short given reads is =
+read_reported words None bytes options model status report same short given reads is = tt
+read_reported words (Some xs) bytes options model status report same short given reads is =
     subst (λ (bs : List ℕ). (length bs ≤ most_bytes) × IsReport bs words status report) same
-    (short, record { options = options; words_are = given; is_report = record { loaded = loaded; reads = reads; is_report = is } })
+    (short, record { options = options; words_are = given; is_report = record { model = model; reads = reads; is_report = is } })
 
 -- where there is a report, the words give options
 pub not_refused_words : (words : List (List ℕ)) → GiveOptions words → options_from words ≡ None → ⊥
@@ -62,8 +61,8 @@ module _ (words : List (List ℕ)) (left : Option (List ℕ)) (status : Status) 
   not_too_long long = let short : length bytes ≤ most_bytes = of_these.0 in omega arith
 
   -- and they are not refused
-  pub not_refused : IfSome left HaveOneReading → (r : Refusal) → IsReadAs bytes (refused r) → ⊥
+  pub not_refused : IfSome left HaveOneReading → (r : ModelRefusal) → IsModel bytes (refused r) → ⊥
   not_refused once r refused_so =
       let one : HaveOneReading bytes = subst (λ (o : Option (List ℕ)). IfSome o HaveOneReading) is once in
       let is_report = of_these.1.is_report in
-      read_not_refused bytes one is_report.loaded r is_report.reads refused_so
+      read_not_refused bytes one is_report.model r is_report.reads refused_so

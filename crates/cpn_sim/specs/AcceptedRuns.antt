@@ -2,17 +2,16 @@
 use Rattle.std.specs.Prelude.{◌≡◌, ℕ, List, Some}
 use Rattle.cpn_runs.specs.Playable.{IsPlayable}
 use Rattle.cpn_runs.specs.WithoutSeats.{without_seats}
-use Rattle.cpn_flat.specs.Flat.{PlainLoaded}
-use Rattle.cpn_file.specs.Reading.{read}
-use Rattle.cpn_file.specs.Reads.{IsReadAs}
+use Rattle.cpn_model.specs.Reading.{PlainModel, read}
+use Rattle.cpn_model.specs.Models.{IsModel}
 use Rattle.cpn_report.specs.declared.traces.Trace.TheVariants as traces
 use Rattle.cpn_sim.specs.Options.{PlainOptions, options_from}
 use Rattle.cpn_sim.specs.Reported.{setup_from, IsReport}
 use Rattle.cpn_sim.specs.declared.statuses.Status.{Status}
 
--- From whatever bytes are read as, a run may start under whatever options words give.
+-- From whatever model bytes are, a run may start under whatever options words give.
 abbrev pub AcceptedIsPlayable : Type 0
-AcceptedIsPlayable = (bytes : List ℕ) (words : List (List ℕ)) (loaded : PlainLoaded) (options : PlainOptions) → IsReadAs bytes (read loaded) → options_from words ≡ Some options → IsPlayable (setup_from loaded options)
+AcceptedIsPlayable = (bytes : List ℕ) (words : List (List ℕ)) (model : PlainModel) (options : PlainOptions) → IsModel bytes (read model) → options_from words ≡ Some options → IsPlayable (setup_from model options)
 
 -- the options of a report ask for its trace
 abbrev pub HasTrace : {bytes : List ℕ} {words : List (List ℕ)} {status : Status} {text : List ℕ} → IsReport bytes words status text → Type 0

@@ -1,11 +1,11 @@
 -- Why there is no report, and the line and the status that say so. The causes are tried in their order: the words, the
 -- reading of the source, its length, the document. Source: own choice.
 use Rattle.std.specs.Prelude.{◌≡◌, ℕ, ◌<◌, ◌≤◌, ◌⊎◌, List, length, codes, Option, Some, None, IfSome}
-use Rattle.cpn_flat.specs.Flat.{PlainLoaded}
 use Rattle.cpn_module_nets.specs.Reading.{NetRefusal, of_modules, inscription}
-use Rattle.cpn_file.specs.Reading.{Refusal, of_form, of_net, of_flat, Reading, refused}
-use Rattle.cpn_file.specs.Reads.{IsReadAs}
-use Rattle.cpn_file.specs.Refusals.{refusal_line}
+use Rattle.cpn_file.specs.Reading.{Refusal, of_form, of_net, of_flat}
+use Rattle.cpn_model.specs.Lines.{model_line}
+use Rattle.cpn_model.specs.Models.{IsModel}
+use Rattle.cpn_model.specs.Reading.{PlainModel, ModelRefusal, of_document, unknown_name, Reading, refused}
 use Rattle.cpn_io.specs.Outside.{Rose, AppendsProperPrefix}
 use Rattle.std.specs.Io.KnownBytes.{Appends}
 use Rattle.cpn_sim.specs.Limits.{most_bytes}
@@ -19,7 +19,7 @@ pub data PlainRefusal : Type 0 where
   bad_words : PlainRefusal
   read_fault : PlainRefusal
   too_long : PlainRefusal
-  bad_document : Refusal → PlainRefusal
+  bad_document : ModelRefusal → PlainRefusal
 
 -- the words give options
 abbrev pub GiveOptions : List (List ℕ) → Type 0
@@ -33,11 +33,11 @@ HasCause bad_words words left before now = options_from words ≡ None
 HasCause read_fault words left before now = GiveOptions words × Rose before now
 HasCause too_long words left before now = GiveOptions words × IfSome left (λ bytes. most_bytes < length bytes)
 HasCause (bad_document refusal) words left before now =
-    GiveOptions words × IfSome left (λ bytes. (length bytes ≤ most_bytes) × IsReadAs bytes (refused refusal))
+    GiveOptions words × IfSome left (λ bytes. (length bytes ≤ most_bytes) × IsModel bytes (refused refusal))
 
 -- the bytes have at most one reading
 abbrev pub HaveOneReading : List ℕ → Type 0
-HaveOneReading bytes = (reading other : Reading PlainLoaded) → IsReadAs bytes reading → IsReadAs bytes other → reading ≡ other
+HaveOneReading bytes = (reading other : Reading PlainModel) → IsModel bytes reading → IsModel bytes other → reading ≡ other
 
 -- a document that is refused has been read, and has no other reading; of the other refusals nothing is said
 abbrev pub IsReadOnce : PlainRefusal → Option (List ℕ) → Type 0
@@ -51,18 +51,22 @@ abbrev pub error_line : PlainRefusal → List ℕ
 error_line bad_words = codes "error words\n"
 error_line read_fault = codes "error read\n"
 error_line too_long = codes "error long\n"
-error_line (bad_document refusal) = refusal_line refusal
+error_line (bad_document refusal) = model_line refusal
 
--- The status of a refusal of the document: for its form, of a text or the variables of a transition, or of its modules or its flat
--- net.
+-- The status of a refusal of the document: for its form, of a text or the variables of a transition, of its modules, its flat net or the
+-- names in its monitors.
 abbrev pub status_of_net : NetRefusal → Status
 status_of_net (inscription place reason) = statuses.BadInscription
 status_of_net (of_modules reason) = statuses.BadNet
 
-abbrev pub status_of_document : Refusal → Status
-status_of_document (of_form reason) = statuses.BadDocument
-status_of_document (of_net reason) = status_of_net reason
-status_of_document (of_flat reason) = statuses.BadNet
+abbrev pub status_of_loading : Refusal → Status
+status_of_loading (of_form reason) = statuses.BadDocument
+status_of_loading (of_net reason) = status_of_net reason
+status_of_loading (of_flat reason) = statuses.BadNet
+
+abbrev pub status_of_document : ModelRefusal → Status
+status_of_document (of_document reason) = status_of_loading reason
+status_of_document (unknown_name monitor) = statuses.BadNet
 
 -- the status of a refusal
 abbrev pub status_of : PlainRefusal → Status

@@ -2,23 +2,22 @@
 use Rattle.std.specs.Prelude.{◌≡◌, ℕ, ◌⊎◌, List, [], Some}
 use Rattle.cpn_runs.specs.State.{PlainSetup, PlainEnd, dead, steps_made, until_passed, fault_end, stopped_by}
 use Rattle.cpn_runs.specs.Run.{PlainFinished, IsRun}
-use Rattle.cpn_flat.specs.Flat.{PlainLoaded}
-use Rattle.cpn_file.specs.Reading.{read}
-use Rattle.cpn_file.specs.Reads.{IsReadAs}
+use Rattle.cpn_model.specs.Models.{IsModel}
+use Rattle.cpn_model.specs.Reading.{PlainModel, read}
 use Rattle.cpn_report.specs.Report.{report_text}
 use Rattle.cpn_sim.specs.Options.{PlainOptions, options_from}
 use Rattle.cpn_sim.specs.declared.statuses.Status.{Status}
 use Rattle.cpn_sim.specs.declared.statuses.Status.TheVariants as statuses
 
--- what the one run of a loaded net starts from: the initial marking at clock 0, with a seat for each worker, and no monitors
-abbrev pub setup_from : PlainLoaded → PlainOptions → PlainSetup
-setup_from loaded options = record {
-  net = loaded.net;
-  start = loaded.initial;
+-- what the one run of a model starts from: the initial marking at clock 0, with a seat for each worker
+abbrev pub setup_from : PlainModel → PlainOptions → PlainSetup
+setup_from model options = record {
+  net = model.loaded.net;
+  start = model.loaded.initial;
   clock = 0;
   limits = record { steps = options.steps; until = options.until; seats = options.workers };
-  functions = loaded.net.functions;
-  monitors = [];
+  functions = model.loaded.net.functions;
+  monitors = model.monitors;
   seed = options.seed;
 }
 
@@ -34,24 +33,24 @@ status_after (fault_end e fault) = statuses.RunFault
 abbrev pub IsReported : Status → Type 0
 IsReported status = (status ≡ statuses.Done) ⊎ (status ≡ statuses.RunFault)
 
--- The text is the report of a run of the loaded net, and the status is that of its end: the run's journal leads to a state
+-- The text is the report of a run of the model, and the status is that of its end: the run's journal leads to a state
 -- that ends by the cause, its occurrences are a legal occurrence sequence from the initial marking to the printed one; where
 -- the cause is a fault, its element is covered at the printed marking and clock, and its outputs have the fault, and where it is a
 -- stop, its monitor is the first that stops the run after the last occurrence; what is printed as ready and next, at the start and at
 -- the end, is that of the enabled elements; and what is printed of each monitor is what it measures of those occurrences, up to the printed clock.
-pub record IsReportOf (loaded : PlainLoaded) (options : PlainOptions) (status : Status) (report : List ℕ) : Type 0 where
+pub record IsReportOf (model : PlainModel) (options : PlainOptions) (status : Status) (report : List ℕ) : Type 0 where
   pub run : PlainFinished
-  pub is_run : IsRun (setup_from loaded options) run
+  pub is_run : IsRun (setup_from model options) run
   pub status_is : status ≡ status_after run.cause
-  pub text_is : report ≡ report_text options.trace (setup_from loaded options) run
+  pub text_is : report ≡ report_text options.trace (setup_from model options) run
 
--- The text is the report of a run of the net that the bytes are read as.
+-- The text is the report of a run of the model that the bytes are.
 pub record IsReportUnder (bytes : List ℕ) (options : PlainOptions) (status : Status) (report : List ℕ) : Type 0 where
-  pub loaded : PlainLoaded
-  pub reads : IsReadAs bytes (read loaded)
-  pub is_report : IsReportOf loaded options status report
+  pub model : PlainModel
+  pub reads : IsModel bytes (read model)
+  pub is_report : IsReportOf model options status report
 
--- The text is the report of a run of the net that the bytes are read as, under the options of the words.
+-- The text is the report of a run of the model that the bytes are, under the options of the words.
 pub record IsReport (bytes : List ℕ) (words : List (List ℕ)) (status : Status) (report : List ℕ) : Type 0 where
   pub options : PlainOptions
   pub words_are : options_from words ≡ Some options

@@ -1,8 +1,13 @@
 //! From the words and the source to the report, or to the reason why there is none.
 
 ghost use Rattle.std.specs.Prelude.{◌≡◌, ◌≤◌, ◌⊎◌, [], length, Some, None, Err, map, string_bytes, IfOk, IfErr, OnOk, IfSome, MatchOption};
+ghost use Rattle.cpn_model.specs.Views.{model_view};
+ghost use Rattle.cpn_core.specs.Inscriptions.{funs_view};
+ghost use Rattle.cpn_core.specs.Nets.{net_view};
 ghost use Rattle.cpn_flat.specs.Views.{loaded_view};
 ghost use Rattle.cpn_flat.specs.WellLoaded.{IsWellLoaded};
+ghost use Rattle.cpn_monitor.specs.Fitting.{FitNet};
+ghost use Rattle.cpn_monitor.specs.Views.{monitors_view};
 ghost use Rattle.cpn_sim.specs.Limits.{most_bytes};
 ghost use Rattle.cpn_sim.specs.Options.{PlainOptions, options_from};
 ghost use Rattle.cpn_sim.specs.OptionsView.{options_view};
@@ -18,9 +23,8 @@ use crate::statuses::Status;
 use crate::words::options_from;
 use cpn_book::Book;
 use cpn_core::Memory;
-use cpn_file::{Loaded, load};
 use cpn_io::{ReadError, Source, read_all};
-use cpn_monitor::Monitors;
+use cpn_model::{Model, open};
 use cpn_report::{printable_runs, report};
 use cpn_runs::{End, Limits, Setup};
 use std::alloc::Global;
@@ -56,26 +60,24 @@ pub fn answer<S: Source>(alloc: Global, words: &[String], source: &mut S) -> Res
         Err(ReadError::Failed) => return Err(Refusal::Read),
         Err(ReadError::TooLong) => return Err(Refusal::Long),
     };
-    let loaded = match load(alloc, &bytes) {
-        Ok(loaded) => loaded,
+    let model = match open(alloc, &bytes) {
+        Ok(model) => model,
         Err(error) => return Err(of_document(error)),
     };
-    match report_of(alloc, &options, loaded) {
+    match report_of(alloc, &options, model) {
         Ok(report) => Ok(report),
         Err(Memory) => Err(Refusal::Memory),
     }
 }
 
-/// The report of the run of the loaded net under the options, from its initial marking at clock 0.
-fn report_of(alloc: Global, options: &Options, loaded: Loaded) -> Result<Report, Memory>
-    requires well_loaded { IsWellLoaded (loaded_view loaded) }
-    ensures report { IfOk result (λ report. IsReportOf (loaded_view loaded) (options_view options.now) report.status (string_bytes report.text)) }
+/// The report of the run of the model under the options, from its initial marking at clock 0.
+fn report_of(alloc: Global, options: &Options, model: Model) -> Result<Report, Memory>
+    requires well_loaded { IsWellLoaded (loaded_view model.loaded) }
+    requires fit { FitNet (net_view model.loaded.net) (funs_view model.monitors.funs.value) (monitors_view model.monitors) }
+    ensures report { IfOk result (λ report. IsReportOf (model_view model) (options_view options.now) report.status (string_bytes report.text)) }
     ensures status { IfOk result (λ report. IsReported report.status) }
 {
-    let monitors = Monitors {
-        funs: loaded.net.funs.clone()?,
-        monitors: Vec::new(alloc),
-    };
+    let loaded = model.loaded;
     let setup = Setup {
         net: Arc::new(alloc, loaded.net)?,
         start: loaded.initial,
@@ -85,7 +87,7 @@ fn report_of(alloc: Global, options: &Options, loaded: Loaded) -> Result<Report,
             until: options.until,
             seats: options.workers as u32,
         },
-        monitors: Arc::new(alloc, monitors)?,
+        monitors: Arc::new(alloc, model.monitors)?,
         seed: options.seed,
     };
     let book = Book::start(alloc, setup)?;

@@ -2,12 +2,14 @@
 
 ghost use Rattle.std.specs.Prelude.{◌≡◌, None, IfSome, IfOk, OnOk, option_map, string_bytes};
 ghost use Rattle.cpn_file.specs.Answers.{load_refusal_of};
-ghost use Rattle.cpn_sim.specs.Causes.{bad_document, error_line, status_of, status_of_document};
+ghost use Rattle.cpn_model.specs.Answers.{model_refusal_of};
+ghost use Rattle.cpn_sim.specs.Causes.{bad_document, error_line, status_of, status_of_document, status_of_loading};
 ghost use Rattle.cpn_sim.specs.RefusalViews.{refusal_view};
 
 use crate::statuses::Status;
 use cpn_core::Memory;
 use cpn_file::LoadError;
+use cpn_model::ModelError;
 use std::alloc::Global;
 
 /// Why there is no report.
@@ -19,15 +21,15 @@ pub enum Refusal {
     Read,
     /// The document has more than 16,777,216 bytes.
     Long,
-    /// The document is not read.
-    Document(LoadError),
+    /// The document is no model.
+    Document(ModelError),
     /// Memory ran out.
     Memory,
 }
 
-/// Why there is no report of a document that is not read.
-pub fn of_document(error: LoadError) -> Refusal
-    ensures refusal { refusal_view result ≡ option_map bad_document (load_refusal_of error) }
+/// Why there is no report of a document that is no model.
+pub fn of_document(error: ModelError) -> Refusal
+    ensures refusal { refusal_view result ≡ option_map bad_document (model_refusal_of error) }
     ensures memory { refusal_view result ≡ None → result ≡ Refusal.Memory }
 {
     if error.is_memory() {
@@ -68,9 +70,19 @@ pub fn status_of(refusal: &Refusal) -> Status
     }
 }
 
-/// The status of a document that is not read.
-fn status_of_document(error: &LoadError) -> Status
-    ensures status { IfSome (load_refusal_of error.now) (λ refusal. result ≡ status_of_document refusal) }
+/// The status of a document that is no model.
+fn status_of_document(error: &ModelError) -> Status
+    ensures status { IfSome (model_refusal_of error.now) (λ refusal. result ≡ status_of_document refusal) }
+{
+    match error {
+        ModelError::Document(error) => status_of_loading(error),
+        ModelError::UnknownName(_) => Status::BadNet,
+    }
+}
+
+/// The status of a document that is not loaded.
+fn status_of_loading(error: &LoadError) -> Status
+    ensures status { IfSome (load_refusal_of error.now) (λ refusal. result ≡ status_of_loading refusal) }
 {
     match error {
         LoadError::Memory => Status::Memory,

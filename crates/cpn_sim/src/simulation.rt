@@ -2,10 +2,9 @@
 
 ghost use Rattle.std.specs.Prelude.{◌≡◌, ◌<◌, ◌≤◌, ◌⊎◌, ℕ, List, [], length, map, string_bytes, Some, None, IfSome};
 ghost use Rattle.std.specs.Io.KnownBytes.{Appends};
-ghost use Rattle.cpn_flat.specs.Flat.{PlainLoaded};
-ghost use Rattle.cpn_file.specs.Reading.{Refusal as DocumentRefusal, read, refused};
-ghost use Rattle.cpn_file.specs.Reads.{IsReadAs};
-ghost use Rattle.cpn_file.specs.Refusals.{refusal_line};
+ghost use Rattle.cpn_model.specs.Reading.{PlainModel, ModelRefusal, read, refused};
+ghost use Rattle.cpn_model.specs.Models.{IsModel};
+ghost use Rattle.cpn_model.specs.Lines.{model_line};
 ghost use Rattle.cpn_io.specs.Outside.{Rose, AppendsProperPrefix};
 ghost use Rattle.cpn_sim.specs.Limits.{most_bytes};
 ghost use Rattle.cpn_sim.specs.Options.{PlainOptions, options_from};
@@ -45,15 +44,15 @@ pub fn simulate<S: Source, K: Sink>(
     ensures long { result ≡ Status.TooLong → GiveOptions (map string_bytes words.now) × IfSome (S.left source.old) (λ bytes. most_bytes < length bytes) }
     // The document is refused: as no JSON value, for its form, or as not served yet; for a text or the variables of a
     // transition; or for its modules, for too many instances, or for an initial marking.
-    ensures document { result ≡ Status.BadDocument → GiveOptions (map string_bytes words.now) × ((refusal : DocumentRefusal)
-        × (status_of_document refusal ≡ Status.BadDocument) × Appends (K.held sink.old) (K.held sink.new) (refusal_line refusal)
-        × IfSome (S.left source.old) (λ bytes. (length bytes ≤ most_bytes) × IsReadAs bytes (refused refusal))) }
-    ensures inscription { result ≡ Status.BadInscription → GiveOptions (map string_bytes words.now) × ((refusal : DocumentRefusal)
-        × (status_of_document refusal ≡ Status.BadInscription) × Appends (K.held sink.old) (K.held sink.new) (refusal_line refusal)
-        × IfSome (S.left source.old) (λ bytes. (length bytes ≤ most_bytes) × IsReadAs bytes (refused refusal))) }
-    ensures net { result ≡ Status.BadNet → GiveOptions (map string_bytes words.now) × ((refusal : DocumentRefusal)
-        × (status_of_document refusal ≡ Status.BadNet) × Appends (K.held sink.old) (K.held sink.new) (refusal_line refusal)
-        × IfSome (S.left source.old) (λ bytes. (length bytes ≤ most_bytes) × IsReadAs bytes (refused refusal))) }
+    ensures document { result ≡ Status.BadDocument → GiveOptions (map string_bytes words.now) × ((refusal : ModelRefusal)
+        × (status_of_document refusal ≡ Status.BadDocument) × Appends (K.held sink.old) (K.held sink.new) (model_line refusal)
+        × IfSome (S.left source.old) (λ bytes. (length bytes ≤ most_bytes) × IsModel bytes (refused refusal))) }
+    ensures inscription { result ≡ Status.BadInscription → GiveOptions (map string_bytes words.now) × ((refusal : ModelRefusal)
+        × (status_of_document refusal ≡ Status.BadInscription) × Appends (K.held sink.old) (K.held sink.new) (model_line refusal)
+        × IfSome (S.left source.old) (λ bytes. (length bytes ≤ most_bytes) × IsModel bytes (refused refusal))) }
+    ensures net { result ≡ Status.BadNet → GiveOptions (map string_bytes words.now) × ((refusal : ModelRefusal)
+        × (status_of_document refusal ≡ Status.BadNet) × Appends (K.held sink.old) (K.held sink.new) (model_line refusal)
+        × IfSome (S.left source.old) (λ bytes. (length bytes ≤ most_bytes) × IsModel bytes (refused refusal))) }
     ensures write { result ≡ Status.WriteFault → Rose (K.faults sink.old) (K.faults sink.new) }
 
     // What the sink holds where there is no report.
@@ -73,21 +72,21 @@ pub fn simulate<S: Source, K: Sink>(
         → IsOrExcused result Status.TooLong (Rose (S.faults source.old) (S.faults source.new)) (Rose (K.faults sink.old) (K.faults sink.new)) }
     ensures bad_document { (options : PlainOptions) → options_from (map string_bytes words.now) ≡ Some options
         → (bytes : List ℕ) → S.left source.old ≡ Some bytes → length bytes ≤ most_bytes
-        → (refusal : DocumentRefusal) → IsReadAs bytes (refused refusal) → status_of_document refusal ≡ Status.BadDocument
+        → (refusal : ModelRefusal) → IsModel bytes (refused refusal) → status_of_document refusal ≡ Status.BadDocument
         → IsOrExcused result Status.BadDocument (Rose (S.faults source.old) (S.faults source.new)) (Rose (K.faults sink.old) (K.faults sink.new)) }
     ensures bad_inscription { (options : PlainOptions) → options_from (map string_bytes words.now) ≡ Some options
         → (bytes : List ℕ) → S.left source.old ≡ Some bytes → length bytes ≤ most_bytes
-        → (refusal : DocumentRefusal) → IsReadAs bytes (refused refusal) → status_of_document refusal ≡ Status.BadInscription
+        → (refusal : ModelRefusal) → IsModel bytes (refused refusal) → status_of_document refusal ≡ Status.BadInscription
         → IsOrExcused result Status.BadInscription (Rose (S.faults source.old) (S.faults source.new)) (Rose (K.faults sink.old) (K.faults sink.new)) }
     ensures bad_net { (options : PlainOptions) → options_from (map string_bytes words.now) ≡ Some options
         → (bytes : List ℕ) → S.left source.old ≡ Some bytes → length bytes ≤ most_bytes
-        → (refusal : DocumentRefusal) → IsReadAs bytes (refused refusal) → status_of_document refusal ≡ Status.BadNet
+        → (refusal : ModelRefusal) → IsModel bytes (refused refusal) → status_of_document refusal ≡ Status.BadNet
         → IsOrExcused result Status.BadNet (Rose (S.faults source.old) (S.faults source.new)) (Rose (K.faults sink.old) (K.faults sink.new)) }
 
     // Good input is never refused.
     ensures complete { (options : PlainOptions) → options_from (map string_bytes words.now) ≡ Some options
         → (bytes : List ℕ) → S.left source.old ≡ Some bytes → length bytes ≤ most_bytes
-        → (loaded : PlainLoaded) → IsReadAs bytes (read loaded)
+        → (model : PlainModel) → IsModel bytes (read model)
         → IsReportedOrExcused result (Rose (S.faults source.old) (S.faults source.new)) (Rose (K.faults sink.old) (K.faults sink.new)) }
 {
     match answer(alloc, words, source) {

@@ -14,7 +14,7 @@ mod rows;
 mod searches;
 mod words;
 
-use crate::documents::{loaded_from, text_from};
+use crate::documents::{model_from, text_from};
 use crate::plays::{evaluations_of, play};
 use crate::refusals::Refusal;
 use crate::words::{Options, options_from};
@@ -48,11 +48,11 @@ fn table_of(rt: &(impl Env + Files + AllocGlobal)) -> Result<String, Refusal> {
     let brought = match options.beside {
         Some(beside) => evaluations_of(
             rt.alloc(),
-            options.setup(rt.alloc(), loaded_from(rt, beside)?)?,
+            options.setup(rt.alloc(), model_from(rt, beside)?)?,
         )?,
         None => Vec::new(rt.alloc()),
     };
-    let setup = options.setup(rt.alloc(), loaded_from(rt, options.net)?)?;
+    let setup = options.setup(rt.alloc(), model_from(rt, options.net)?)?;
     let schedule = text_from(rt, options.schedule)?;
     play(rt.alloc(), setup, brought, &schedule)
 }

@@ -1,7 +1,7 @@
 //! Why there is no table.
 
 use cpn_core::Memory;
-use cpn_file::LoadError;
+use cpn_model::ModelError;
 use std::alloc::{AllocError, AllocFailed, Global};
 
 /// Why there is no table.
@@ -12,7 +12,7 @@ pub enum Refusal {
     /// A file that they name is not read.
     File,
     /// The document is refused.
-    Document(LoadError),
+    Document(ModelError),
     /// The line of this number, from 1, of the schedule cannot be played.
     Line { number: u64, why: &'static str },
     /// Memory ran out.

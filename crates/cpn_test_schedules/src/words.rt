@@ -1,8 +1,12 @@
 //! The options that the words of the program give.
 
 ghost use Rattle.std.specs.Prelude.{◌≤◌, IfOk, IfSome};
+ghost use Rattle.cpn_core.specs.Inscriptions.{funs_view};
+ghost use Rattle.cpn_core.specs.Nets.{net_view};
 ghost use Rattle.cpn_flat.specs.Views.{loaded_view};
 ghost use Rattle.cpn_flat.specs.WellLoaded.{IsWellLoaded};
+ghost use Rattle.cpn_monitor.specs.Fitting.{FitNet};
+ghost use Rattle.cpn_monitor.specs.Views.{monitors_view};
 ghost use Rattle.cpn_runs.specs.FinishedViews.{setup_view};
 ghost use Rattle.cpn_runs.specs.Views.{limits_view};
 ghost use Rattle.cpn_test_schedules.specs.Shown.{AreLimits, IsShownSetup};
@@ -10,8 +14,7 @@ ghost use Rattle.cpn_test_schedules.specs.Shown.{AreLimits, IsShownSetup};
 use crate::refusals::Refusal;
 use clap::{Arg, ArgAction, ArgMatches, Command};
 use cpn_core::Memory;
-use cpn_file::Loaded;
-use cpn_monitor::Monitors;
+use cpn_model::Model;
 use cpn_runs::{Limits, Setup};
 use std::alloc::{AllocError, Global};
 use std::sync::Arc;
@@ -33,21 +36,19 @@ pub struct Options<'a> {
 }
 
 impl Options<'_> {
-    /// The setup of a run of the loaded net under the options, without monitors.
-    pub fn setup(&self, alloc: Global, loaded: Loaded) -> Result<Setup, Memory>
-        requires well_loaded { IsWellLoaded (loaded_view loaded) }
+    /// The setup of a run of the model under the options.
+    pub fn setup(&self, alloc: Global, model: Model) -> Result<Setup, Memory>
+        requires well_loaded { IsWellLoaded (loaded_view model.loaded) }
+        requires fit { FitNet (net_view model.loaded.net) (funs_view model.monitors.funs.value) (monitors_view model.monitors) }
         ensures shown { IfOk result (λ setup. IsShownSetup (setup_view setup)) }
     {
-        let monitors = Monitors {
-            funs: loaded.net.funs.clone()?,
-            monitors: Vec::new(alloc),
-        };
+        let loaded = model.loaded;
         Ok(Setup {
             net: Arc::new(alloc, loaded.net)?,
             start: loaded.initial,
             clock: 0,
             limits: self.limits,
-            monitors: Arc::new(alloc, monitors)?,
+            monitors: Arc::new(alloc, model.monitors)?,
             seed: self.seed,
         })
     }

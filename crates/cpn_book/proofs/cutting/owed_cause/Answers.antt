@@ -72,8 +72,10 @@ returns c = record {
       let next : IsNext log (stands_failed fault) = next_stands log (stands_failed fault) (ap (slice_get (standings log)) (sym number) ∙ c.state.ensures ∙ ap (λ t. Some (state_view t)) c.in-Failed.is) in
       let job : slice_get (jobs_in s.log) (length log.committed) ≡ Some c.deref.result.now = ap (slice_get (jobs_in s.log)) (sym number) ∙ c.job.ensures ∙ ap Some (sym c.deref.ensures) in
       let copied : element_view c.in_ok-element.element ≡ element_view c.deref-2.result.now = ap₂ (λ t b. record { transition = t; binding = b }) c.in_ok-element.ensures.transition c.in_ok-element.ensures.binding in
-      let element : element_view c.in_ok-element.element ≡ next.claim.element = copied ∙ ap element_view c.deref-2.ensures ∙ element_next setup s waits.0.told (stands_failed fault) next c.deref.result.now job in
-      (waits.0.told, owes.0,
-      owes.1 ∙ ap (cut_at (length log.committed)) (ap (λ cs. slice_get cs 0) next.first) ∙ ap (cut_by (length log.committed) next.claim.element) (failed_next log fault next)
-      ∙ ap (λ e. Some (record { number = length log.committed; cause = fault_end e fault })) (sym element));
+      let element : element_view c.in_ok-element.element ≡ next.claim.element = copied ∙ ap element_view c.deref-2.ensures ∙ element_next setup s waits.0.told (stands_failed fault) next c.deref.result.now job in (
+        waits.0.told,
+        owes.0,
+        owes.1 ∙ ap (cut_at (length log.committed)) (ap (λ cs. slice_get cs 0) next.first) ∙ ap (cut_by (length log.committed) next.claim.element) (failed_next log fault next)
+            ∙ ap (λ e. Some (record { number = length log.committed; cause = fault_end e fault })) (sym element),
+      );
 }

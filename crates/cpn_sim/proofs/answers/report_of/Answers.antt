@@ -15,9 +15,9 @@ pub report-requires : goal.report-requires
 report-requires c =
     let run = c.in_ok-finished.finished in
     let loaded = c.requires.well_loaded in
-    let same : arc_value c.in_ok-new.field-0 ≡ c.args.loaded.net = c.in_ok-new.ensures.ok in
+    let same : arc_value c.in_ok-new.field-0 ≡ c.args.model.loaded.net = c.in_ok-new.ensures.ok in
     let Starts : PlainSetup → Type 0 = λ s. IsSound s.net × IsNamed s.net × IsMarking s.net.places s.start in
-    let OfNet : Net → Type 0 = λ n. IsSound (net_view n) × IsNamed (net_view n) × IsMarking (net_view n).places (loaded_view c.args.loaded).initial in
+    let OfNet : Net → Type 0 = λ n. IsSound (net_view n) × IsNamed (net_view n) × IsMarking (net_view n).places (loaded_view c.args.model.loaded).initial in
     let Runs : PlainSetup → Type 0 = λ s. IsRun s (finished_view run) in
     let at : setup_view run.setup ≡ _ = c.in_ok-finished.ensures.setup ∙ c.in_ok-book.ensures.setup in
     let start : Starts (setup_view run.setup) = subst Starts (sym at) (subst OfNet (sym same) (loaded.sound, loaded.named, loaded.marking)) in

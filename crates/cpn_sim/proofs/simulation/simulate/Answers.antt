@@ -42,7 +42,7 @@ returns-in-Ok-write_all g c =
       bad_document = λ options some bytes is short refusal reads its. absurd (not_refused words left status text bytes is reported c.in-Ok.ensures.one_reading refusal reads);
       bad_inscription = λ options some bytes is short refusal reads its. absurd (not_refused words left status text bytes is reported c.in-Ok.ensures.one_reading refusal reads);
       bad_net = λ options some bytes is short refusal reads its. absurd (not_refused words left status text bytes is reported c.in-Ok.ensures.one_reading refusal reads);
-      complete = λ options some bytes is short loaded reads. inl is_of;
+      complete = λ options some bytes is short model reads. inl is_of;
     }
 
 pub returns-in-Ok-line_of : goal.returns-in-Ok-line_of

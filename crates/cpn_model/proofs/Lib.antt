@@ -1,0 +1,3 @@
+mod LoadedDocuments
+mod Models
+pub mod WellModels

@@ -1,0 +1,6 @@
+pub mod Reading
+pub mod Named
+pub mod Variables
+pub mod Texts
+pub mod Checked
+pub mod Answers
