@@ -4,7 +4,7 @@ use Rattle.cpn_document.specs.declared.pointers.MonitorPart.TheVariants as of_pa
 use Rattle.cpn_document.specs.declared.pointers.Pointer.TheVariants as at
 use Rattle.cpn_file.specs.Reading.{Refusal, of_net}
 use Rattle.cpn_flat.specs.Flat.{PlainLoaded}
-use Rattle.cpn_module_nets.specs.Reading.{inscription, no_tree, typing}
+use Rattle.cpn_module_nets.specs.Reading.{inscription}
 use Rattle.cpn_monitor.specs.Monitors.{PlainMonitor}
 use Rattle.cpn_monitor_texts.specs.Reading as monitors
 use Rattle.cpn_readings.specs.Reading as readings
@@ -28,5 +28,4 @@ Reading = readings.Reading ModelRefusal
 -- a refusal of the monitors as one of the model: that of a text is at the pointer of the text
 abbrev pub of_monitor : monitors.MonitorRefusal → ModelRefusal
 of_monitor (monitors.unknown_name i) = unknown_name i
-of_monitor (monitors.no_tree i r) = of_document (of_net (inscription (at.Monitor i of_part.Expr) (no_tree r)))
-of_monitor (monitors.typing i r) = of_document (of_net (inscription (at.Monitor i of_part.Expr) (typing r)))
+of_monitor (monitors.bad_text i r) = of_document (of_net (inscription (at.Monitor i of_part.Expr) r))

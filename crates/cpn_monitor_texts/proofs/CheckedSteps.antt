@@ -5,6 +5,7 @@ use Rattle.cpn_definitions.specs.Inscription.{PlainExpr}
 use Rattle.cpn_definitions.specs.Net.{PlainNet, transition_at}
 use Rattle.cpn_document.specs.Monitors.{RawMonitor, count, size, value, stop_count, stop_size}
 use Rattle.cpn_document.specs.declared.document.Bound.{Bound}
+use Rattle.cpn_module_nets.specs.Reading.{typing}
 use Rattle.cpn_module_trees.specs.Parsing.{Parsing, parsed, IsInscription}
 use Rattle.cpn_monitor.specs.Monitors.{PlainMeasure, counts, sizes, values, stops_by_count, stops_by_size}
 use Rattle.cpn_readings.specs.Reading.{Refuses}
@@ -16,7 +17,7 @@ use Rattle.cpn_typing.specs.Names.{Declared, Checked, Refusal as TypeRefusal}
 use Rattle.cpn_monitor_texts.specs.Answers.{monitor_refusal_of, Checks, ChecksBy}
 use Rattle.cpn_monitor_texts.specs.Checked.{bound_of, inscription_so, measure_so, monitor_so}
 use Rattle.cpn_monitor_texts.specs.Named.{transition_named, place_named, known}
-use Rattle.cpn_monitor_texts.specs.Reading.{MonitorRefusal, typing, read}
+use Rattle.cpn_monitor_texts.specs.Reading.{MonitorRefusal, bad_text, read}
 use Rattle.cpn_monitor_texts.specs.Texts.{accepted_of, inscription_of}
 use Rattle.cpn_monitor_texts.specs.Variables.{value_over}
 use Rattle.cpn_monitor_texts.specs.declared.refusals.MonitorError.{MonitorError}
@@ -24,11 +25,11 @@ use Rattle.cpn_monitor_texts.specs.declared.refusals.MonitorError.{MonitorError}
 -- ---- texts
 
 -- what the rules refuse is refused where it stands
-pub refused_of : {A : Type 0} (i : ℕ) (checked : Checked A) (o : Option TypeRefusal) (q : Option MonitorRefusal) → q ≡ option_map (typing i) o → Forbids o checked → Refuses q (accepted_of i checked)
+pub refused_of : {A : Type 0} (i : ℕ) (checked : Checked A) (o : Option TypeRefusal) (q : Option MonitorRefusal) → q ≡ option_map (λ r. bad_text i (typing r)) o → Forbids o checked → Refuses q (accepted_of i checked)
 refused_of i checked None q is h = rw is tt
 refused_of i checked (Some r) q is h = rw (is, h) refl
 
-pub tree_refused : (ds : Declared) (i : ℕ) (vars : List ℕ) (tree : PlainAst) (o : Option TypeRefusal) (q : Option MonitorRefusal) → q ≡ option_map (typing i) o → Forbids o (value_over ds vars tree) → Refuses q (inscription_of ds i vars (parsed tree))
+pub tree_refused : (ds : Declared) (i : ℕ) (vars : List ℕ) (tree : PlainAst) (o : Option TypeRefusal) (q : Option MonitorRefusal) → q ≡ option_map (λ r. bad_text i (typing r)) o → Forbids o (value_over ds vars tree) → Refuses q (inscription_of ds i vars (parsed tree))
 unfolding inscription_of
 tree_refused ds i vars tree o q is h = refused_of i (value_over ds vars tree) o q is h
 

@@ -1,27 +1,17 @@
 -- How a call answers what the monitors of a document are.
-use Rattle.std.specs.Prelude.{◌≡◌, ℕ, Option, Some, None, option_map, Result, Ok, Err}
-use Rattle.cpn_declared.specs.Answers.{refusal_of as type_refusal_of}
-use Rattle.cpn_module_trees.specs.Parsing.{lexical, syntactic}
+use Rattle.std.specs.Prelude.{◌≡◌, Option, Some, None, option_map, Result, Ok, Err}
+use Rattle.cpn_module_nets.specs.Answers.{text_refusal_of}
 use Rattle.cpn_readings.specs.Reading.{Refuses}
 use Rattle.cpn_readings.specs.Relations.{RefusesBy}
-use Rattle.cpn_types.specs.declared.inscription_errors.InscriptionError.{InscriptionError}
-use Rattle.cpn_types.specs.declared.inscription_errors.InscriptionError.TheVariants as texts
-use Rattle.cpn_monitor_texts.specs.Reading.{MonitorRefusal, unknown_name, no_tree, typing, Reading, read}
+use Rattle.cpn_monitor_texts.specs.Reading.{MonitorRefusal, unknown_name, bad_text, Reading, read}
 use Rattle.cpn_monitor_texts.specs.declared.refusals.MonitorError.{MonitorError}
 use Rattle.cpn_monitor_texts.specs.declared.refusals.MonitorError.TheVariants as errors
-
--- the refusal of the text of the monitor of a number that an error is; want of memory is none
-abbrev pub text_refusal_of : ℕ → InscriptionError → Option MonitorRefusal
-text_refusal_of i texts.Memory = None
-text_refusal_of i (texts.Lex e) = Some (no_tree i (lexical e))
-text_refusal_of i (texts.Syntax e) = Some (no_tree i (syntactic e))
-text_refusal_of i (texts.Typing e) = option_map (typing i) (type_refusal_of e)
 
 -- the refusal of monitors that an error is; want of memory is none
 abbrev pub monitor_refusal_of : MonitorError → Option MonitorRefusal
 monitor_refusal_of errors.Memory = None
 monitor_refusal_of (errors.UnknownName i) = Some (unknown_name i)
-monitor_refusal_of (errors.Bad i e) = text_refusal_of i e
+monitor_refusal_of (errors.Bad i e) = option_map (bad_text i) (text_refusal_of e)
 
 -- an answer gives the value that was to be read, as it is seen, or its refusal
 abbrev pub Checks : {X Y : Type 0} → (X → Y) → Result X MonitorError → Reading Y → Type 0

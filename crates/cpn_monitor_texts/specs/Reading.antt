@@ -2,15 +2,13 @@
 use Rattle.std.specs.Prelude.{ℕ}
 use Rattle.cpn_readings.specs.Reading as readings
 pub use Rattle.cpn_readings.specs.Reading.{read, refused, ◌>>=◌}
-use Rattle.cpn_module_trees.specs.Parsing.{NoTree}
-use Rattle.cpn_typing.specs.Names.{Refusal}
+use Rattle.cpn_module_nets.specs.Reading.{TextRefusal}
 
--- Why monitors are refused: the monitor of a number names a transition, or a place, that is not in the net; its text has no tree; its tree
--- breaks a rule of typing, or has a variable that is none of its transition's.
+-- Why monitors are refused: the monitor of a number names a transition, or a place, that is not in the net; its text is refused, as the
+-- texts of nets are, or since it has a variable that is none of its transition's.
 pub data MonitorRefusal : Type 0 where
   unknown_name : ℕ → MonitorRefusal
-  no_tree : ℕ → NoTree → MonitorRefusal
-  typing : ℕ → Refusal → MonitorRefusal
+  bad_text : ℕ → TextRefusal → MonitorRefusal
 
 -- A reading: a value, or such a refusal.
 abbrev pub Reading : Type 0 → Type 0

@@ -2,9 +2,10 @@
 
 ghost use Rattle.std.specs.Prelude.{◌≡◌, Some, option_map, not, is_some};
 ghost use Rattle.cpn_declared.specs.Answers.{refusal_of as type_refusal_of};
+ghost use Rattle.cpn_module_nets.specs.Reading.{no_tree, typing};
 ghost use Rattle.cpn_module_trees.specs.ParsingViews.{unparsed_view};
 ghost use Rattle.cpn_monitor_texts.specs.Answers.{monitor_refusal_of};
-ghost use Rattle.cpn_monitor_texts.specs.Reading.{no_tree, typing};
+ghost use Rattle.cpn_monitor_texts.specs.Reading.{bad_text};
 ghost use Rattle.cpn_monitor_texts.specs.declared.refusals.MonitorError.TheVariants.{Memory as WantsMemory};
 
 use cpn_core::Memory;
@@ -43,7 +44,7 @@ impl MonitorError {
 
 /// The refusal of the text of the monitor of a number that has no tree.
 pub(crate) fn not_parsed(number: usize, error: Unparsed) -> MonitorError
-    ensures refused { monitor_refusal_of result ≡ Some (no_tree number (unparsed_view error)) }
+    ensures refused { monitor_refusal_of result ≡ Some (bad_text number (no_tree (unparsed_view error))) }
 {
     match error {
         Unparsed::Lex(error) => MonitorError::Bad(number, InscriptionError::Lex(error)),
@@ -53,7 +54,7 @@ pub(crate) fn not_parsed(number: usize, error: Unparsed) -> MonitorError
 
 /// The refusal of the text of the monitor of a number by a rule of typing.
 pub(crate) fn not_accepted(number: usize, error: TypeError) -> MonitorError
-    ensures refused { monitor_refusal_of result ≡ option_map (typing number) (type_refusal_of error) }
+    ensures refused { monitor_refusal_of result ≡ option_map (λ r. bad_text number (typing r)) (type_refusal_of error) }
 {
     match error {
         TypeError::Memory => MonitorError::Memory,
