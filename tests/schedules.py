@@ -7,8 +7,8 @@
 Each block goes up to a blank line. WORDS stand on the command line before the net and the schedule, in which `--beside NAME` is the
 net of that name, a file of nets/ or tests/nets/. NET is such a name, with edits, as in tests/run. The calls of the rows are the
 schedule, and the rows are what has to be printed, below a row with the names of the columns; blanks round a | do not count. A cell
-`"` is that of the row above, and one alone behind the answer stands for all five. A row `start` is no call. Behind `ended` stands
-the report. A line that begins with # is a comment of the schedule.
+`"` is that of the row above, and one alone behind the answer stands for all five. A row `start` is no call. After an answer
+`end ..` stands the report, or, after `end for want of memory`, some lines of one. A line that begins with # is a comment of the schedule.
 
 Where the last line is `= LINE`, the lines above it are the schedule as it stands, and just LINE has to be printed, with status 1.
 """

@@ -17,6 +17,7 @@ use Rattle.cpn_runs.specs.Commits.{marked_from, stop_at_last}
 use Rattle.cpn_runs.proofs.Cuts.{owes_none}
 use Rattle.cpn_runs.specs.HoleRun.{PlainClaim}
 use Rattle.cpn_runs.specs.State.{PlainSetup, PlainState, claim_made, IsDrawn, given_needs, new_claim, numbered}
+use Rattle.cpn_runs.specs.GivingBack.{OnlyGivenBack}
 use Rattle.cpn_book.specs.Held.{held_from}
 use Rattle.cpn_book.specs.StandingRuns.{NoneStops, StandsAt}
 use Rattle.cpn_book.proofs.MadeClaims.{IsNextClaim, stands_claimed}
@@ -34,10 +35,10 @@ pub uncut_in : (setup : PlainSetup) (s : Standing) (at : IsToldAt setup s) → s
 uncut_in setup s at none = sym at.cut ∙ ap (option_map cut_view) none
 
 -- no monitor stops the run there after the last committed claim
-pub goes_on_at : (setup : PlainSetup) (s : Standing) (is : IsAt setup s) → s.cut ≡ None → NoneStops setup is.at.state (log_view s.log)
-goes_on_at setup s is none =
+pub goes_on_at : (setup : PlainSetup) (s : Standing) (is : IsAt setup s) → OnlyGivenBack (option_map cut_view s.cut) → NoneStops setup is.at.state (log_view s.log)
+goes_on_at setup s is only =
     ap (λ k. stop_at_last setup.monitors (marked_from setup.start (take k is.at.state.claims))) (sym is.all_committed)
-    ∙ (owes_none setup is.at.state (uncut_in setup s is.at none) is.none_owed).0
+    ∙ (owes_none setup is.at.state (subst OnlyGivenBack is.at.cut only) is.none_owed).0
 
 -- the claims of the state are those that the log counts
 pub counted : (setup : PlainSetup) (s : Standing) (at : IsToldAt setup s) → length at.state.claims ≡ claims_made (log_view s.log)

@@ -1,8 +1,8 @@
 -- Where a run stands when what can be committed is committed, and when a cut is made.
-use Rattle.std.proofs.Common.{◌≡◌, ℕ, zero, suc, ◌+◌, ◌<◌, ◌≤◌, ◌⊎◌, inl, inr, true, false, List, [], ◌∷◌, ◌++◌, length, map, take, Option, Some, None, refl, sym, ap, ◌∙◌, subst, arith, slice_get, length-append, append_assoc}
+use Rattle.std.proofs.Common.{◌≡◌, ℕ, suc, ◌+◌, ◌≤◌, ◌⊎◌, inl, inr, true, List, [], ◌∷◌, ◌++◌, length, map, take, Option, Some, None, refl, sym, ap, ◌∙◌, subst, arith, slice_get, length-append, append_assoc, ◌-◌, drop}
 use Rattle.std.specs.List.{AllByRecursion}
 use Rattle.std.specs.Option.{option_map}
-use Rattle.std.proofs.lemmas.List.{append-nil, take-map}
+use Rattle.std.proofs.lemmas.List.{append-nil, take-map, take-append-drop}
 use Rattle.std.proofs.Math.Seq.{take-append_seam}
 use Rattle.cpn_definitions.specs.Occurrence.{outputs_of}
 use Rattle.cpn_definitions.proofs.ListItems.{all_parts}
@@ -19,15 +19,19 @@ use Rattle.cpn_runs.specs.HoleRun.{PlainClaim, Status, open_claim, done_with, fa
 use Rattle.cpn_runs.specs.MeasuredStates.{run_of, values_in}
 use Rattle.cpn_runs.specs.Playable.{IsPlayable}
 use Rattle.cpn_runs.specs.Commits.{marked_claim, marked_from, stop_at_last}
-use Rattle.cpn_runs.specs.State.{PlainSetup, PlainState, PlainEnd, cut_made, status_after, numbered, committed, owed_cut, committed_occurrences}
+use Rattle.cpn_runs.specs.State.{PlainSetup, PlainState, cut_made, status_after, numbered, committed, owed_cut, committed_occurrences, PlainCut}
 use Rattle.cpn_runs.specs.Views.{event_view}
 use Rattle.cpn_runs.proofs.States.{IsClaimOf, every_state}
+use Rattle.cpn_runs.proofs.GivenBackClaims.{left_after, first_of_first}
+use Rattle.cpn_runs.proofs.Cuts.{taken_ahead}
 use Rattle.cpn_book.specs.StandingRuns.{IsTold, stop_behind, NoneStops, StandsAt}
-use Rattle.cpn_book.proofs.CompletedClaims.{told_committed, stands_cut}
+use Rattle.cpn_book.proofs.CompletedClaims.{told_committed, stands_cut, cut_behind}
 use Rattle.cpn_book.specs.Standings.{IsToldAt, IsAt, committed_of, IsDoneClaim, HasCommitted, StillCommitted, job_for, cut_view, events_in, occurrences_in}
 use Rattle.cpn_book.specs.declared.standings.Standing.{Standing}
 use Rattle.cpn_book.proofs.MeasuredStandings.{measured_alike, made_at_same, now, noted_measured, stop_noted}
 use Rattle.cpn_book.proofs.CountedClaims.{as_many, first_are, heads_are}
+use Rattle.cpn_book.specs.Committing.{IsDueAt}
+use Rattle.cpn_book.specs.Held.{if_ahead}
 
 -- ---- what is committed
 
@@ -162,61 +166,76 @@ module _ (setup : PlainSetup) (old : Standing) (at : IsToldAt setup old) (all : 
   pub stands_so : owed_cut setup at.state ≡ None → IsAt setup old
   stands_so none = record { at = at; all_committed = all; none_owed = none }
 
-  module _ (cause : PlainEnd) (owed : owed_cut setup at.state ≡ Some (record { number = length (log_view old.log).committed; cause = cause })) (new : Standing)
-      (log_cut : (log_view new.log).claims ≡ [])
-      (jobs_cut : jobs_in new.log ≡ take (length (log_view old.log).committed) (jobs_in old.log))
-      (heads_same : (log_view new.log).committed ≡ (log_view old.log).committed)
-      (settled_same : (log_view new.log).settled ≡ (log_view old.log).settled)
-      (kept : IsKept (log_view new.log))
-      (long : length new.held.items ≡ length old.held.items)
-      (free : (s : ℕ) → s < length old.held.items → slice_get new.held.items s ≡ Some None)
-      (cut : option_map cut_view new.cut ≡ Some (record { number = length (log_view old.log).committed; cause = cause }))
-      (events : events_in new ≡ events_in old ++ cut_made (length (log_view old.log).committed) ∷ [])
-      (rest : new ≡ record old { log = new.log; held = new.held; journal = new.journal; cut = new.cut }) where
-    abbrev after : PlainState
-    after = record at.state { claims = take (length (log_view old.log).committed) at.state.claims; cut = Some (record { number = length (log_view old.log).committed; cause = cause }) }
+-- ---- claims are cut off
 
-    stands : StandsAt setup (events_in new) after (log_view new.log) new.held.items
-    stands =
-        let seats = at.told.holds.each in
-        let first = stands_cut setup (events_in old) at.state (log_view old.log) (log_view new.log) old.held.items at.told cause all owed log_cut heads_same settled_same kept new.held.items (long ∙ seats) (λ s lt. free s (subst (λ (k : ℕ). s < k) (sym seats) lt)) in
-        subst (λ es. StandsAt setup es after (log_view new.log) new.held.items) (sym events) first
+module _ (setup : PlainSetup) (old : Standing) (cut : PlainCut) (may : IsDueAt setup old cut) (new : Standing)
+    (log_cut : (log_view new.log).claims ≡ take (cut.number - length (log_view old.log).committed) (log_view old.log).claims)
+    (jobs_cut : jobs_in new.log ≡ take cut.number (jobs_in old.log))
+    (heads_same : (log_view new.log).committed ≡ (log_view old.log).committed)
+    (settled_same : (log_view new.log).settled ≡ (log_view old.log).settled)
+    (kept : IsKept (log_view new.log))
+    (long : length new.held.items ≡ length old.held.items)
+    (freed : (s : ℕ) → slice_get new.held.items s ≡ option_map (if_ahead cut.number) (slice_get old.held.items s))
+    (cut_is : option_map cut_view new.cut ≡ Some cut)
+    (events : events_in new ≡ events_in old ++ cut_made cut.number ∷ [])
+    (rest : new ≡ record old { log = new.log; held = new.held; journal = new.journal; cut = new.cut }) where
+  abbrev state : PlainState
+  state = may.told.state
 
-    -- the cut stands
-    pub cut_stands : IsAt setup new
-    cut_stands = record {
-      at = record {
-        state = after;
-        told = stands.told;
-        clock = ap (λ (s : Standing). s.clock) rest ∙ at.clock;
-        cut = cut;
-        jobs =
-            ap (map job_view) jobs_cut ∙ sym (take-map job_view (length (log_view old.log).committed) (jobs_in old.log))
-            ∙ ap (take (length (log_view old.log).committed)) at.jobs
-            ∙ take-map (job_for setup.net) (length (log_view old.log).committed) (heads (log_view old.log))
-            ∙ ap (map (job_for setup.net)) (take-append_seam (log_view old.log).committed (map head_of (log_view old.log).claims) ∙ all_heads);
-        occurrences =
-            ap occurrences_in rest ∙ at.occurrences
-            ∙ ap (numbered 0) (sym (taken_twice (length (log_view old.log).committed) at.state.claims))
-            ∙ ap (λ hs. numbered 0 (take (length hs) after.claims)) (sym heads_same);
-        measured =
-            measured_alike setup old.clock new.clock (committed_of at.state old) (committed_of after new) (values_view old.values) (values_view new.values) (ap (λ (s : Standing). s.clock) rest)
-            (ap (λ hs. take (length hs) after.claims) heads_same ∙ taken_twice (length (log_view old.log).committed) at.state.claims)
-            (ap (λ (s : Standing). values_view s.values) rest) at.measured;
-        made_now = subst (AllByRecursion (λ (k : PlainClaim). k.time ≡ new.clock)) (sym log_cut) tt;
-        draw = λ none. let clash : Some (record { number = length (log_view old.log).committed; cause = cause }) ≡ None = none in cc;
-      };
-      all_committed = stands.all_committed;
-      none_owed = stands.none_owed;
-    }
-      where
-        all_heads : (log_view old.log).committed ≡ heads (log_view new.log)
-        all_heads = sym (append-nil (log_view old.log).committed) ∙ ap (λ hs. hs ++ []) (sym heads_same) ∙ ap (λ cs. (log_view new.log).committed ++ map head_of cs) (sym log_cut)
+  abbrev committed_many : ℕ
+  committed_many = length (log_view old.log).committed
 
-        taken_twice : {A : Type 0} (k : ℕ) (xs : List A) → take k (take k xs) ≡ take k xs
-        taken_twice zero xs = refl
-        taken_twice (suc k) [] = refl
-        taken_twice (suc k) (x ∷ xs) = ap (λ ys. x ∷ ys) (taken_twice k xs)
+  abbrev place : ℕ
+  place = cut.number - committed_many
+
+  behind : committed_many ≤ cut.number
+  behind = cut_behind setup (events_in old) state (log_view old.log) (log_view new.log) old.held.items may.told.told cut may.all_committed may.due
+
+  where_is : cut.number ≡ committed_many + place
+  where_is = let b = behind in omega (arith, b)
+
+  stands : StandsAt setup (events_in new) (left_after state cut) (log_view new.log) new.held.items
+  stands =
+      let first = stands_cut setup (events_in old) state (log_view old.log) (log_view new.log) old.held.items may.told.told cut may.all_committed may.due place where_is log_cut heads_same settled_same kept new.held.items long freed in
+      subst (λ es. StandsAt setup es (left_after state cut) (log_view new.log) new.held.items) (sym events) first
+
+  -- the heads that are left are the first ones
+  first_heads : take cut.number (heads (log_view old.log)) ≡ heads (log_view new.log)
+  first_heads =
+      ap (λ k. take k ((log_view old.log).committed ++ map head_of (log_view old.log).claims)) where_is
+      ∙ taken_ahead (log_view old.log).committed (map head_of (log_view old.log).claims) place
+      ∙ ap (λ hs. (log_view old.log).committed ++ hs) (take-map head_of place (log_view old.log).claims ∙ ap (map head_of) (sym log_cut))
+      ∙ ap (λ hs. hs ++ map head_of (log_view new.log).claims) (sym heads_same)
+
+  committed_same : committed_of (left_after state cut) new ≡ committed_of state old
+  committed_same = ap (λ hs. take (length hs) (take cut.number state.claims)) heads_same ∙ first_of_first committed_many cut.number state.claims behind
+
+  -- the run stands there
+  pub cut_stands : IsAt setup new
+  cut_stands = record {
+    at = record {
+      state = left_after state cut;
+      told = stands.told;
+      clock = ap (λ (s : Standing). s.clock) rest ∙ may.told.clock;
+      cut = cut_is;
+      jobs =
+          ap (map job_view) jobs_cut ∙ sym (take-map job_view cut.number (jobs_in old.log))
+          ∙ ap (take cut.number) may.told.jobs
+          ∙ take-map (job_for setup.net) cut.number (heads (log_view old.log))
+          ∙ ap (map (job_for setup.net)) first_heads;
+      occurrences = ap occurrences_in rest ∙ may.told.occurrences ∙ ap (numbered 0) (sym committed_same);
+      measured =
+          measured_alike setup old.clock new.clock (committed_of state old) (committed_of (left_after state cut) new) (values_view old.values) (values_view new.values) (ap (λ (s : Standing). s.clock) rest) committed_same
+          (ap (λ (s : Standing). values_view s.values) rest) may.told.measured;
+      made_now =
+          subst (AllByRecursion (λ (k : PlainClaim). k.time ≡ new.clock)) (sym log_cut)
+          (made_at_same old.clock new.clock (take place (log_view old.log).claims) (ap (λ (s : Standing). s.clock) rest)
+          (all_parts (λ (k : PlainClaim). k.time ≡ old.clock) (take place (log_view old.log).claims) (drop place (log_view old.log).claims) (subst (AllByRecursion (λ (k : PlainClaim). k.time ≡ old.clock)) (sym (take-append-drop place (log_view old.log).claims)) may.told.made_now)).0);
+      draw = λ none. let clash : Some cut ≡ None = none in cc;
+    };
+    all_committed = stands.all_committed;
+    none_owed = stands.none_owed;
+  }
 
 -- the values are those of the state
 pub values_are_in : (setup : PlainSetup) (s : Standing) (is : IsAt setup s) → IsPlayable setup → values_view s.values ≡ values_in setup is.at.state
@@ -231,24 +250,29 @@ pub committed_are : (setup : PlainSetup) (s : Standing) (is : IsAt setup s) → 
 committed_are setup s is = is.at.occurrences ∙ ap (λ k. numbered 0 (take k is.at.state.claims)) (sym is.all_committed)
 
 -- a journal with more room holds the same events
+abbrev pub told_but_journal : (setup : PlainSetup) (old new : Standing) → IsToldAt setup old → new ≡ record old { journal = new.journal } → new.journal.items ≡ old.journal.items → IsToldAt setup new
+told_but_journal setup old new at same items = record {
+  state = at.state;
+  told = subst (λ (s : Standing). IsTold setup (events_in new) at.state (log_view s.log) s.held.items) (sym same) (subst (λ es. IsTold setup es at.state (log_view old.log) old.held.items) (sym (ap (map event_view) items)) at.told);
+  clock = ap (λ (s : Standing). s.clock) same ∙ at.clock;
+  cut = ap (λ (s : Standing). option_map cut_view s.cut) same ∙ at.cut;
+  jobs = (let P : Standing → Type 0 = λ s. map job_view (jobs_in s.log) ≡ map (job_for setup.net) (heads (log_view s.log)) in subst P (sym same) at.jobs);
+  occurrences = (let P : Standing → Type 0 = λ s. occurrences_in s ≡ numbered 0 (take (length (log_view s.log).committed) at.state.claims) in subst P (sym same) at.occurrences);
+  measured = (let P : Standing → Type 0 = λ s. AreMeasured setup.functions setup.monitors (run_of setup s.clock (committed_of at.state s)) (values_view s.values) in subst P (sym same) at.measured);
+  made_now = (let P : Standing → Type 0 = λ s. AllByRecursion (λ (k : PlainClaim). k.time ≡ s.clock) (log_view s.log).claims in subst P (sym same) at.made_now);
+  draw = λ none. ap (λ (s : Standing). s.draw) same ∙ at.draw none;
+}
+
 pub same_but_journal : (setup : PlainSetup) (old new : Standing) → IsAt setup old → new ≡ record old { journal = new.journal } → new.journal.items ≡ old.journal.items → IsAt setup new
-same_but_journal setup old new is same items =
-    let events : events_in new ≡ events_in old = ap (map event_view) items in
-    let told : IsTold setup (events_in new) is.at.state (log_view new.log) new.held.items =
-    subst (λ (s : Standing). IsTold setup (events_in new) is.at.state (log_view s.log) s.held.items) (sym same)
-    (subst (λ es. IsTold setup es is.at.state (log_view old.log) old.held.items) (sym events) is.at.told) in
-    record {
-      at = record {
-        state = is.at.state;
-        told = told;
-        clock = ap (λ (s : Standing). s.clock) same ∙ is.at.clock;
-        cut = ap (λ (s : Standing). option_map cut_view s.cut) same ∙ is.at.cut;
-        jobs = (let P : Standing → Type 0 = λ s. map job_view (jobs_in s.log) ≡ map (job_for setup.net) (heads (log_view s.log)) in subst P (sym same) is.at.jobs);
-        occurrences = (let P : Standing → Type 0 = λ s. occurrences_in s ≡ numbered 0 (take (length (log_view s.log).committed) is.at.state.claims) in subst P (sym same) is.at.occurrences);
-        measured = (let P : Standing → Type 0 = λ s. AreMeasured setup.functions setup.monitors (run_of setup s.clock (committed_of is.at.state s)) (values_view s.values) in subst P (sym same) is.at.measured);
-        made_now = (let P : Standing → Type 0 = λ s. AllByRecursion (λ (k : PlainClaim). k.time ≡ s.clock) (log_view s.log).claims in subst P (sym same) is.at.made_now);
-        draw = λ none. ap (λ (s : Standing). s.draw) same ∙ is.at.draw none;
-      };
-      all_committed = is.all_committed ∙ sym (ap (λ (s : Standing). length (log_view s.log).committed) same);
-      none_owed = is.none_owed;
-    }
+same_but_journal setup old new is same items = record {
+  at = told_but_journal setup old new is.at same items;
+  all_committed = is.all_committed ∙ sym (ap (λ (s : Standing). length (log_view s.log).committed) same);
+  none_owed = is.none_owed;
+}
+
+pub still_due : (setup : PlainSetup) (old new : Standing) (cut : PlainCut) → IsDueAt setup old cut → new ≡ record old { journal = new.journal } → new.journal.items ≡ old.journal.items → IsDueAt setup new cut
+still_due setup old new cut may same items = record {
+  told = told_but_journal setup old new may.told same items;
+  all_committed = may.all_committed ∙ sym (ap (λ (s : Standing). length (log_view s.log).committed) same);
+  due = may.due;
+}

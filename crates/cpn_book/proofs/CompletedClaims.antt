@@ -1,5 +1,6 @@
 -- A claim is completed, what can be committed is committed, and the cut that is owed is made: where the run stands then.
 use Rattle.std.proofs.Common.{◌≡◌, ℕ, zero, suc, ◌+◌, ◌<◌, ◌≤◌, ◌==◌, Bool, true, false, List, [], ◌∷◌, ◌++◌, length, take, Option, Some, None, refl, sym, ap, ◌∙◌, subst, arith, slice_get, slice_set, eqb-true, count_by, length-append, append_assoc}
+use Rattle.std.specs.Option.{option_map}
 use Rattle.std.proofs.lemmas.List.{length-map}
 use Rattle.std.proofs.lemmas.Bool.{eqb-false, and_parts}
 use Rattle.std.proofs.Math.Seq.{take-append_seam}
@@ -7,15 +8,16 @@ use Rattle.cpn_definitions.specs.Occurrence.{are_covered, threshold, outputs_of}
 use Rattle.cpn_definitions.proofs.ListItems.{set_there, set_elsewhere, set_long}
 use Rattle.cpn_runs.specs.HoleRun.{PlainClaim, Status, is_open, is_done, marking_left}
 use Rattle.cpn_runs.specs.Commits.{committed_from}
-use Rattle.cpn_runs.specs.State.{PlainSetup, PlainState, PlainEvent, claim_completed, cut_made, PlainEnd, PlainCut, is_held_by, status_after, committed, owed_cut, MayComplete, MayCut, first_state, IsState}
+use Rattle.cpn_runs.specs.State.{PlainSetup, PlainState, PlainEvent, claim_completed, cut_made, PlainCut, is_held_by, status_after, committed, IsDue, MayComplete, MayCut, first_state, IsState}
 use Rattle.cpn_runs.proofs.Cuts.{AreDone, open_is_not_done}
 use Rattle.cpn_runs.proofs.Sequences.{left_parts}
-use Rattle.cpn_runs.proofs.States.{IsCutOff, leads_more, every_state, closed_status}
-use Rattle.cpn_book.specs.Held.{held_from, AreHeld}
+use Rattle.cpn_runs.proofs.GivenBackClaims.{left_after, first_of_first}
+use Rattle.cpn_runs.proofs.States.{LeavesCommitted, cut_leaves_committed, leads_more, every_state, closed_status}
+use Rattle.cpn_book.specs.Held.{held_from, if_ahead, AreHeld}
 use Rattle.cpn_log.specs.Kept.{IsKept}
 use Rattle.cpn_log.specs.Logs.{PlainLog, PlainHead, head_of, with_status, with_committed}
 use Rattle.cpn_book.specs.StandingRuns.{IsTold, NoneStops, StandsAt}
-use Rattle.cpn_book.proofs.HeldClaims.{held_changed, held_closed, done_hold_none}
+use Rattle.cpn_book.proofs.HeldClaims.{held_changed, held_closed, held_ahead}
 use Rattle.cpn_book.proofs.LoggedClaims.{has_changed, has_committed, has_first}
 use Rattle.cpn_book.specs.Logged.{HasClaims}
 use Rattle.cpn_book.proofs.CountedClaims.{as_many}
@@ -30,6 +32,13 @@ behind_done (c ∷ front) rest zero claim done at is =
     let no : true ≡ false = sym done.0 ∙ ap (λ (k : PlainClaim). is_done k.status) same ∙ open_is_not_done claim.status is in
     absurd cc
 behind_done (c ∷ front) rest (suc i) claim done at is = let deeper = behind_done front rest i claim done.1 at is in omega (arith, deeper)
+
+pub open_is_behind : (setup : PlainSetup) (state : PlainState) (log : PlainLog) (has : HasClaims setup.start state.claims log) (number : ℕ) (claim : PlainClaim) → slice_get state.claims number ≡ Some claim → is_open claim.status ≡ true → length log.committed ≤ number
+open_is_behind setup state log has number claim stands opened =
+    let at : slice_get (has.committed ++ log.claims) number ≡ Some claim = ap (λ cs. slice_get cs number) (sym has.claims_are) ∙ stands in
+    let le = behind_done has.committed log.claims number claim has.done at opened in
+    let many : length has.committed ≡ length log.committed = sym (length-map has.committed head_of) ∙ ap length has.heads in
+    omega (arith, le, many)
 
 -- ---- what seats hold
 
@@ -81,13 +90,7 @@ module _ (setup : PlainSetup) (journal : List PlainEvent) (state : PlainState) (
 
   -- it stands behind the committed claims
   pub is_behind : length log.committed ≤ number
-  is_behind =
-      let has = stands.told.has in
-      let open_now = (and_parts (is_open claim.status) (claim.seat == seat) done.held).0 in
-      let at : slice_get (has.committed ++ log.claims) number ≡ Some claim = ap (λ cs. slice_get cs number) (sym has.claims_are) ∙ done.stands in
-      let le = behind_done has.committed log.claims number claim has.done at open_now in
-      let many : length has.committed ≡ length log.committed = sym (length-map has.committed head_of) ∙ ap length has.heads in
-      omega (arith, le, many)
+  is_behind = open_is_behind setup state log stands.told.has number claim done.stands (and_parts (is_open claim.status) (claim.seat == seat) done.held).0
 
   pub told_completed : (place : ℕ) → number ≡ length log.committed + place → new.claims ≡ with_status status place log.claims → new.committed ≡ log.committed → new.settled ≡ log.settled → IsKept new
       → IsTold setup (journal ++ claim_completed seat number ∷ []) completed_state new (slice_set held seat None)
@@ -134,47 +137,46 @@ told_committed setup journal state log held claim rest told goes_on is done kept
     all : committed_from setup.monitors [] setup.start (take (length (log.committed ++ head_of claim ∷ [])) state.claims) ≡ length (log.committed ++ head_of claim ∷ [])
     all = ap (committed_from setup.monitors [] setup.start) front ∙ committed_next setup state log told.has told.all_in claim goes_on done ∙ sym long
 
--- ---- the cut that is owed is made
+-- ---- claims are cut off
 
-module _ (setup : PlainSetup) (journal : List PlainEvent) (state : PlainState) (log new : PlainLog) (held : List (Option ℕ)) (told : IsTold setup journal state log held) (cause : PlainEnd)
-    (all : committed setup state ≡ length log.committed) (owed : owed_cut setup state ≡ Some (record { number = length log.committed; cause = cause })) where
-  abbrev pub cut_now : PlainCut
-  cut_now = record { number = length log.committed; cause = cause }
+module _ (setup : PlainSetup) (journal : List PlainEvent) (state : PlainState) (log new : PlainLog) (held : List (Option ℕ)) (told : IsTold setup journal state log held) (cut : PlainCut)
+    (all : committed setup state ≡ length log.committed) (due : IsDue setup state cut) where
+  may_cut : MayCut setup state cut.number (left_after state cut)
+  may_cut = record { cut = cut; due = due; number_is = refl; new_is = refl }
 
-  abbrev pub cut_state : PlainState
-  cut_state = record state { claims = take (length log.committed) state.claims; cut = Some cut_now }
+  cut_reached : IsState setup (journal ++ cut_made cut.number ∷ []) (left_after state cut)
+  cut_reached = leads_more setup (first_state setup) journal (cut_made cut.number ∷ []) state (left_after state cut) told.reached (left_after state cut, may_cut, refl)
 
-  may_cut : MayCut setup state (length log.committed) cut_state
-  may_cut = record { cut = cut_now; owed = owed; number_is = refl; new_is = refl }
+  pub left : LeavesCommitted setup state cut
+  left = cut_leaves_committed setup journal state cut (every_state setup journal state told.reached) due
 
-  all_none : (seats : ℕ) (claims : List PlainClaim) (none : List (Option ℕ)) → AreDone claims → length none ≡ seats → ((s : ℕ) → s < seats → slice_get none s ≡ Some None) → AreHeld seats claims none
-  all_none seats claims none done each are = record { each = each; numbers = λ s lt. are s lt ∙ ap Some (sym (done_hold_none 0 s claims done)) }
+  -- the committed claims are ahead of the cut
+  pub cut_behind : length log.committed ≤ cut.number
+  cut_behind = let least = left.least in omega (arith, least, all)
 
-  cut_reached : IsState setup (journal ++ cut_made (length log.committed) ∷ []) cut_state
-  cut_reached = leads_more setup (first_state setup) journal (cut_made (length log.committed) ∷ []) state cut_state told.reached (cut_state, may_cut, refl)
-
-  left : IsCutOff setup cut_state cut_now
-  left = (every_state setup (journal ++ cut_made (length log.committed) ∷ []) cut_state cut_reached).cut_off cut_now refl
-
-  -- just the committed claims stand
-  pub stands_cut : new.claims ≡ [] → new.committed ≡ log.committed → new.settled ≡ log.settled → IsKept new → (none : List (Option ℕ)) → length none ≡ setup.limits.seats → ((s : ℕ) → s < setup.limits.seats → slice_get none s ≡ Some None)
-      → StandsAt setup (journal ++ cut_made (length log.committed) ∷ []) cut_state new none
-  stands_cut is heads_same settled_same kept none each are = record {
+  -- just the claims ahead of it stand
+  pub stands_cut
+      : (place : ℕ)
+      → cut.number ≡ length log.committed + place
+      → new.claims ≡ take place log.claims
+      → new.committed ≡ log.committed
+      → new.settled ≡ log.settled
+      → IsKept new
+      → (still : List (Option ℕ))
+      → length still ≡ length held
+      → ((s : ℕ) → slice_get still s ≡ option_map (if_ahead cut.number) (slice_get held s))
+      → StandsAt setup (journal ++ cut_made cut.number ∷ []) (left_after state cut) new still
+  stands_cut place where_is is heads_same settled_same kept still long freed = record {
     told = record {
       reached = cut_reached;
-      has = has_first setup.start state.claims log new told.has heads_same settled_same (length log.committed) 0 (omega arith) is;
+      has = has_first setup.start state.claims log new told.has heads_same settled_same cut.number place where_is is;
       all_in =
-          ap (λ hs. committed_from setup.monitors [] setup.start (take (length hs) cut_state.claims)) heads_same
-          ∙ ap (committed_from setup.monitors [] setup.start) (taken_twice (length log.committed) state.claims)
+          ap (λ hs. committed_from setup.monitors [] setup.start (take (length hs) (take cut.number state.claims))) heads_same
+          ∙ ap (committed_from setup.monitors [] setup.start) (first_of_first (length log.committed) cut.number state.claims cut_behind)
           ∙ told.all_in ∙ ap (λ (hs : List PlainHead). length hs) (sym heads_same);
       kept = kept;
-      holds = all_none setup.limits.seats cut_state.claims none left.all_done each are;
+      holds = held_ahead setup.limits.seats state.claims held still cut.number told.holds long freed;
     };
-    all_committed = left.all_committed ∙ sym left.number_is ∙ ap (λ (hs : List PlainHead). length hs) (sym heads_same);
+    all_committed = left.as_many ∙ all ∙ ap (λ (hs : List PlainHead). length hs) (sym heads_same);
     none_owed = left.none_owed;
   }
-    where
-      taken_twice : {A : Type 0} (k : ℕ) (xs : List A) → take k (take k xs) ≡ take k xs
-      taken_twice zero xs = refl
-      taken_twice (suc k) [] = refl
-      taken_twice (suc k) (x ∷ xs) = ap (λ ys. x ∷ ys) (taken_twice k xs)

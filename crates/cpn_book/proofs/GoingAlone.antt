@@ -1,8 +1,11 @@
--- What goes on alone goes on so with further events behind it.
-use Rattle.std.proofs.Common.{ℕ, suc, ◌≤◌, List, [], ◌∷◌, ◌++◌, Option, Some, None, refl, sym, ap, ◌∙◌, arith, append_assoc}
+-- What goes on alone goes on so with further events after it, and gives no claim back.
+use Rattle.std.proofs.Common.{◌≡◌, ℕ, suc, ◌≤◌, List, [], ◌∷◌, ◌++◌, Option, Some, None, refl, sym, ap, ◌∙◌, arith, append_assoc}
 use Rattle.std.proofs.lemmas.List.{append-nil}
-use Rattle.cpn_runs.specs.State.{PlainEvent, PlainCut, claim_made, claim_completed, clock_moved, cut_made}
-use Rattle.cpn_book.specs.GoingAlone.{AreCompletions, AreRounds, GoesOnAlone}
+use Rattle.cpn_runs.specs.State.{PlainSetup, PlainState, PlainEvent, PlainCut, claim_made, claim_completed, clock_moved, cut_made, first_state, owed_cut, IsState}
+use Rattle.cpn_runs.specs.GivingBack.{NoneIsGivenBack}
+use Rattle.cpn_runs.proofs.NoneGivenBack.{none_of_both}
+use Rattle.cpn_runs.proofs.States.{leads_more}
+use Rattle.cpn_book.specs.GoingAlone.{AreCompletions, AreRounds, GoesOnAlone, GivesNoneBack}
 use Rattle.cpn_book.specs.States.{cut_events}
 
 -- ---- completions
@@ -56,3 +59,43 @@ goes_on_by events more goes rounds = record {
   in_order = goes.in_order;
   alone = rounds_joined goes.rounds more goes.alone rounds;
 }
+
+-- ---- none gives a claim back
+
+-- a cut that is owed does not
+cut_gives_none : (setup : PlainSetup) (state : PlainState) (owed : Option PlainCut) → owed_cut setup state ≡ owed → NoneIsGivenBack setup state (cut_events owed)
+cut_gives_none setup state None is = tt
+cut_gives_none setup state (Some cut) is = ((λ none. let e : Some cut ≡ None = sym is ∙ none in cc), λ mid happens. tt)
+
+-- nor do events with the cut that is owed after them, if one is
+gives_none_with_cut
+    : (setup : PlainSetup) (journal first : List PlainEvent) (owed : Option PlainCut)
+    → ((state : PlainState) → NoneIsGivenBack setup state first)
+    → ((after : PlainState) → IsState setup (journal ++ first) after → owed_cut setup after ≡ owed)
+    → GivesNoneBack setup journal (first ++ cut_events owed)
+gives_none_with_cut setup journal first owed none owed_is = λ state is.
+    none_of_both setup state first (cut_events owed) (none state) (λ mid leads. cut_gives_none setup mid owed (owed_is mid (leads_more setup (first_state setup) journal first state mid is leads)))
+
+pub completion_gives_none
+    : (setup : PlainSetup) (journal : List PlainEvent) (seat number : ℕ) (owed : Option PlainCut)
+    → ((after : PlainState) → IsState setup (journal ++ claim_completed seat number ∷ []) after → owed_cut setup after ≡ owed)
+    → GivesNoneBack setup journal (claim_completed seat number ∷ cut_events owed)
+completion_gives_none setup journal seat number owed owed_is = gives_none_with_cut setup journal (claim_completed seat number ∷ []) owed (λ state. (tt, λ mid happens. tt)) owed_is
+
+pub round_gives_none
+    : (setup : PlainSetup) (journal : List PlainEvent) (seat number : ℕ) (owed : Option PlainCut)
+    → ((after : PlainState) → IsState setup (journal ++ claim_made seat number ∷ claim_completed seat number ∷ []) after → owed_cut setup after ≡ owed)
+    → GivesNoneBack setup journal (claim_made seat number ∷ claim_completed seat number ∷ cut_events owed)
+round_gives_none setup journal seat number owed owed_is = gives_none_with_cut setup journal (claim_made seat number ∷ claim_completed seat number ∷ []) owed (λ state. (tt, λ mid happens. (tt, λ after completes. tt))) owed_is
+
+-- nor does a move of the clock
+pub move_gives_none : (setup : PlainSetup) (journal : List PlainEvent) (time : ℕ) → GivesNoneBack setup journal (clock_moved time ∷ [])
+move_gives_none setup journal time = λ state is. (tt, λ mid happens. tt)
+
+pub nothing_gives_none : (setup : PlainSetup) (journal : List PlainEvent) → GivesNoneBack setup journal []
+nothing_gives_none setup journal = λ state is. tt
+
+-- of two parts neither does
+pub both_give_none : (setup : PlainSetup) (journal first more : List PlainEvent) → GivesNoneBack setup journal first → GivesNoneBack setup (journal ++ first) more → GivesNoneBack setup journal (first ++ more)
+both_give_none setup journal first more none rest = λ state is.
+    none_of_both setup state first more (none state is) (λ mid leads. rest mid (leads_more setup (first_state setup) journal first state mid is leads))

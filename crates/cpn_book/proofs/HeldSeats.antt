@@ -4,7 +4,7 @@ use Rattle.std.proofs.lemmas.Bool.{and_parts, eqb-false}
 use Rattle.std.proofs.lemmas.Option.{same_Some}
 use Rattle.std.specs.List.{count_by}
 use Rattle.std.proofs.lemmas.List.Sums.{sum_by-cons}
-use Rattle.std.specs.Prelude.{OnOk}
+use Rattle.std.specs.Prelude.{OnOk, OnErr}
 use Rattle.std.specs.Option.{is_some}
 use Rattle.cpn_runs.specs.HoleRun.{PlainClaim, is_open}
 use Rattle.cpn_book.specs.Held.{held_from, AreHeld}
@@ -15,6 +15,11 @@ use Rattle.cpn_definitions.proofs.ListItems.{place_known, set_there, set_elsewhe
 pub where_ok : {T E : Type 0} (r : Result T E) (P Q : Type 0) → (P → Q) → OnOk r P → OnOk r Q
 where_ok (Ok x) P Q follows holds = follows holds
 where_ok (Err e) P Q follows holds = holds
+
+-- what follows from either answer
+pub either : {T E : Type 0} (r : Result T E) (P Q G : Type 0) → OnOk r P → OnErr r Q → (P → G) → (Q → G) → G
+either (Ok x) P Q G ok err so otherwise = so ok
+either (Err e) P Q G ok err so otherwise = otherwise err
 
 pub in_any_case : {T E : Type 0} (r : Result T E) (Q : Type 0) → Q → OnOk r Q
 in_any_case (Ok x) Q holds = holds

@@ -9,7 +9,7 @@ use Rattle.cpn_definitions.proofs.ListItems.{set_there, set_elsewhere, set_long}
 use Rattle.cpn_runs.specs.HoleRun.{PlainClaim}
 use Rattle.cpn_runs.specs.Commits.{marked_from, stop_at_last, committed_from}
 use Rattle.cpn_runs.specs.State.{PlainSetup, PlainState, PlainEvent, claim_made, new_claim, is_held_by, IsDrawn, MayClaim, first_state, committed, owed_cut, cut_at}
-use Rattle.cpn_runs.proofs.Cuts.{no_more_committed, owes_none, owes_none_so}
+use Rattle.cpn_runs.proofs.Cuts.{no_more_committed, owes_none, owes_none_so, uncut_so}
 use Rattle.cpn_runs.proofs.States.{leads_more}
 use Rattle.cpn_book.specs.Held.{held_from, AreHeld}
 use Rattle.cpn_log.specs.Kept.{IsKept}
@@ -106,7 +106,7 @@ module _ (setup : PlainSetup) (journal : List PlainEvent) (state : PlainState) (
 
     pub none_owed_now : owed_cut setup after ≡ None
     none_owed_now =
-        let none = owes_none setup state next.no_cut stands.none_owed in
+        let none = owes_none setup state (uncut_so state.cut next.no_cut) stands.none_owed in
         owes_none_so setup after
         (ap (λ k. stop_at_last setup.monitors (marked_from setup.start (take k after.claims))) many_now ∙ ap (λ cs. stop_at_last setup.monitors (marked_from setup.start cs)) (first_same (committed setup state) few_committed) ∙ none.0)
         (ap (λ k. cut_at k (slice_get after.claims k)) many_now ∙ still_owes_none (committed setup state) (committed setup state) state.claims made none.1 refl)

@@ -6,11 +6,11 @@ use Rattle.cpn_definitions.specs.Occurrence.{Made, are_covered, threshold, outpu
 use Rattle.cpn_definitions.proofs.ListItems.{last_is_at}
 use Rattle.cpn_definitions.proofs.RisingLists.{each_appended}
 use Rattle.cpn_runs.specs.HoleRun.{PlainClaim, done_with, is_done}
-use Rattle.cpn_runs.specs.State.{PlainSetup, PlainState, PlainEvent, PlainCut, claim_made, claim_completed, new_claim, status_after, committed, MayComplete, first_state}
+use Rattle.cpn_runs.specs.State.{PlainSetup, PlainState, PlainEvent, claim_made, claim_completed, new_claim, status_after, committed, MayComplete, first_state}
 use Rattle.cpn_runs.specs.Commits.{marked_from, stop_at_last, committed_from}
-use Rattle.cpn_runs.proofs.Cuts.{AreDone, owes_none}
-use Rattle.cpn_runs.proofs.Journals.{all_are_committed}
-use Rattle.cpn_runs.proofs.States.{leads_more, every_state}
+use Rattle.cpn_runs.proofs.Cuts.{AreDone, owes_none, uncut_so}
+use Rattle.cpn_runs.proofs.Journals.{no_claim_left}
+use Rattle.cpn_runs.proofs.States.{leads_more}
 use Rattle.cpn_log.specs.Kept.{IsKept}
 use Rattle.cpn_log.specs.Logs.{PlainLog, head_of, with_occurred}
 use Rattle.cpn_book.specs.Held.{AreHeld}
@@ -27,11 +27,7 @@ use Rattle.cpn_book.proofs.MovedClocks.{none_open}
 
 module _ (setup : PlainSetup) (journal : List PlainEvent) (state : PlainState) (log : PlainLog) (held : List (Option ℕ)) (stands : StandsAt setup journal state log held) (free : (s : ℕ) → s < setup.limits.seats → slice_get held s ≡ Some None) where
   every_claim : committed setup state ≡ length state.claims
-  every_claim = by state.cut refl
-    where
-      by : (cut : Option PlainCut) → state.cut ≡ cut → committed setup state ≡ length state.claims
-      by None uncut = all_are_committed setup state (none_open setup journal state log held stands free) uncut stands.none_owed
-      by (Some cut) stood = ((every_state setup journal state stands.told.reached).cut_off cut stood).all_committed
+  every_claim = no_claim_left setup journal state stands.told.reached (none_open setup journal state log held stands free) stands.none_owed
 
   -- where no seat holds a claim all are committed
   pub all_committed : log.claims ≡ []
@@ -120,7 +116,7 @@ module _ (setup : PlainSetup) (journal : List PlainEvent) (state : PlainState) (
   goes_on : stop_at_last setup.monitors (marked_from setup.start state.claims) ≡ None
   goes_on =
       ap (λ cs. stop_at_last setup.monitors (marked_from setup.start cs)) (sym (ap (λ k. take k state.claims) stands.all_committed ∙ whole))
-      ∙ (owes_none setup state next.no_cut stands.none_owed).0
+      ∙ (owes_none setup state (uncut_so state.cut next.no_cut) stands.none_owed).0
 
   -- with it all are committed again
   pub all_with_it : committed setup occurred_state ≡ length state.claims + 1

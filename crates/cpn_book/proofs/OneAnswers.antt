@@ -1,5 +1,5 @@
 -- A book has one state, and a call on it one answer in that state: so each answer comes exactly where what it says holds.
-use Rattle.std.proofs.Common.{◌≡◌, ℕ, ◌<◌, ◌≤◌, ◌%◌, true, false, List, [], ◌∷◌, length, Option, Some, None, refl, sym, ap, ◌∙◌, subst, slice_get, arith}
+use Rattle.std.proofs.Common.{◌≡◌, ℕ, ◌<◌, ◌%◌, true, false, List, [], ◌∷◌, length, Option, Some, None, refl, sym, ap, ◌∙◌, subst, slice_get, arith}
 use Rattle.std.proofs.lemmas.Option.{same_Some}
 use Rattle.cpn_definitions.specs.Enabled.{PlainEntry, Enabled, ready, IsDead}
 use Rattle.cpn_definitions.specs.Legal.{LeastTime}
@@ -19,14 +19,17 @@ use Rattle.cpn_book.proofs.HeldClaims.{held_none}
 use Rattle.cpn_book.proofs.OpenClaims.{some_counted}
 use Rattle.cpn_book.specs.States.{open_claims, IsFull, IsIndex, AreReady, claimed_job, cut_events}
 use Rattle.cpn_book.specs.Tickets.{number_of, evaluated_number}
-use Rattle.cpn_book.specs.Answers.{AnswersClaim, IsNotCut, AnswersCompletion, AnswersAdvance, AnswersFinish}
+use Rattle.cpn_book.specs.Answers.{AnswersClaim, IsNotCut, IsCutBelow, AnswersCompletion, AnswersGivingBack, AnswersAdvance, AnswersFinish}
 use Rattle.cpn_book.specs.Books.{setup_in, journal_in, is_spent_in}
-use Rattle.cpn_book.specs.OneAnswers.{BooksHaveOneState, IsSameClaimed, IsSameCompleted, IsSameFinish, ClaimsHaveOneAnswer, CompletionsHaveOneAnswer, MovesHaveOneAnswer, FinishesHaveOneAnswer}
+use Rattle.cpn_book.specs.OneAnswers.{BooksHaveOneState, IsSameClaimed, IsSameCompleted, IsSameGivenBack, IsSameFinish, ClaimsHaveOneAnswer, CompletionsHaveOneAnswer, GivingBackHasOneAnswer, MovesHaveOneAnswer, FinishesHaveOneAnswer}
 use Rattle.cpn_book.specs.declared.answers.Claimed.{Claimed}
 use Rattle.cpn_book.specs.declared.answers.Claimed.TheVariants as claims
 use Rattle.cpn_book.specs.declared.tickets.Evaluated.{Evaluated}
 use Rattle.cpn_book.specs.declared.answers.Completed.{Completed}
 use Rattle.cpn_book.specs.declared.answers.Completed.TheVariants as completions
+use Rattle.cpn_book.specs.declared.tickets.Ticket.{Ticket}
+use Rattle.cpn_book.specs.declared.answers.GivenBack.{GivenBack}
+use Rattle.cpn_book.specs.declared.answers.GivenBack.TheVariants as returns
 use Rattle.cpn_book.specs.declared.answers.Advanced.{Advanced}
 use Rattle.cpn_book.specs.declared.answers.Advanced.TheVariants as moves
 use Rattle.cpn_book.specs.declared.answers.Finish.{Finish}
@@ -124,10 +127,20 @@ module _ (setup : PlainSetup) (state : PlainState) (seat : ℕ) where
 
 -- ---- a completion
 
-module _ (setup : PlainSetup) (state : PlainState) (seat : ℕ) (done : Evaluated) where
-  cut_or_not : (cut : PlainCut) → state.cut ≡ Some cut → cut.number ≤ evaluated_number done → IsNotCut state (evaluated_number done) → ⊥
-  cut_or_not cut is upto not_cut = let above : evaluated_number done < cut.number = not_cut cut is in omega (arith, upto, above)
+-- a cut stands at or below the number, or none does
+cut_or_not : (state : PlainState) (number at : ℕ) → IsCutBelow state number at → IsNotCut state number → ⊥
+cut_or_not state number at below not_cut =
+    let upto = below.3 in
+    let above : number < below.0.number = not_cut below.0 below.1 in
+    omega (arith, upto, above)
 
+-- one cut stands
+one_cut_below : (state : PlainState) (number at at' : ℕ) → IsCutBelow state number at → IsCutBelow state number at' → at ≡ at'
+one_cut_below state number at at' x y =
+    let cuts : x.0 ≡ y.0 = same_Some x.0 y.0 (sym x.1 ∙ y.1) in
+    x.2 ∙ ap (λ (cut : PlainCut). cut.number) cuts ∙ sym y.2
+
+module _ (setup : PlainSetup) (state : PlainState) (seat : ℕ) (done : Evaluated) where
   -- a completion has one answer in a state
   one_completion_answer
       : (events events' : List PlainEvent) (a b : Completed)
@@ -135,16 +148,14 @@ module _ (setup : PlainSetup) (state : PlainState) (seat : ℕ) (done : Evaluate
       → AnswersCompletion setup state seat done events' b
       → IsSameCompleted a b
   one_completion_answer events events' completions.Done completions.Done x y = tt
-  one_completion_answer events events' completions.Done (completions.Void number) x y = absurd (cut_or_not y.1.0 y.1.1 y.1.3 x.0)
-  one_completion_answer events events' completions.Done (completions.Stranger kept brought) x y = absurd (y.2 x.1.open_claim)
-  one_completion_answer events events' (completions.Void number) completions.Done x y = absurd (cut_or_not x.1.0 x.1.1 x.1.3 y.0)
-  one_completion_answer events events' (completions.Void number) (completions.Void number') x y =
-      let cuts : x.1.0 ≡ y.1.0 = same_Some x.1.0 y.1.0 (sym x.1.1 ∙ y.1.1) in
-      x.1.2 ∙ ap (λ (cut : PlainCut). cut.number) cuts ∙ sym y.1.2
-  one_completion_answer events events' (completions.Void number) (completions.Stranger kept brought) x y = absurd (cut_or_not x.1.0 x.1.1 x.1.3 y.1)
-  one_completion_answer events events' (completions.Stranger kept brought) completions.Done x y = absurd (x.2 y.1.open_claim)
-  one_completion_answer events events' (completions.Stranger kept brought) (completions.Void number) x y = absurd (cut_or_not y.1.0 y.1.1 y.1.3 x.1)
-  one_completion_answer events events' (completions.Stranger kept brought) (completions.Stranger kept' brought') x y = (x.3 ∙ sym y.3, x.4 ∙ sym y.4)
+  one_completion_answer events events' completions.Done (completions.Void number) x y = absurd (cut_or_not state (evaluated_number done) number y.1 x.0)
+  one_completion_answer events events' completions.Done (completions.Stranger kept brought) x y = absurd (y.2.1 x.1.open_claim)
+  one_completion_answer events events' (completions.Void number) completions.Done x y = absurd (cut_or_not state (evaluated_number done) number x.1 y.0)
+  one_completion_answer events events' (completions.Void number) (completions.Void number') x y = one_cut_below state (evaluated_number done) number number' x.1 y.1
+  one_completion_answer events events' (completions.Void number) (completions.Stranger kept brought) x y = absurd (cut_or_not state (evaluated_number done) number x.1 y.2.0)
+  one_completion_answer events events' (completions.Stranger kept brought) completions.Done x y = absurd (x.2.1 y.1.open_claim)
+  one_completion_answer events events' (completions.Stranger kept brought) (completions.Void number) x y = absurd (cut_or_not state (evaluated_number done) number y.1 x.2.0)
+  one_completion_answer events events' (completions.Stranger kept brought) (completions.Stranger kept' brought') x y = (x.2.2 ∙ sym y.2.2, x.1 ∙ sym y.1)
 
   -- and it appends the same events
   one_completion_journal
@@ -155,14 +166,33 @@ module _ (setup : PlainSetup) (state : PlainState) (seat : ℕ) (done : Evaluate
   one_completion_journal events events' completions.Done completions.Done x y =
       let states : x.1.after ≡ y.1.after = completion_is_unique setup state seat (evaluated_number done) x.1.after y.1.after x.1.may y.1.may in
       x.1.events_are ∙ ap (λ (s : PlainState). claim_completed seat (evaluated_number done) ∷ cut_events (owed_cut setup s)) states ∙ sym y.1.events_are
-  one_completion_journal events events' completions.Done (completions.Void number) x y = absurd (cut_or_not y.1.0 y.1.1 y.1.3 x.0)
-  one_completion_journal events events' completions.Done (completions.Stranger kept brought) x y = absurd (y.2 x.1.open_claim)
-  one_completion_journal events events' (completions.Void number) completions.Done x y = absurd (cut_or_not x.1.0 x.1.1 x.1.3 y.0)
+  one_completion_journal events events' completions.Done (completions.Void number) x y = absurd (cut_or_not state (evaluated_number done) number y.1 x.0)
+  one_completion_journal events events' completions.Done (completions.Stranger kept brought) x y = absurd (y.2.1 x.1.open_claim)
+  one_completion_journal events events' (completions.Void number) completions.Done x y = absurd (cut_or_not state (evaluated_number done) number x.1 y.0)
   one_completion_journal events events' (completions.Void number) (completions.Void number') x y = x.0 ∙ sym y.0
   one_completion_journal events events' (completions.Void number) (completions.Stranger kept brought) x y = x.0 ∙ sym y.0
-  one_completion_journal events events' (completions.Stranger kept brought) completions.Done x y = absurd (x.2 y.1.open_claim)
+  one_completion_journal events events' (completions.Stranger kept brought) completions.Done x y = absurd (x.2.1 y.1.open_claim)
   one_completion_journal events events' (completions.Stranger kept brought) (completions.Void number) x y = x.0 ∙ sym y.0
   one_completion_journal events events' (completions.Stranger kept brought) (completions.Stranger kept' brought') x y = x.0 ∙ sym y.0
+
+-- ---- a claim that is given back
+
+module _ (setup : PlainSetup) (state : PlainState) (seat : ℕ) (ticket : Ticket) where
+  -- a ticket that is given back has one answer in a state
+  one_ticket_answer
+      : (events events' : List PlainEvent) (a b : GivenBack)
+      → AnswersGivingBack setup state seat ticket events a
+      → AnswersGivingBack setup state seat ticket events' b
+      → IsSameGivenBack a b × (events ≡ events')
+  one_ticket_answer events events' returns.Cut returns.Cut x y = (tt, x.1.events_are ∙ sym y.1.events_are)
+  one_ticket_answer events events' returns.Cut (returns.Void number) x y = absurd (cut_or_not state (number_of ticket) number y.1 x.0)
+  one_ticket_answer events events' returns.Cut (returns.Stranger kept brought) x y = absurd (y.2.1 x.1.open_claim)
+  one_ticket_answer events events' (returns.Void number) returns.Cut x y = absurd (cut_or_not state (number_of ticket) number x.1 y.0)
+  one_ticket_answer events events' (returns.Void number) (returns.Void number') x y = (one_cut_below state (number_of ticket) number number' x.1 y.1, x.0 ∙ sym y.0)
+  one_ticket_answer events events' (returns.Void number) (returns.Stranger kept brought) x y = absurd (cut_or_not state (number_of ticket) number x.1 y.2.0)
+  one_ticket_answer events events' (returns.Stranger kept brought) returns.Cut x y = absurd (x.2.1 y.1.open_claim)
+  one_ticket_answer events events' (returns.Stranger kept brought) (returns.Void number) x y = absurd (cut_or_not state (number_of ticket) number y.1 x.2.0)
+  one_ticket_answer events events' (returns.Stranger kept brought) (returns.Stranger kept' brought') x y = ((x.2.2 ∙ sym y.2.2, x.1 ∙ sym y.1), x.0 ∙ sym y.0)
 
 -- ---- a move of the clock
 
@@ -317,6 +347,9 @@ claims_have_one_answer setup state seat a b x y = one_claim_answer setup state s
 pub completions_have_one_answer : CompletionsHaveOneAnswer
 completions_have_one_answer setup state seat done events events' a b x y =
     (one_completion_answer setup state seat done events events' a b x y, one_completion_journal setup state seat done events events' a b x y)
+
+pub giving_back_has_one_answer : GivingBackHasOneAnswer
+giving_back_has_one_answer setup state seat ticket events events' a b x y = one_ticket_answer setup state seat ticket events events' a b x y
 
 pub moves_have_one_answer : MovesHaveOneAnswer
 moves_have_one_answer setup state a b x y = one_advance_answer setup state a b x y

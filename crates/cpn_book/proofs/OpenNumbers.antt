@@ -23,7 +23,7 @@ use Rattle.cpn_book.specs.Standings.{IsAt, job_for, events_in}
 use Rattle.cpn_book.specs.declared.standings.Standing as program
 use Rattle.cpn_book.proofs.CountedClaims.{heads_are, heads_counted, standings_are}
 use Rattle.cpn_book.proofs.DrawnElements.{ready_to_evaluate}
-use Rattle.cpn_book.proofs.FilledStandings.{all_at, image_at}
+use Rattle.cpn_book.proofs.HeldJobs.{all_at, image_at}
 use Rattle.cpn_book.proofs.HeldSeats.{holds_from}
 
 -- an item of images is that of an item

@@ -1,15 +1,18 @@
--- A round of one seat: no claim is open before it and after it.
-use Rattle.std.proofs.Common.{◌≡◌, ◌≢◌, ℕ, ◌<◌, ◌==◌, Bool, true, false, List, ◌++◌, length, Option, Some, None, refl, sym, ap, ◌∙◌, subst, slice_get, slice_set, eqb-true}
+-- A round of one seat: no claim is open before it and after it; and when a book follows another one.
+use Rattle.std.proofs.Common.{◌≡◌, ◌≢◌, ℕ, ◌<◌, ◌==◌, Bool, true, false, List, [], ◌++◌, length, Option, Some, None, refl, sym, ap, ◌∙◌, subst, slice_get, slice_set, eqb-true}
 use Rattle.std.specs.List.{count_by}
 use Rattle.std.specs.Option.{is_some}
 use Rattle.std.proofs.lemmas.Bool.{eqb-false}
+use Rattle.std.proofs.lemmas.List.{append-nil}
 use Rattle.cpn_runs.specs.FinishedViews.{setup_view}
 use Rattle.cpn_runs.specs.State.{PlainSetup, PlainEvent}
-use Rattle.cpn_book.specs.Books.{setup_in, journal_in}
+use Rattle.cpn_log.specs.LogViews.{log_view}
+use Rattle.cpn_book.specs.Books.{setup_in, journal_in, IsBook}
 use Rattle.cpn_book.specs.Standings.{HasCommitted, StillCommitted, occurrences_in}
 use Rattle.cpn_book.specs.Steps.{Follows, IsMovedFrom}
 use Rattle.cpn_book.specs.declared.books.Book.{Book}
 use Rattle.cpn_book.specs.declared.standings.Standing.{Standing}
+use Rattle.cpn_book.proofs.CommittedStandings.{still_same}
 use Rattle.cpn_book.proofs.OpenClaims.{none_held_where_none}
 use Rattle.cpn_book.proofs.HeldSeats.{none_counted_held}
 use Rattle.cpn_definitions.proofs.ListItems.{place_known, set_there, set_elsewhere}
@@ -64,3 +67,37 @@ follows_round old moved new drawn played is same still now more events =
         occurrences = ap occurrences_in standing ∙ still.occurrences ∙ ap (λ os. os ++ still.more) were;
       };
     }
+
+-- a book that stays as it is follows itself
+pub follows_itself : (book : Book) → IsBook book → Follows book book
+follows_itself book is = record {
+  setup = refl;
+  works = refl;
+  plans = refl;
+  opening = refl;
+  spent = refl;
+  more = [];
+  events = sym (append-nil (journal_in book));
+  committed = still_same (setup_in book) book.standing book.standing is.committed refl refl refl;
+}
+
+-- so does one whose journal goes on, and where what was committed stands
+pub follows_still
+    : (old new : Book)
+    → IsBook old
+    → new ≡ record old { standing = new.standing; listed = new.listed }
+    → (more : List PlainEvent) × (journal_in new ≡ journal_in old ++ more)
+    → (log_view new.standing.log).committed ≡ (log_view old.standing.log).committed
+    → (log_view new.standing.log).settled ≡ (log_view old.standing.log).settled
+    → occurrences_in new.standing ≡ occurrences_in old.standing
+    → Follows old new
+follows_still old new is same more committed settled occurrences = record {
+  setup = ap (λ (b : Book). b.setup) same;
+  works = ap (λ (b : Book). b.works) same;
+  plans = ap (λ (b : Book). b.plans) same;
+  opening = ap (λ (b : Book). b.opening) same;
+  spent = ap (λ (b : Book). b.spent) same;
+  more = more.0;
+  events = more.1;
+  committed = still_same (setup_in old) old.standing new.standing is.committed committed settled occurrences;
+}

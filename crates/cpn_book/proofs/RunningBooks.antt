@@ -18,7 +18,7 @@ use Rattle.cpn_monitor.specs.MonitorValues.{PlainMonitorValue}
 use Rattle.cpn_monitor.specs.Views.{values_view}
 use Rattle.cpn_runs.specs.MeasuredStates.{values_in}
 use Rattle.cpn_runs.specs.Run.{Outlook, HasOutlook, PlainFinished, IsRun}
-use Rattle.cpn_runs.specs.State.{committed_occurrences, PlainSetup, PlainState, PlainEvent, PlainCut, PlainEnd, dead, steps_made, until_passed, fault_end, stopped_by, IsState, EndsBy, HasCause, unclaimed_in, settled_in}
+use Rattle.cpn_runs.specs.State.{committed_occurrences, PlainSetup, PlainState, PlainEvent, PlainCut, PlainEnd, dead, steps_made, until_passed, fault_end, stopped_by, wants_memory, IsState, EndsBy, HasCause, unclaimed_in, settled_in}
 use Rattle.cpn_runs.specs.FinishedViews.{setup_view, outlook_view}
 use Rattle.cpn_runs.proofs.Journals.{marking_is_start}
 use Rattle.cpn_runs.proofs.States.{one_state, least_is_unique}
@@ -188,6 +188,7 @@ module _ (book : Book) (is : IsBook book) (running : IsRunning book) (none_held 
               omega (arith, same, past, in_time)
           split (fault_end e fault) has = has
           split (stopped_by monitor) has = has
+          split wants_memory has = has
 
   -- what it shows is a run, where it ends by the cause
   pub shows_run : (cause : PlainEnd) → EndsBy (setup_in book) running.at.at.state cause → IsRun (setup_in book) (shown book cause)

@@ -9,7 +9,7 @@ use Rattle.cpn_jobs.specs.Work.{PlainJob}
 use Rattle.cpn_runs.specs.Filling.{IsFilled}
 use Rattle.cpn_runs.specs.HoleRun.{PlainClaim, is_open}
 use Rattle.cpn_runs.specs.Run.{IsRun}
-use Rattle.cpn_runs.specs.State.{PlainSetup, PlainState, PlainCut, PlainEvent, PlainEnd, claim_made, claim_completed, clock_moved, unclaimed_in, owed_cut, is_held_by, MayClaim, MayComplete, MayMove, EndsBy}
+use Rattle.cpn_runs.specs.State.{PlainSetup, PlainState, PlainCut, PlainEvent, PlainEnd, wants_memory, claim_made, claim_completed, clock_moved, cut_made, unclaimed_in, owed_cut, is_held_by, MayClaim, MayComplete, MayMove, MayCut, EndsBy}
 use Rattle.cpn_runs.specs.FinishedViews.{setup_view, finished_view}
 use Rattle.cpn_book.specs.Bounds.{EndsInBounds}
 use Rattle.cpn_book.specs.Held.{held_from}
@@ -24,6 +24,8 @@ use Rattle.cpn_book.specs.declared.answers.Claimed.{Claimed}
 use Rattle.cpn_book.specs.declared.answers.Claimed.TheVariants as claims
 use Rattle.cpn_book.specs.declared.answers.Completed.{Completed}
 use Rattle.cpn_book.specs.declared.answers.Completed.TheVariants as completions
+use Rattle.cpn_book.specs.declared.answers.GivenBack.{GivenBack}
+use Rattle.cpn_book.specs.declared.answers.GivenBack.TheVariants as returns
 use Rattle.cpn_book.specs.declared.answers.Advanced.{Advanced}
 use Rattle.cpn_book.specs.declared.answers.Advanced.TheVariants as moves
 use Rattle.cpn_book.specs.declared.answers.Finish.{Finish}
@@ -88,19 +90,48 @@ pub record IsCompletion (setup : PlainSetup) (state : PlainState) (seat : ℕ) (
   pub fills : IsFilled setup state (evaluated_number done) (outputs_told (evaluated_job done)) after
   pub events_are : events ≡ claim_completed seat (evaluated_number done) ∷ cut_events (owed_cut setup after)
 
+-- a cut stands, of this number, at or below that of a claim
+abbrev pub IsCutBelow : PlainState → ℕ → ℕ → Type 0
+IsCutBelow state claim cut_at = (cut : PlainCut) × (state.cut ≡ Some cut) × (cut_at ≡ cut.number) × (cut.number ≤ claim)
+
+-- No cut stands at or below the number, and the seat has no open claim of the number and job; the job that is kept is that of the open claim of
+-- the number, if there is one.
+abbrev pub IsStranger : PlainSetup → PlainState → ℕ → ℕ → PlainJob → Option PlainJob → Type 0
+IsStranger setup state seat number job kept = IsNotCut state number × (HasOpenClaim setup state seat number job → ⊥) × (kept ≡ open_job setup state number)
+
 -- the answer to a seat that brings an evaluation, with the events that it appends
 abbrev pub AnswersCompletion : PlainSetup → PlainState → ℕ → Evaluated → List PlainEvent → Completed → Type 0
-AnswersCompletion setup state seat done events (completions.Void number) =
-    (events ≡ []) × ((cut : PlainCut) × (state.cut ≡ Some cut) × (number ≡ cut.number) × (cut.number ≤ evaluated_number done))
+AnswersCompletion setup state seat done events (completions.Void number) = (events ≡ []) × IsCutBelow state (evaluated_number done) number
 AnswersCompletion setup state seat done events (completions.Stranger kept brought) =
-    (events ≡ []) × IsNotCut state (evaluated_number done) × (HasOpenClaim setup state seat (evaluated_number done) (evaluated_job done) → ⊥)
-    × (option_map (λ job. job_view job.value) kept ≡ open_job setup state (evaluated_number done)) × (brought ≡ done)
+    (events ≡ []) × (brought ≡ done) × IsStranger setup state seat (evaluated_number done) (evaluated_job done) (option_map (λ job. job_view job.value) kept)
 AnswersCompletion setup state seat done events completions.Done = IsNotCut state (evaluated_number done) × IsCompletion setup state seat done events
 
 -- the answer of a book to a seat that brings an evaluation, and the book after it
 abbrev pub AnswersEvaluation : Book → Book → ℕ → Evaluated → Completed → Type 0
 AnswersEvaluation old new seat done answer =
     InState old (λ state. (events : List PlainEvent) × (journal_in new ≡ journal_in old ++ events) × AnswersCompletion (setup_in old) state seat done events answer)
+
+-- ---- a claim that is given back
+
+-- A ticket that may be given back: a cut for want of memory may be made at its number, which is the one event.
+pub record IsGivingBack (setup : PlainSetup) (state : PlainState) (seat : ℕ) (ticket : Ticket) (events : List PlainEvent) : Type 0 where
+  pub open_claim : HasOpenClaim setup state seat (number_of ticket) (job_of ticket)
+  pub after : PlainState
+  pub may : MayCut setup state (number_of ticket) after
+  pub cut_is : after.cut ≡ Some (record { number = number_of ticket; cause = wants_memory })
+  pub events_are : events ≡ cut_made (number_of ticket) ∷ []
+
+-- the answer to a seat that gives a ticket back, with the events that it appends
+abbrev pub AnswersGivingBack : PlainSetup → PlainState → ℕ → Ticket → List PlainEvent → GivenBack → Type 0
+AnswersGivingBack setup state seat ticket events (returns.Void number) = (events ≡ []) × IsCutBelow state (number_of ticket) number
+AnswersGivingBack setup state seat ticket events (returns.Stranger kept brought) =
+    (events ≡ []) × (brought ≡ ticket) × IsStranger setup state seat (number_of ticket) (job_of ticket) (option_map (λ job. job_view job.value) kept)
+AnswersGivingBack setup state seat ticket events returns.Cut = IsNotCut state (number_of ticket) × IsGivingBack setup state seat ticket events
+
+-- the answer of a book to a seat that gives a ticket back, and the book after it
+abbrev pub AnswersGivenBack : Book → Book → ℕ → Ticket → GivenBack → Type 0
+AnswersGivenBack old new seat ticket answer =
+    InState old (λ state. (events : List PlainEvent) × (journal_in new ≡ journal_in old ++ events) × AnswersGivingBack (setup_in old) state seat ticket events answer)
 
 -- ---- a move of the clock
 

@@ -1,12 +1,13 @@
 -- What the commits of a run lead to, and which cut is owed then. Source: own choice.
-use Rattle.std.specs.Prelude.{◌≡◌, ℕ, ◌+◌, false, length, Option, Some, None}
+use Rattle.std.specs.Prelude.{◌≡◌, ℕ, ◌+◌, false, [], ◌∷◌, ◌++◌, length, Option, Some, None}
 use Rattle.cpn_log.specs.Logs.{begin_done}
 use Rattle.cpn_log.specs.LogViews.{log_view}
-use Rattle.cpn_runs.specs.State.{PlainSetup, committed, owed_cut}
+use Rattle.cpn_runs.specs.State.{PlainSetup, PlainState, PlainCut, IsDue, IsState, claim_completed, committed, owed_cut}
 use Rattle.cpn_runs.specs.Views.{end_view}
 use Rattle.cpn_runs.specs.declared.events.End.{End}
 use Rattle.cpn_book.specs.StandingRuns.{stop_behind, NoneStops}
-use Rattle.cpn_book.specs.Standings.{IsToldAt}
+use Rattle.cpn_book.specs.Standings.{IsToldAt, events_in}
+use Rattle.cpn_book.specs.States.{cut_events}
 use Rattle.cpn_book.specs.declared.committing.Commit.{Commit}
 use Rattle.cpn_book.specs.declared.committing.Commit.TheVariants as commits
 use Rattle.cpn_book.specs.declared.standings.Standing.{Standing}
@@ -43,3 +44,21 @@ OwesCut setup s (Some cause) =
     (told : IsToldAt setup s)
     × (committed setup told.state ≡ length (log_view s.log).committed)
     × (owed_cut setup told.state ≡ Some (record { number = length (log_view s.log).committed; cause = end_view cause }))
+
+-- A cut may be made: it is due where the run stands, and what can be committed is.
+pub record IsDueAt (setup : PlainSetup) (s : Standing) (cut : PlainCut) : Type 0 where
+  pub told : IsToldAt setup s
+  pub all_committed : committed setup told.state ≡ length (log_view s.log).committed
+  pub due : IsDue setup told.state cut
+
+-- The journal goes on with the cut that is owed where the run stands, if one is.
+pub record AddsOwedCut (setup : PlainSetup) (old new : Standing) : Type 0 where
+  pub owed : Option PlainCut
+  pub events : events_in new ≡ events_in old ++ cut_events owed
+  pub owed_is : (state : PlainState) → IsState setup (events_in old) state → owed_cut setup state ≡ owed
+
+-- The journal goes on with a completion, and the cut that is owed after it, if one is.
+pub record AddsCompletion (setup : PlainSetup) (seat number : ℕ) (old new : Standing) : Type 0 where
+  pub owed : Option PlainCut
+  pub events : events_in new ≡ events_in old ++ claim_completed seat number ∷ cut_events owed
+  pub owed_is : (after : PlainState) → IsState setup (events_in old ++ claim_completed seat number ∷ []) after → owed_cut setup after ≡ owed

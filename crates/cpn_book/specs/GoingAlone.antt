@@ -1,6 +1,7 @@
 -- How a run goes on that is taken to its end alone. Source: own choice.
 use Rattle.std.specs.Prelude.{◌≡◌, ℕ, suc, ◌≤◌, List, [], ◌∷◌, ◌++◌}
-use Rattle.cpn_runs.specs.State.{PlainEvent, claim_made, claim_completed, clock_moved, cut_made}
+use Rattle.cpn_runs.specs.State.{PlainSetup, PlainState, IsState, PlainEvent, claim_made, claim_completed, clock_moved, cut_made}
+use Rattle.cpn_runs.specs.GivingBack.{NoneIsGivenBack}
 
 -- Completions of claims by rising numbers, from a least one to below a limit; a cut may stand between them.
 abbrev pub AreCompletions : ℕ → ℕ → List PlainEvent → Type 0
@@ -27,3 +28,7 @@ pub record GoesOnAlone (events : List PlainEvent) : Type 0 where
   pub limit : ℕ
   pub in_order : AreCompletions 0 limit completions
   pub alone : AreRounds rounds
+
+-- None of the events by which a journal goes on gives a claim back.
+abbrev pub GivesNoneBack : PlainSetup → List PlainEvent → List PlainEvent → Type 0
+GivesNoneBack setup journal more = (state : PlainState) → IsState setup journal state → NoneIsGivenBack setup state more

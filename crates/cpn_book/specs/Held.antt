@@ -1,5 +1,5 @@
 -- Which claims the seats of a run hold. Source: own choice.
-use Rattle.std.specs.Prelude.{◌≡◌, ℕ, suc, ◌<◌, if◌then◌else◌, List, [], ◌∷◌, length, Option, Some, None, slice_get}
+use Rattle.std.specs.Prelude.{◌≡◌, ℕ, suc, ◌<◌, if◌then◌else◌, nat_lt, List, [], ◌∷◌, length, Option, Some, None, slice_get}
 use Rattle.cpn_runs.specs.HoleRun.{PlainClaim}
 use Rattle.cpn_runs.specs.State.{is_held_by}
 
@@ -7,6 +7,11 @@ use Rattle.cpn_runs.specs.State.{is_held_by}
 abbrev pub held_from : ℕ → ℕ → List PlainClaim → Option ℕ
 held_from k seat [] = None
 held_from k seat (claim ∷ claims) = if is_held_by seat claim then Some k else held_from (suc k) seat claims
+
+-- the number of a claim that a seat holds, if it holds one ahead of a number
+abbrev pub if_ahead : ℕ → Option ℕ → Option ℕ
+if_ahead number None = None
+if_ahead number (Some k) = if nat_lt k number then Some k else None
 
 -- Of each seat the number of its open claim, if it has one.
 pub record AreHeld (seats : ℕ) (claims : List PlainClaim) (held : List (Option ℕ)) : Type 0 where

@@ -4,15 +4,18 @@ use Rattle.std.specs.Option.{option_map}
 use Rattle.cpn_jobs.specs.Views.{job_view}
 use Rattle.cpn_runs.specs.State.{PlainSetup, PlainState, PlainEvent, IsState}
 use Rattle.cpn_runs.specs.FinishedViews.{setup_view, finished_view}
-use Rattle.cpn_book.specs.Answers.{AnswersClaim, AnswersCompletion, AnswersAdvance, AnswersFinish}
+use Rattle.cpn_book.specs.Answers.{AnswersClaim, AnswersCompletion, AnswersGivingBack, AnswersAdvance, AnswersFinish}
 use Rattle.cpn_book.specs.Books.{setup_in, journal_in, IsBook}
 use Rattle.cpn_book.specs.Tickets.{number_of, job_of}
 use Rattle.cpn_book.specs.declared.tickets.Evaluated.{Evaluated}
+use Rattle.cpn_book.specs.declared.tickets.Ticket.{Ticket}
 use Rattle.cpn_book.specs.declared.books.Book.{Book}
 use Rattle.cpn_book.specs.declared.answers.Claimed.{Claimed}
 use Rattle.cpn_book.specs.declared.answers.Claimed.TheVariants as claims
 use Rattle.cpn_book.specs.declared.answers.Completed.{Completed}
 use Rattle.cpn_book.specs.declared.answers.Completed.TheVariants as completions
+use Rattle.cpn_book.specs.declared.answers.GivenBack.{GivenBack}
+use Rattle.cpn_book.specs.declared.answers.GivenBack.TheVariants as returns
 use Rattle.cpn_book.specs.declared.answers.Advanced.{Advanced}
 use Rattle.cpn_book.specs.declared.answers.Finish.{Finish}
 use Rattle.cpn_book.specs.declared.answers.Finish.TheVariants as finishes
@@ -47,6 +50,14 @@ IsSameCompleted (completions.Stranger kept brought) (completions.Stranger kept' 
     (option_map (λ job. job_view job.value) kept ≡ option_map (λ job. job_view job.value) kept') × (brought ≡ brought')
 IsSameCompleted a b = ⊥
 
+-- the same answer to a ticket that is given back: of one kind, with the same number, or the same job and ticket
+abbrev pub IsSameGivenBack : GivenBack → GivenBack → Type 0
+IsSameGivenBack returns.Cut returns.Cut = Unit {0}
+IsSameGivenBack (returns.Void number) (returns.Void number') = number ≡ number'
+IsSameGivenBack (returns.Stranger kept brought) (returns.Stranger kept' brought') =
+    (option_map (λ job. job_view job.value) kept ≡ option_map (λ job. job_view job.value) kept') × (brought ≡ brought')
+IsSameGivenBack a b = ⊥
+
 -- the same answer where a book is asked to finish: of one kind, with the same book, or with the same run of one setup
 abbrev pub IsSameFinish : Finish → Finish → Type 0
 IsSameFinish finishes.Spent finishes.Spent = Unit {0}
@@ -62,6 +73,11 @@ ClaimsHaveOneAnswer = (setup : PlainSetup) (state : PlainState) (seat : ℕ) (a 
 abbrev pub CompletionsHaveOneAnswer : Type 0
 CompletionsHaveOneAnswer = (setup : PlainSetup) (state : PlainState) (seat : ℕ) (done : Evaluated) (events events' : List PlainEvent) (a b : Completed)
     → AnswersCompletion setup state seat done events a → AnswersCompletion setup state seat done events' b → IsSameCompleted a b × (events ≡ events')
+
+-- In a state a ticket that a seat gives back has one answer, which appends the same events.
+abbrev pub GivingBackHasOneAnswer : Type 0
+GivingBackHasOneAnswer = (setup : PlainSetup) (state : PlainState) (seat : ℕ) (ticket : Ticket) (events events' : List PlainEvent) (a b : GivenBack)
+    → AnswersGivingBack setup state seat ticket events a → AnswersGivingBack setup state seat ticket events' b → IsSameGivenBack a b × (events ≡ events')
 
 -- In a state the clock that is to move has one answer.
 abbrev pub MovesHaveOneAnswer : Type 0

@@ -45,7 +45,7 @@ abbrev pub committed_of : PlainState → Standing → List PlainClaim
 committed_of state s = take (length (log_view s.log).committed) state.claims
 
 -- Where a run stands after its journal: in the state that the journal leads to, with the jobs of its claims, its committed
--- occurrences, what the monitors measure of these by the clock, and the word of the next claim. The claims that are not committed were made at
+-- occurrences, what the monitors measure of these up to the clock, and the word of the next claim. The claims that are not committed were made at
 -- the clock. So it is within a completion, too, before what can be committed is committed.
 pub record IsToldAt (setup : PlainSetup) (s : Standing) : Type 0 where
   pub state : PlainState

@@ -1,20 +1,15 @@
 -- What the steps of a book's calls keep, and what they change. Source: own choice.
-use Rattle.std.specs.Prelude.{◌≡◌, ℕ, ◌<◌, ◌≤◌, true, List, ◌++◌, ◌∷◌, [], map, Some, None, MatchOption, slice_get}
+use Rattle.std.specs.Prelude.{◌≡◌, ℕ, ◌<◌, ◌≤◌, true, List, ◌++◌, ◌∷◌, [], map, Some, None}
 use Rattle.cpn_core.specs.Elements.{enabled_view}
 use Rattle.cpn_definitions.specs.Enabled.{next_time}
-use Rattle.cpn_log.specs.Logs.{claims_made, standings, stands_open}
-use Rattle.cpn_log.specs.LogViews.{log_view, jobs_in}
-use Rattle.cpn_log.specs.declared.logs.Log.{Log}
+use Rattle.cpn_log.specs.Logs.{claims_made}
+use Rattle.cpn_log.specs.LogViews.{log_view}
 use Rattle.cpn_runs.specs.State.{PlainEvent, clock_moved}
 use Rattle.cpn_book.specs.Standings.{StillCommitted}
 use Rattle.cpn_book.specs.Books.{setup_in, journal_in, IsRunning}
-use Rattle.cpn_book.specs.Tickets.{evaluated_number}
-use Rattle.cpn_book.specs.declared.tickets.Evaluated.{Evaluated}
 use Rattle.cpn_book.specs.declared.books.Book.{Book}
 use Rattle.cpn_book.specs.declared.answers.Advanced.{Advanced}
 use Rattle.cpn_book.specs.declared.answers.Advanced.TheVariants as moves
-use Rattle.cpn_book.specs.declared.answers.Completed.{Completed}
-use Rattle.cpn_book.specs.declared.answers.Completed.TheVariants as completions
 
 -- A book that follows another: of the same run, its journal goes on from there, and what was committed stands.
 pub record Follows (old new : Book) : Type 0 where
@@ -57,12 +52,3 @@ Moves old new moves.Ready = ⊥
 Moves old new moves.StepLimit = ⊥
 Moves old new moves.Over = ⊥
 Moves old new moves.Spent = ⊥
-
--- the answer to an evaluation that completes no claim: the job of the open claim of its number, if there is one, and what was brought
-abbrev pub IsStranger : Log → Evaluated → Completed → Type 0
-IsStranger log done completions.Done = ⊥
-IsStranger log done (completions.Void number) = ⊥
-IsStranger log done (completions.Stranger kept brought) =
-    (brought ≡ done)
-    × MatchOption kept (slice_get (standings (log_view log)) (evaluated_number done) ≡ Some stands_open → ⊥)
-    (λ job. (slice_get (standings (log_view log)) (evaluated_number done) ≡ Some stands_open) × (slice_get (jobs_in log) (evaluated_number done) ≡ Some job.value))

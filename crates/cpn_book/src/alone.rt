@@ -1,6 +1,6 @@
 //! A run that one seat takes to its end.
 
-ghost use Rattle.std.specs.Prelude.{◌≡◌, ◌≢◌, ℕ, ◌+◌, ◌<◌, ◌≤◌, ◌++◌, Some, None, false, List, length, map, slice_get, IfOk, OnOk, vec_len, vec_capacity};
+ghost use Rattle.std.specs.Prelude.{◌≡◌, ◌≢◌, ℕ, ◌+◌, ◌<◌, ◌≤◌, ◌++◌, Some, None, false, List, [], length, map, slice_get, IfOk, OnOk, vec_len, vec_capacity};
 ghost use Rattle.std.specs.List.{count_by};
 ghost use Rattle.std.specs.Option.{is_some};
 ghost use Rattle.cpn_core.specs.Elements.{enabled_view};
@@ -9,12 +9,12 @@ ghost use Rattle.cpn_log.specs.Logs.{claims_made};
 ghost use Rattle.cpn_log.specs.LogViews.{log_view};
 ghost use Rattle.cpn_runs.specs.Playable.{IsPlayable};
 ghost use Rattle.cpn_runs.specs.Run.{IsRun};
-ghost use Rattle.cpn_runs.specs.State.{PlainEvent};
+ghost use Rattle.cpn_runs.specs.State.{PlainEvent, wants_memory};
 ghost use Rattle.cpn_runs.specs.FinishedViews.{setup_view, finished_view};
 ghost use Rattle.cpn_book.specs.Bounds.{EndsInBounds};
 ghost use Rattle.cpn_book.specs.Books.{setup_in, journal_in, is_spent_in, IsBook, IsRunning};
 ghost use Rattle.cpn_book.specs.Standings.{IsAt, StillCommitted, events_in};
-ghost use Rattle.cpn_book.specs.GoingAlone.{AreCompletions, AreRounds, GoesOnAlone};
+ghost use Rattle.cpn_book.specs.GoingAlone.{AreCompletions, AreRounds, GoesOnAlone, GivesNoneBack};
 ghost use Rattle.cpn_book.specs.Steps.{Follows, IsMovedFrom, MayGoOn};
 
 use crate::books::Book;
@@ -32,7 +32,7 @@ impl Book {
     /// The run from where it stands to its end: the open claims are completed in order of number; then seat 0 completes each claim
     /// before it makes the next, and the clock moves where nothing is ready: until the limit of claims is reached, nothing is enabled
     /// at any time, nothing is enabled up to the last time that the run may reach, the outputs of an element have a fault, or a monitor
-    /// stops the run.
+    /// stops the run. Where a cut stands there is no further claim, and the run ends by the cause of the last one.
     ///
     /// # Errors
     ///
@@ -45,7 +45,10 @@ impl Book {
         // a fault is that of an element that is covered at the end, and the rest is what that state has.
         ensures run { IfOk result (λ f. IsRun (setup_in self) (finished_view f)) }
         // It goes on from the book's journal: by the completions of the open claims, in order of number, and then by rounds of seat 0.
-        ensures goes_on { IfOk result (λ f. (more : List PlainEvent) × ((finished_view f).journal ≡ journal_in self ++ more) × GoesOnAlone more) }
+        // None of these gives a claim back.
+        ensures goes_on { IfOk result (λ f. (more : List PlainEvent) × ((finished_view f).journal ≡ journal_in self ++ more) × GoesOnAlone more × GivesNoneBack (setup_in self) (journal_in self) more) }
+        // From the start of a run it does not end for want of memory.
+        ensures ends_otherwise { IfOk result (λ f. journal_in self ≡ [] → (finished_view f).cause ≢ wants_memory) }
         // The clock does not pass the last time that the run may reach; each place has tokens of its colour set, fewer than 2^48, and at
         // most as many more than the start as the occurrences make.
         ensures bounds { IfOk result (λ f. EndsInBounds (setup_in self) (finished_view f)) }
@@ -74,7 +77,7 @@ impl Book {
         ensures running { OnOk result (IsRunning self.new) }
         ensures none_open { OnOk result (count_by is_some self.new.standing.held.items ≡ 0) }
         ensures follows { OnOk result (Follows self.old self.new) }
-        ensures completions { OnOk result ((more : List PlainEvent) × (journal_in self.new ≡ journal_in self.old ++ more) × ((limit : ℕ) × AreCompletions 0 limit more)) }
+        ensures completions { OnOk result ((more : List PlainEvent) × (journal_in self.new ≡ journal_in self.old ++ more) × ((limit : ℕ) × AreCompletions 0 limit more) × GivesNoneBack (setup_in self.old) (journal_in self.old) more) }
     {
         if self.standing.open() == 0 {
             return Ok(());
@@ -93,7 +96,7 @@ impl Book {
         ensures none_open { OnOk result (count_by is_some self.new.standing.held.items ≡ 0) }
         ensures made { OnOk result (self.new.standing.cut ≡ None → claims_made (log_view self.new.standing.log) ≡ claims_made (log_view self.old.standing.log) + 1) }
         ensures follows { OnOk result (Follows self.old self.new) }
-        ensures rounds { OnOk result ((more : List PlainEvent) × (journal_in self.new ≡ journal_in self.old ++ more) × AreRounds more) }
+        ensures rounds { OnOk result ((more : List PlainEvent) × (journal_in self.new ≡ journal_in self.old ++ more) × AreRounds more × GivesNoneBack (setup_in self.old) (journal_in self.old) more) }
     {
         self.reach_next_time();
         let DrawnClaim { ticket, needs } = draw_claim(
@@ -118,7 +121,7 @@ impl Book {
         requires goes_on { MayGoOn self.old }
         ensures running { IsRunning self.new }
         ensures ready { 0 < length (ready self.new.standing.clock (map enabled_view self.new.listed.items)) }
-        ensures events { (more : List PlainEvent) × (journal_in self.new ≡ journal_in self.old ++ more) × AreRounds more }
+        ensures events { (more : List PlainEvent) × (journal_in self.new ≡ journal_in self.old ++ more) × AreRounds more × GivesNoneBack (setup_in self.old) (journal_in self.old) more }
         ensures same { IsMovedFrom self.old self.new }
     {
         if self.ready() > 0 {
@@ -137,7 +140,7 @@ fn complete_all(alloc: Global, setup: &Setup, standing: &mut Standing) -> Result
     ensures at { OnOk result (IsAt (setup_view setup.now) standing.new) }
     ensures none_open { OnOk result (count_by is_some standing.new.held.items ≡ 0) }
     ensures room { OnOk result (vec_len standing.new.journal < vec_capacity standing.new.journal) }
-    ensures completions { OnOk result ((more : List PlainEvent) × (events_in standing.new ≡ events_in standing.old ++ more) × ((limit : ℕ) × AreCompletions 0 limit more)) }
+    ensures completions { OnOk result ((more : List PlainEvent) × (events_in standing.new ≡ events_in standing.old ++ more) × ((limit : ℕ) × AreCompletions 0 limit more) × GivesNoneBack (setup_view setup.now) (events_in standing.old) more) }
     ensures committed { StillCommitted (setup_view setup.now) standing.old standing.new }
 {
     standing.journal.reserve(1)?;
@@ -161,7 +164,7 @@ fn complete_number(
     ensures few { OnOk result (claims_made (log_view standing.new.log) ≤ claims_made (log_view standing.old.log)) }
     ensures frees { OnOk result ((s k : ℕ) → slice_get standing.new.held.items s ≡ Some (Some k) → (slice_get standing.old.held.items s ≡ Some (Some k)) × (k ≢ number)) }
     ensures room { OnOk result (vec_len standing.new.journal < vec_capacity standing.new.journal) }
-    ensures completions { OnOk result ((more : List PlainEvent) × (events_in standing.new ≡ events_in standing.old ++ more) × AreCompletions number (number + 1) more) }
+    ensures completions { OnOk result ((more : List PlainEvent) × (events_in standing.new ≡ events_in standing.old ++ more) × AreCompletions number (number + 1) more × GivesNoneBack (setup_view setup.now) (events_in standing.old) more) }
     ensures committed { StillCommitted (setup_view setup.now) standing.old standing.new }
 {
     let Some(job) = standing.open_job(number) else {

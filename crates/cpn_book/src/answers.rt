@@ -50,6 +50,27 @@ pub enum Completed {
     },
 }
 
+/// What becomes of a ticket that a seat gives back. `Void` is tried first, then `Stranger`; after either the book is as it was.
+///
+/// Source: own choice.
+#[derive(Drop)]
+pub enum GivenBack {
+    /// A cut is made at the claim's number, for want of memory: the claim and all after it are removed.
+    Cut,
+    /// A cut stands at or below the claim's number, and has removed the claim.
+    Void {
+        /// The number of the cut.
+        number: u64,
+    },
+    /// The seat has no open claim of this number and job.
+    Stranger {
+        /// The job of the open claim of this number, where there is one.
+        kept: Option<Arc<Job>>,
+        /// What was brought.
+        brought: Ticket,
+    },
+}
+
 /// Where the clock goes, or why it stays. The refusals are tried from the last to the second.
 ///
 /// Source: own choice.

@@ -1,8 +1,8 @@
-//! Books: runs under way, by the claims, completions and moves of the clock that their seats ask for.
+//! Books: runs under way, by the claims, completions and moves of the clock that their seats ask for, and by the claims that they give back.
 
 ghost use Rattle.std.specs.Prelude.{◌≡◌, ◌≢◌, ◌<◌, ◌≤◌, ◌++◌, Some, None, true, false, List, [], ◌∷◌, length, map, take, slice_get, IfOk, OnOk, OnErr, vec_len, vec_capacity};
 ghost use Rattle.std.specs.List.{count_by};
-ghost use Rattle.std.specs.Option.{is_some, option_map};
+ghost use Rattle.std.specs.Option.{is_some};
 ghost use Rattle.cpn_core.specs.Elements.{enabled_view};
 ghost use Rattle.cpn_definitions.specs.Enabled.{next_time, ready};
 ghost use Rattle.cpn_jobs.specs.Views.{job_view};
@@ -11,12 +11,12 @@ ghost use Rattle.cpn_log.specs.LogViews.{log_view, jobs_in};
 ghost use Rattle.cpn_runs.specs.FinishedViews.{setup_view};
 ghost use Rattle.cpn_runs.specs.Playable.{IsPlayable};
 ghost use Rattle.cpn_definitions.specs.Legal.{PlainOccurrence};
-ghost use Rattle.cpn_runs.specs.State.{claim_made, claim_completed, clock_moved};
+ghost use Rattle.cpn_runs.specs.State.{claim_made, clock_moved};
 ghost use Rattle.cpn_book.specs.Answers.{AnswersClaim, claim_events, MayClaimNext, AnswersEvaluation, IsNotCut, AnswersAdvance, move_events, AnswersFinish};
 ghost use Rattle.cpn_book.specs.Books.{setup_in, journal_in, index_in, committed_in, is_spent_in, InState, IsBook, IsRunning};
-ghost use Rattle.cpn_book.specs.Standings.{IsAt, cut_view};
-ghost use Rattle.cpn_book.specs.States.{cut_events};
-ghost use Rattle.cpn_book.specs.Steps.{Follows, IsMovedFrom, IsSpentFrom, IsStranger, Moves};
+ghost use Rattle.cpn_book.specs.Committing.{AddsCompletion};
+ghost use Rattle.cpn_book.specs.Standings.{IsAt};
+ghost use Rattle.cpn_book.specs.Steps.{Follows, IsMovedFrom, IsSpentFrom, Moves};
 ghost use Rattle.cpn_book.specs.Tickets.{number_of, job_of, evaluated_number, evaluated_job};
 ghost use Rattle.cpn_book.specs.declared.standings.Cut.{Cut};
 ghost use Rattle.cpn_search.specs.PlannedNets.{IsPlanned};
@@ -36,8 +36,8 @@ use std::sync::Arc;
 
 /// A run under way, of 1 to 64 seats.
 ///
-/// A seat claims a ready element, and has the claim open until its evaluation completes it; it may hold one open claim. Several seats
-/// may hold claims at the same time and complete them in any order. A call that wants memory makes the book spent: its journal is
+/// A seat claims a ready element, and has the claim open until its evaluation completes it, it is given back, or a cut removes it; it may
+/// hold one open claim. Several seats may hold claims at the same time and complete them in any order. A call that wants memory makes the book spent: its journal is
 /// the one from before that call, what was committed stands, and each later call that may take memory wants memory too.
 ///
 /// Source: own choice. Each call is made on a book that `start` gave and that other calls changed (`IsBook`); a clause speaks of the
@@ -256,11 +256,14 @@ impl Book {
         ensures running { OnOk result (IsRunning self.new) }
         ensures follows { Follows self.old self.new }
     {
-        if self.standing.is_held(seat, &done) {
-            self.complete_held(seat, done)
-        } else {
-            self.stranger(done)
+        if self.standing.is_held(seat, done.number, &done.job) {
+            return self.complete_held(seat, done);
         }
+        let kept = self.standing.share_open_job(done.number)?;
+        Ok(Completed::Stranger {
+            kept,
+            brought: done,
+        })
     }
 
     // The completion of the claim that a seat holds.
@@ -271,26 +274,12 @@ impl Book {
         requires job { slice_get (map job_view (jobs_in self.old.standing.log)) (evaluated_number done) ≡ Some (evaluated_job done) }
         ensures done { IfOk result (λ answer. answer ≡ Completed.Done) }
         ensures running { OnOk result (IsRunning self.new) }
-        ensures events { OnOk result (journal_in self.new ≡ journal_in self.old ++ claim_completed seat (evaluated_number done) ∷ cut_events (option_map cut_view self.new.standing.cut)) }
+        ensures events { OnOk result (AddsCompletion (setup_in self.old) seat (evaluated_number done) self.old.standing self.new.standing) }
         ensures follows { Follows self.old self.new }
     {
         complete_claim(self.alloc, &self.setup, &mut self.standing, seat, done)?;
         self.search()?;
         Ok(Completed::Done)
-    }
-
-    // The answer to an evaluation of no open claim of the seat.
-    fn stranger(&self, done: Evaluated) -> Result<Completed, Memory>
-        ensures stranger { IfOk result (λ answer. IsStranger self.now.standing.log done answer) }
-    {
-        let kept = match self.standing.open_job(done.number) {
-            Some(job) => Some(job.clone()?),
-            None => None,
-        };
-        Ok(Completed::Stranger {
-            kept,
-            brought: done,
-        })
     }
 
     // The move of the clock, where nothing is ready and no claim is open.
@@ -361,8 +350,8 @@ impl Book {
         )
     }
 
-    // The book is spent: its journal is the one of so many events that it was, and its list of what is enabled is dropped.
-    fn spend(&mut self, events: usize)
+    /// The book is spent: its journal is the one of so many events that it was, and its list of what is enabled is dropped.
+    pub(crate) fn spend(&mut self, events: usize)
         ensures spent { is_spent_in self.new ≡ true }
         ensures index_gone { index_in self.new ≡ [] }
         ensures events { self.new.standing.journal.items ≡ take events self.old.standing.journal.items }

@@ -13,10 +13,10 @@ ghost use Rattle.cpn_log.specs.LogViews.{log_view, jobs_in};
 ghost use Rattle.cpn_runs.specs.FinishedViews.{setup_view};
 ghost use Rattle.cpn_runs.specs.Playable.{IsPlayable};
 ghost use Rattle.cpn_runs.specs.State.{PlainEvent, claim_completed};
-ghost use Rattle.cpn_book.specs.Committing.{MayCommit};
+ghost use Rattle.cpn_runs.specs.GivingBack.{OnlyGivenBack};
+ghost use Rattle.cpn_book.specs.Committing.{MayCommit, AddsCompletion};
 ghost use Rattle.cpn_book.specs.Evaluations.{outcome_of, status_by};
 ghost use Rattle.cpn_book.specs.Standings.{IsAt, StillCommitted, cut_view, events_in};
-ghost use Rattle.cpn_book.specs.States.{cut_events};
 ghost use Rattle.cpn_book.specs.Tickets.{evaluated_number, evaluated_job};
 
 use crate::committing::commit_all;
@@ -43,7 +43,7 @@ pub(crate) fn complete_claim(
     requires job { slice_get (map job_view (jobs_in standing.old.log)) (evaluated_number done) ≡ Some (evaluated_job done) }
     ensures at { OnOk result (IsAt (setup_view setup.now) standing.new) }
     ensures clock { standing.new.clock ≡ standing.old.clock }
-    ensures events { OnOk result (events_in standing.new ≡ events_in standing.old ++ claim_completed seat (evaluated_number done) ∷ cut_events (option_map cut_view standing.new.cut)) }
+    ensures events { OnOk result (AddsCompletion (setup_view setup.now) seat (evaluated_number done) standing.old standing.new) }
     ensures begins { (more : List PlainEvent) × (events_in standing.new ≡ events_in standing.old ++ more) }
     ensures made { OnOk result (standing.new.cut ≡ None → claims_made (log_view standing.new.log) ≡ claims_made (log_view standing.old.log)) }
     ensures few { OnOk result (claims_made (log_view standing.new.log) ≤ claims_made (log_view standing.old.log)) }
@@ -70,7 +70,7 @@ fn fill_claim(
     requires job { slice_get (map job_view (jobs_in standing.old.log)) (evaluated_number done) ≡ Some (evaluated_job done) }
     requires room { vec_len standing.old.journal < vec_capacity standing.old.journal }
     ensures may { OnOk result (MayCommit (setup_view setup.now) standing.new) }
-    ensures uncut { standing.new.cut ≡ None }
+    ensures only_given_back { OnlyGivenBack (option_map cut_view standing.new.cut) }
     ensures held { OnOk result (standing.new.held.items ≡ slice_set standing.old.held.items seat None) }
     ensures clock { standing.new.clock ≡ standing.old.clock }
     ensures events { OnOk result (events_in standing.new ≡ events_in standing.old ++ claim_completed seat (evaluated_number done) ∷ []) }

@@ -1,15 +1,16 @@
 // Laws of books, and of runs one after another.
 
-ghost use Rattle.cpn_book.specs.OneAnswers.{BooksHaveOneState, ClaimsHaveOneAnswer, CompletionsHaveOneAnswer, MovesHaveOneAnswer, FinishesHaveOneAnswer};
+ghost use Rattle.cpn_book.specs.OneAnswers.{BooksHaveOneState, ClaimsHaveOneAnswer, CompletionsHaveOneAnswer, GivingBackHasOneAnswer, MovesHaveOneAnswer, FinishesHaveOneAnswer};
 ghost use Rattle.cpn_runs.specs.Phases.{PhasesGoOn};
 
 /// The laws that a book has one state, and a call on it one answer in that state. So each answer comes exactly where what it says holds. A
 /// call does nothing: it is there for what it ensures.
-#[tactic(auto, using(crate::proofs::OneAnswers::books_have_one_state, crate::proofs::OneAnswers::claims_have_one_answer, crate::proofs::OneAnswers::completions_have_one_answer, crate::proofs::OneAnswers::moves_have_one_answer, crate::proofs::OneAnswers::finishes_have_one_answer))]
+#[tactic(auto, using(crate::proofs::OneAnswers::books_have_one_state, crate::proofs::OneAnswers::claims_have_one_answer, crate::proofs::OneAnswers::completions_have_one_answer, crate::proofs::OneAnswers::giving_back_has_one_answer, crate::proofs::OneAnswers::moves_have_one_answer, crate::proofs::OneAnswers::finishes_have_one_answer))]
 pub fn one_answer()
     ensures state { BooksHaveOneState }
     ensures claims { ClaimsHaveOneAnswer }
     ensures completions { CompletionsHaveOneAnswer }
+    ensures giving_back { GivingBackHasOneAnswer }
     ensures moves { MovesHaveOneAnswer }
     ensures finishes { FinishesHaveOneAnswer }
 {}

@@ -1,7 +1,7 @@
 //! The pure state machine of a run: by the calls of its seats, claims and completions change its state one event after another.
 //!
 //! A seat claims a ready element and gets a ticket; the ticket is evaluated, with no book at hand; and the evaluation completes the
-//! claim, in any order with those of other seats. The crate has no threads, prints nothing, and knows no document. What a call
+//! claim, in any order with those of other seats. A ticket whose outputs want memory is given back. The crate has no threads, prints nothing, and knows no document. What a call
 //! answers is stated by the definitions of states; the search for enabled elements is the layer's below.
 #![tactic(auto)]
 
@@ -13,6 +13,7 @@ mod committing;
 mod completing;
 mod cutting;
 mod ends;
+mod giving_back;
 mod laws;
 mod occurring;
 mod outlooks;
@@ -20,7 +21,7 @@ mod readers;
 mod standings;
 mod tickets;
 
-pub use answers::{Advanced, Claimed, Completed, Finish};
+pub use answers::{Advanced, Claimed, Completed, Finish, GivenBack};
 pub use books::Book;
 pub use laws::{one_answer, phases_go_on};
 pub use tickets::{Evaluated, Ticket};

@@ -13,7 +13,7 @@ ghost use Rattle.cpn_runs.specs.State.{PlainEvent, claim_made, claim_completed};
 ghost use Rattle.cpn_book.specs.Committing.{CommitsNoMore};
 ghost use Rattle.cpn_book.specs.DrawnClaims.{IsDrawnClaim};
 ghost use Rattle.cpn_book.specs.Evaluations.{outputs_in};
-ghost use Rattle.cpn_book.specs.GoingAlone.{AreRounds};
+ghost use Rattle.cpn_book.specs.GoingAlone.{AreRounds, GivesNoneBack};
 ghost use Rattle.cpn_book.specs.Standings.{IsAt, StillCommitted, events_in};
 ghost use Rattle.cpn_book.specs.Tickets.{evaluated_number, evaluated_job};
 
@@ -44,7 +44,7 @@ pub(crate) fn play_drawn(
     ensures at { OnOk result (IsAt (setup_view setup.now) standing.new) }
     ensures none_open { OnOk result (count_by is_some standing.new.held.items ≡ 0) }
     ensures made { OnOk result (standing.new.cut ≡ None → claims_made (log_view standing.new.log) ≡ claims_made (log_view standing.old.log) + 1) }
-    ensures rounds { OnOk result ((more : List PlainEvent) × (events_in standing.new ≡ events_in standing.old ++ more) × AreRounds more) }
+    ensures rounds { OnOk result ((more : List PlainEvent) × (events_in standing.new ≡ events_in standing.old ++ more) × AreRounds more × GivesNoneBack (setup_view setup.now) (events_in standing.old) more) }
     ensures room { OnOk result (vec_len standing.new.journal < vec_capacity standing.new.journal) }
     ensures committed { OnOk result (StillCommitted (setup_view setup.now) standing.old standing.new) }
 {

@@ -65,7 +65,7 @@ impl Book {
         self.standing.clock
     }
 
-    /// What the monitors measure of the committed occurrences, by the clock. It is asked of a book that is not spent.
+    /// What the monitors measure of the committed occurrences, up to the clock. It is asked of a book that is not spent.
     pub fn values(&self) -> &Values14
         requires kept { IsBook self.now }
         requires unspent { is_spent_in self.now ≡ false }

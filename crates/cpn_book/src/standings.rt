@@ -9,9 +9,7 @@ ghost use Rattle.cpn_log.specs.LogViews.{log_view, jobs_in};
 ghost use Rattle.cpn_runs.specs.FinishedViews.{setup_view};
 ghost use Rattle.cpn_runs.specs.Playable.{IsPlayable};
 ghost use Rattle.cpn_book.specs.Standings.{IsAt};
-ghost use Rattle.cpn_book.specs.Tickets.{evaluated_number, evaluated_job};
 
-use crate::tickets::Evaluated;
 use cpn_core::{Memory, Occurrence};
 use cpn_draw::Draw;
 use cpn_jobs::Job;
@@ -39,7 +37,7 @@ pub(crate) struct Standing {
     pub(crate) journal: Vec<Event>,
     /// The occurrences of the committed claims.
     pub(crate) occurrences: Vec<Occurrence>,
-    /// What the monitors measure of these, by the clock.
+    /// What the monitors measure of these, up to the clock.
     pub(crate) values: Values14,
     /// The words of the claims that are to come.
     pub(crate) draw: Draw,
@@ -116,15 +114,15 @@ impl Standing {
         *self.held.get(seat as usize)?
     }
 
-    /// Whether a seat holds the claim of an evaluation.
-    pub(crate) fn is_held(&self, seat: u32, done: &Evaluated) -> bool
+    /// Whether a seat holds the claim of a number and job.
+    pub(crate) fn is_held(&self, seat: u32, number: u64, job: &Job) -> bool
         requires within { (s k : ℕ) → slice_get self.now.held.items s ≡ Some (Some k) → k < claims_made (log_view self.now.log) }
-        ensures held { result ≡ true → slice_get self.now.held.items seat ≡ Some (Some (evaluated_number done.now)) }
-        ensures job { result ≡ true → slice_get (map job_view (jobs_in self.now.log)) (evaluated_number done.now) ≡ Some (evaluated_job done.now) }
-        ensures not_held { result ≡ false → slice_get self.now.held.items seat ≡ Some (Some (evaluated_number done.now)) → slice_get (map job_view (jobs_in self.now.log)) (evaluated_number done.now) ≡ Some (evaluated_job done.now) → ⊥ }
+        ensures held { result ≡ true → slice_get self.now.held.items seat ≡ Some (Some number) }
+        ensures job { result ≡ true → slice_get (map job_view (jobs_in self.now.log)) number ≡ Some (job_view job.now) }
+        ensures not_held { result ≡ false → slice_get self.now.held.items seat ≡ Some (Some number) → slice_get (map job_view (jobs_in self.now.log)) number ≡ Some (job_view job.now) → ⊥ }
     {
         match self.held_by(seat) {
-            Some(number) => number == done.number && **self.log.job(number) == *done.job,
+            Some(held) => held == number && **self.log.job(held) == *job,
             None => false,
         }
     }
@@ -137,6 +135,16 @@ impl Standing {
             Some(self.log.job(number))
         } else {
             None
+        }
+    }
+
+    /// One owner more of the job of the open claim of a number, if there is one.
+    pub(crate) fn share_open_job(&self, number: u64) -> Result<Option<Arc<Job>>, Memory>
+        ensures job { IfOk result (λ kept. MatchOption kept (slice_get (standings (log_view self.now.log)) number ≡ Some stands_open → ⊥) (λ job. (slice_get (standings (log_view self.now.log)) number ≡ Some stands_open) × (slice_get (jobs_in self.now.log) number ≡ Some job.value))) }
+    {
+        match self.open_job(number) {
+            Some(job) => Ok(Some(job.clone()?)),
+            None => Ok(None),
         }
     }
 }

@@ -59,7 +59,7 @@ impl Ticket {
     ///
     /// # Errors
     ///
-    /// The ticket comes back where memory is wanted, and may be evaluated again.
+    /// The ticket comes back where memory is wanted, and may be evaluated again, or given back.
     pub fn evaluate(self) -> Result<Evaluated, Ticket>
         ensures number { IfOk result (λ done. evaluated_number done ≡ number_of self) }
         ensures job { IfOk result (λ done. evaluated_job done ≡ job_of self) }

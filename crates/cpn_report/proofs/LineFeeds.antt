@@ -19,7 +19,7 @@ use Rattle.cpn_definitions.specs.Sound.{may_hold}
 use Rattle.cpn_runs.specs.Run.{PlainFinished, Outlook}
 use Rattle.cpn_definitions.specs.Legal.{PlainOccurrence}
 use Rattle.cpn_monitor.specs.MonitorValues.{PlainMeasured, counted, sized, valued, counted_to_stop, sized_to_stop, PlainMonitorValue}
-use Rattle.cpn_runs.specs.State.{PlainSetup, PlainEvent, claim_made, claim_completed, clock_moved, cut_made, PlainEnd, dead, steps_made, until_passed, fault_end, stopped_by}
+use Rattle.cpn_runs.specs.State.{PlainSetup, PlainEvent, claim_made, claim_completed, clock_moved, cut_made, PlainEnd, dead, steps_made, until_passed, fault_end, stopped_by, wants_memory}
 use Rattle.cpn_tmset.specs.Listed.{Group, groups}
 use Rattle.cpn_report.specs.Lines.{Line, report_line, run_line, occurrence_line, schedule_line, end_line, occurrences_line, clock_line, ready_line, next_line, monitor_line, total_line, pair_text, binding_text, element_text, time_text, event_text, fault_text, start_text, group_text, tokens_text, opening_text, occurrence_text, schedule_text, end_text, occurrences_text, clock_text, place_text, ready_text, next_text, total_text, line_text}
 use Rattle.cpn_report.specs.MonitorText.{value_at, bound_text, measured_text, monitor_text}
@@ -363,6 +363,7 @@ module _ (n : PlainNet) (spelled : HasWellSpelledNames n) (net : IsPrintableNet 
   cause_line values steps_made names is = refl
   cause_line values (until_passed time) names is = number_line time
   cause_line values (stopped_by monitor) names is = stop_is_line values monitor names is
+  cause_line values wants_memory names is = absurd is
   cause_line values (fault_end e fault) names is = three (fault_text fault) (codes " ") (element_text n e) (fault_line fault) refl (element_line n spelled net e is)
 
 -- ---- the lines of a report

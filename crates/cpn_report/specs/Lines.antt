@@ -11,7 +11,7 @@ use Rattle.cpn_definitions.specs.Meaning.{PlainBinding}
 use Rattle.cpn_definitions.specs.Occurrence.{PlainElement}
 use Rattle.cpn_definitions.specs.Legal.{PlainOccurrence}
 use Rattle.cpn_monitor.specs.MonitorValues.{PlainMonitorValue}
-use Rattle.cpn_runs.specs.State.{PlainEvent, claim_made, claim_completed, clock_moved, cut_made, PlainEnd, dead, steps_made, until_passed, fault_end, stopped_by}
+use Rattle.cpn_runs.specs.State.{PlainEvent, claim_made, claim_completed, clock_moved, cut_made, PlainEnd, dead, steps_made, until_passed, fault_end, stopped_by, wants_memory}
 use Rattle.cpn_runs.specs.Run.{Outlook}
 use Rattle.cpn_tmset.specs.Listed.{Group, groups}
 use Rattle.cpn_report.specs.MonitorText.{value_at, monitor_text}
@@ -74,13 +74,14 @@ fault_text bad_coefficient = codes "6 bad_coefficient"
 fault_text bad_delay = codes "7 bad_delay"
 fault_text too_large = codes "8 too_large"
 
--- the cause of the run's end; that of a stop is told by the name of its monitor
+-- the cause of the run's end; that of a stop is told by the name of its monitor, and want of memory is not told
 abbrev pub cause_text : PlainNet → List PlainMonitorValue → PlainEnd → List ℕ
 cause_text n values dead = codes "dead"
 cause_text n values steps_made = codes "steps"
 cause_text n values (until_passed time) = codes "until " ++ decimal time
 cause_text n values (stopped_by monitor) = codes "stop " ++ (value_at values monitor).name
 cause_text n values (fault_end e fault) = codes "fault " ++ fault_text fault ++ codes " " ++ element_text n e
+cause_text n values wants_memory = []
 
 -- the marking that a run starts from: the initial one of the net, or the one at which the run before it ended
 abbrev pub start_text : Start → List ℕ

@@ -1,5 +1,5 @@
 -- Which nets and runs can be printed. Source: own choice.
-use Rattle.std.specs.Prelude.{◌≡◌, ℕ, ◌<◌, Bool, true, ◌&&◌, nat_lt, List, length}
+use Rattle.std.specs.Prelude.{◌≡◌, ◌≢◌, ℕ, ◌<◌, Bool, true, ◌&&◌, nat_lt, List, length}
 use Rattle.std.specs.List.{list_all}
 use Rattle.cpn_definitions.specs.Value.{PlainValue}
 use Rattle.cpn_definitions.specs.Colour.{admits}
@@ -9,7 +9,7 @@ use Rattle.cpn_definitions.specs.Occurrence.{PlainElement, binds}
 use Rattle.cpn_definitions.specs.Sound.{IsSound, IsMarking}
 use Rattle.cpn_definitions.specs.Legal.{PlainOccurrence}
 use Rattle.cpn_monitor.specs.MonitorValues.{PlainMonitorValue}
-use Rattle.cpn_runs.specs.State.{PlainSetup, PlainEnd, dead, steps_made, until_passed, fault_end, stopped_by}
+use Rattle.cpn_runs.specs.State.{PlainSetup, PlainEnd, dead, steps_made, until_passed, fault_end, stopped_by, wants_memory}
 use Rattle.cpn_runs.specs.Run.{PlainFinished, IsRun}
 
 -- The net is sound, and has the names of the colour sets of its places and variables.
@@ -30,22 +30,32 @@ is_binding_element n e = nat_lt e.transition (length n.transitions) && binds n (
 abbrev pub is_occurrence : PlainNet → PlainOccurrence → Bool
 is_occurrence n o = is_binding_element n o.element
 
--- the element that the cause of an end tells, if it does, is a binding element, and its monitor has one of the values
+-- the element that the cause of an end tells, if it does, is a binding element, and its monitor has one of the values; want of memory is not told
 abbrev pub IsCause : PlainNet → List PlainMonitorValue → PlainEnd → Type 0
 IsCause n values dead = Unit {0}
 IsCause n values steps_made = Unit {0}
 IsCause n values (until_passed time) = Unit {0}
 IsCause n values (stopped_by monitor) = monitor < length values
 IsCause n values (fault_end e fault) = is_binding_element n e ≡ true
+IsCause n values wants_memory = ⊥
 
 -- The report of the run can be printed: each value in it is one of the colour set of its variable or its place, and has
--- its names in the net; and the monitor that stopped it, if one did, has a value.
+-- its names in the net; the monitor that stopped it, if one did, has a value; and it does not end for want of memory.
 pub record IsPrintable (n : PlainNet) (run : PlainFinished) : Type 0 where
   pub net : IsPrintableNet n
   pub occurrences : list_all (is_occurrence n) run.occurrences ≡ true
   pub cause : IsCause n run.values run.cause
   pub marking : IsMarking n.places run.marking
 
--- a run of a printable net, from a marking of its places, can be printed
+-- What of a run can be printed, whatever ends it: its occurrences, and its last marking.
+pub record IsPrintableInPart (n : PlainNet) (run : PlainFinished) : Type 0 where
+  pub occurrences : list_all (is_occurrence n) run.occurrences ≡ true
+  pub marking : IsMarking n.places run.marking
+
+-- so it is of a run of a printable net, from a marking of its places
+abbrev pub RunsArePrintableInPart : Type 0
+RunsArePrintableInPart = (setup : PlainSetup) (run : PlainFinished) → IsPrintableNet setup.net → IsMarking setup.net.places setup.start → IsRun setup run → IsPrintableInPart setup.net run
+
+-- and such a run can be printed whole, unless it ends for want of memory
 abbrev pub RunsArePrintable : Type 0
-RunsArePrintable = (setup : PlainSetup) (run : PlainFinished) → IsPrintableNet setup.net → IsMarking setup.net.places setup.start → IsRun setup run → IsPrintable setup.net run
+RunsArePrintable = (setup : PlainSetup) (run : PlainFinished) → IsPrintableNet setup.net → IsMarking setup.net.places setup.start → IsRun setup run → run.cause ≢ wants_memory → IsPrintable setup.net run

@@ -15,7 +15,8 @@ use cpn_runs::End;
 use std::alloc::Global;
 use std::fmt::Write;
 
-/// The line of the cause of a run's end, without a line feed. A stop is told by the name of its monitor, which the values have.
+/// The line of the cause of a run's end, without a line feed. A stop is told by the name of its monitor, which the values have. A run that
+/// ends for want of memory has no report.
 ///
 /// `Err` comes for want of memory alone.
 pub fn end_text(alloc: Global, net: &Net, values: &Values14, cause: &End) -> Result<String, Memory>
@@ -77,6 +78,7 @@ fn push_cause(out: &mut String, net: &Net, values: &Values14, cause: &End) -> Re
         End::Steps => out.push_str("steps")?,
         End::Dead => out.push_str("dead")?,
         End::Until(time) => write!(out, "until {time}")?,
+        End::Memory => unreachable!(),
     }
     Ok(())
 }

@@ -1,7 +1,8 @@
 -- The cut that claims make owed: which claim it is for, and what stands before it.
-use Rattle.std.proofs.Common.{◌≡◌, ℕ, zero, suc, ◌+◌, ◌≤◌, ◌⊎◌, inl, inr, eq-eqb, Bool, true, false, ◌||◌, append_assoc, cond, List, [], ◌∷◌, ◌++◌, length, take, drop, Some, None, Option, refl, sym, ap, ◌∙◌, subst, arith, slice_get, count_by}
+use Rattle.std.proofs.Common.{◌≡◌, ℕ, zero, suc, ◌+◌, ◌≤◌, ◌⊎◌, inl, inr, eq-eqb, Bool, true, false, ◌&&◌, ◌||◌, ◌==◌, append_assoc, cond, List, [], ◌∷◌, ◌++◌, length, take, drop, Some, None, Option, refl, sym, ap, ◌∙◌, subst, arith, slice_get, count_by}
 use Rattle.std.specs.List.{AllByRecursion, list_any}
 use Rattle.std.specs.Option.{is_some, option_or}
+use Rattle.std.proofs.Math.Bool.{and-false}
 use Rattle.std.proofs.Math.Path.{ap₂}
 use Rattle.std.proofs.lemmas.Bool.{cond_both}
 use Rattle.std.proofs.lemmas.List.{take-append-drop}
@@ -13,7 +14,8 @@ use Rattle.cpn_monitor.specs.MeasuredRuns.{MarkedOccurrence}
 use Rattle.cpn_monitor.specs.Monitors.{PlainMonitor}
 use Rattle.cpn_runs.specs.Commits.{marked_claim, marked_from, stop_at_last, committed_from}
 use Rattle.cpn_runs.specs.HoleRun.{PlainClaim, Status, open_claim, done_with, faulted_with, is_open, is_done, after_claim}
-use Rattle.cpn_runs.specs.State.{PlainSetup, PlainState, fault_end, stopped_by, PlainCut, cut_by, cut_at, is_cut_by_stop, cut_by_stop, PlainEnd, committed, committed_claims, stop_in, owed_cut}
+use Rattle.cpn_runs.specs.State.{PlainSetup, PlainState, fault_end, stopped_by, wants_memory, PlainCut, cut_by, cut_at, is_cause, is_cut_by_stop, cut_by_stop, PlainEnd, committed, committed_claims, stop_in, owed_cut}
+use Rattle.cpn_runs.specs.GivingBack.{OnlyGivenBack}
 
 -- whether a claim makes a cut owed doesn't depend on its number
 pub no_cut_at_any : (j k : ℕ) (claim : Option PlainClaim) → cut_at j claim ≡ None → cut_at k claim ≡ None
@@ -108,9 +110,9 @@ committed_ahead monitors before m (claim ∷ first) more all = split (is_done cl
     split false h later = let none = not_done monitors before m claim first h in absurd (omega (arith, none, all))
 
 -- so the committed ones are those, and some of the others
-pub taken_ahead : (first more : List PlainClaim) (j : ℕ) → take (length first + j) (first ++ more) ≡ first ++ take j more
+pub taken_ahead : {A : Type 0} (first more : List A) (j : ℕ) → take (length first + j) (first ++ more) ≡ first ++ take j more
 taken_ahead [] more j = ap (λ k. take k more) (let e : 0 + j ≡ j = omega arith in e)
-taken_ahead (claim ∷ first) more j = ap (λ k. take k (claim ∷ first ++ more)) (let e : suc (length first) + j ≡ suc (length first + j) = omega arith in e) ∙ ap (λ cs. claim ∷ cs) (taken_ahead first more j)
+taken_ahead (x ∷ first) more j = ap (λ k. take k (x ∷ first ++ more)) (let e : suc (length first) + j ≡ suc (length first + j) = omega arith in e) ∙ ap (λ ys. x ∷ ys) (taken_ahead first more j)
 
 some_stop : (stop : Option ℕ) → is_some stop ≡ true → stop ≡ None → ⊥
 some_stop None is none = cc
@@ -275,45 +277,61 @@ owed_parts : (first second : Option PlainCut) → option_or first second ≡ Non
 owed_parts None second none = (refl, none)
 owed_parts (Some cut) second none = cc
 
--- where no cut stands and none is owed no monitor stops the run after the last committed claim
-pub owes_none : (setup : PlainSetup) (state : PlainState) → state.cut ≡ None → owed_cut setup state ≡ None → (stop_in setup state ≡ None) × (cut_at (committed setup state) (slice_get state.claims (committed setup state)) ≡ None)
-owes_none setup state uncut none =
+-- where no cut stands, unless for want of memory, none that stands is that of a monitor
+not_by_stop : (k monitor : ℕ) (stands : Option PlainCut) → OnlyGivenBack stands → is_cut_by_stop k monitor stands ≡ false
+not_by_stop k monitor None given_back = refl
+not_by_stop k monitor (Some cut) given_back = ap (λ cause. (k == cut.number) && is_cause monitor cause) given_back ∙ and-false (k == cut.number)
+
+-- so a monitor that stops the run makes a cut owed
+pub stop_owes : (k monitor : ℕ) (stands : Option PlainCut) → OnlyGivenBack stands → cut_by_stop k (Some monitor) stands ≡ Some (record { number = k; cause = stopped_by monitor })
+stop_owes k monitor stands given_back = ap (λ b. cond b None (Some (record { number = k; cause = stopped_by monitor }))) (not_by_stop k monitor stands given_back)
+
+made_or_none : (o : Option PlainCut) (cut : PlainCut) → o ≡ Some cut → o ≡ None → ⊥
+made_or_none o cut some none = cc
+
+-- so it is where no cut stands
+pub uncut_so : (stands : Option PlainCut) → stands ≡ None → OnlyGivenBack stands
+uncut_so stands none = subst OnlyGivenBack (sym none) tt
+
+-- where no cut stands, unless for want of memory, and none is owed, no monitor stops the run after the last committed claim
+pub owes_none : (setup : PlainSetup) (state : PlainState) → OnlyGivenBack state.cut → owed_cut setup state ≡ None → (stop_in setup state ≡ None) × (cut_at (committed setup state) (slice_get state.claims (committed setup state)) ≡ None)
+owes_none setup state given_back none =
     let parts = owed_parts (cut_by_stop (committed setup state) (stop_in setup state) state.cut) (cut_at (committed setup state) (slice_get state.claims (committed setup state))) none in
-    (by (stop_in setup state) (ap (cut_by_stop (committed setup state) (stop_in setup state)) (sym uncut) ∙ parts.0), parts.1)
+    (by (stop_in setup state) parts.0, parts.1)
   where
-    by : (stop : Option ℕ) → cut_by_stop (committed setup state) stop None ≡ None → stop ≡ None
+    by : (stop : Option ℕ) → cut_by_stop (committed setup state) stop state.cut ≡ None → stop ≡ None
     by None is = refl
-    by (Some monitor) is = cc
+    by (Some monitor) is = absurd (made_or_none _ _ (stop_owes (committed setup state) monitor state.cut given_back) is)
 
 -- and the other way
 pub owes_none_so : (setup : PlainSetup) (state : PlainState) → stop_in setup state ≡ None → cut_at (committed setup state) (slice_get state.claims (committed setup state)) ≡ None → owed_cut setup state ≡ None
 owes_none_so setup state goes_on no_fault = ap (λ stop. option_or (cut_by_stop (committed setup state) stop state.cut) (cut_at (committed setup state) (slice_get state.claims (committed setup state)))) goes_on ∙ no_fault
 
--- what is owed where no cut stands
-pub owed_is : (setup : PlainSetup) (state : PlainState) (cut : PlainCut) → state.cut ≡ None → owed_cut setup state ≡ Some cut → IsOwed setup state cut
-owed_is setup state cut uncut owed = by (stop_in setup state) refl
+-- what is owed where no cut stands, unless for want of memory
+pub owed_is : (setup : PlainSetup) (state : PlainState) (cut : PlainCut) → OnlyGivenBack state.cut → owed_cut setup state ≡ Some cut → IsOwed setup state cut
+owed_is setup state cut given_back owed = by (stop_in setup state) refl
   where
     k : ℕ
     k = committed setup state
 
-    owed_by : (stop : Option ℕ) → stop_in setup state ≡ stop → option_or (cut_by_stop k stop None) (cut_at k (slice_get state.claims k)) ≡ Some cut
-    owed_by stop is =
-        ap (λ s. option_or (cut_by_stop k s None) (cut_at k (slice_get state.claims k))) (sym is)
-        ∙ ap (λ stands. option_or (cut_by_stop k (stop_in setup state) stands) (cut_at k (slice_get state.claims k))) (sym uncut) ∙ owed
+    owed_by : (stop : Option ℕ) → stop_in setup state ≡ stop → option_or (cut_by_stop k stop state.cut) (cut_at k (slice_get state.claims k)) ≡ Some cut
+    owed_by stop is = ap (λ s. option_or (cut_by_stop k s state.cut) (cut_at k (slice_get state.claims k))) (sym is) ∙ owed
 
     by : (stop : Option ℕ) → stop_in setup state ≡ stop → IsOwed setup state cut
     by None is = let fault = for_fault state.claims k cut (owed_by None is) in record { number_is = fault.number_is; cause = inr (is, fault) }
     by (Some monitor) is =
-        let same : record { number = k; cause = stopped_by monitor } ≡ cut = same_Some (record { number = k; cause = stopped_by monitor }) cut (owed_by (Some monitor) is) in
+        let made = ap (λ c. option_or c (cut_at k (slice_get state.claims k))) (sym (stop_owes k monitor state.cut given_back)) ∙ owed_by (Some monitor) is in
+        let same : record { number = k; cause = stopped_by monitor } ≡ cut = same_Some (record { number = k; cause = stopped_by monitor }) cut made in
         record { number_is = ap (λ (c : PlainCut). c.number) (sym same); cause = inl (monitor, is, ap (λ (c : PlainCut). c.cause) (sym same)) }
 
 -- a stop's cut that stands owes nothing more, nor does a fault's
 stands_so : (k monitor : ℕ) → cut_by_stop k (Some monitor) (Some (record { number = k; cause = stopped_by monitor })) ≡ None
 stands_so k monitor = rw (eq-eqb k k refl) (rw (eq-eqb monitor monitor refl) refl)
 
--- whatever stands, a cut that is owed is behind the committed claims
-pub owed_number : (setup : PlainSetup) (state : PlainState) (cut : PlainCut) → owed_cut setup state ≡ Some cut → cut.number ≡ committed setup state
-owed_number setup state cut owed = by (stop_in setup state) owed
+-- whatever stands, a cut that is owed is that of a monitor after the committed claims, or for a fault of the next
+pub owed_for : (setup : PlainSetup) (state : PlainState) (cut : PlainCut) → owed_cut setup state ≡ Some cut
+    → ((monitor : ℕ) × (record { number = committed setup state; cause = stopped_by monitor } ≡ cut)) ⊎ IsForFault state.claims (committed setup state) cut
+owed_for setup state cut owed = by (stop_in setup state) owed
   where
     k : ℕ
     k = committed setup state
@@ -321,13 +339,32 @@ owed_number setup state cut owed = by (stop_in setup state) owed
     second : Option PlainCut
     second = cut_at k (slice_get state.claims k)
 
-    by_cut : (monitor : ℕ) (stands : Bool) → option_or (cond stands None (Some (record { number = k; cause = stopped_by monitor }))) second ≡ Some cut → cut.number ≡ k
-    by_cut monitor true is = (for_fault state.claims k cut is).number_is
-    by_cut monitor false is = ap (λ (c : PlainCut). c.number) (sym (same_Some (record { number = k; cause = stopped_by monitor }) cut is))
+    Cause : Type 0
+    Cause = ((monitor : ℕ) × (record { number = k; cause = stopped_by monitor } ≡ cut)) ⊎ IsForFault state.claims k cut
 
-    by : (stop : Option ℕ) → option_or (cut_by_stop k stop state.cut) second ≡ Some cut → cut.number ≡ k
-    by None is = (for_fault state.claims k cut is).number_is
+    by_cut : (monitor : ℕ) (stands : Bool) → option_or (cond stands None (Some (record { number = k; cause = stopped_by monitor }))) second ≡ Some cut → Cause
+    by_cut monitor true is = inr (for_fault state.claims k cut is)
+    by_cut monitor false is = inl (monitor, same_Some (record { number = k; cause = stopped_by monitor }) cut is)
+
+    by : (stop : Option ℕ) → option_or (cut_by_stop k stop state.cut) second ≡ Some cut → Cause
+    by None is = inr (for_fault state.claims k cut is)
     by (Some monitor) is = by_cut monitor (is_cut_by_stop k monitor state.cut) is
+
+-- so its number is that of the first claim that is not committed
+pub owed_number : (setup : PlainSetup) (state : PlainState) (cut : PlainCut) → owed_cut setup state ≡ Some cut → cut.number ≡ committed setup state
+owed_number setup state cut owed = by (owed_for setup state cut owed)
+  where
+    by : ((monitor : ℕ) × (record { number = committed setup state; cause = stopped_by monitor } ≡ cut)) ⊎ IsForFault state.claims (committed setup state) cut → cut.number ≡ committed setup state
+    by (inl (monitor, is)) = ap (λ (c : PlainCut). c.number) (sym is)
+    by (inr fault) = fault.number_is
+
+-- and it is not for want of memory
+pub owed_is_not_for_memory : (setup : PlainSetup) (state : PlainState) (cut : PlainCut) → owed_cut setup state ≡ Some cut → cut.cause ≡ wants_memory → ⊥
+owed_is_not_for_memory setup state cut owed memory = by (owed_for setup state cut owed)
+  where
+    by : ((monitor : ℕ) × (record { number = committed setup state; cause = stopped_by monitor } ≡ cut)) ⊎ IsForFault state.claims (committed setup state) cut → ⊥
+    by (inl (monitor, is)) = let e : stopped_by monitor ≡ wants_memory = ap (λ (c : PlainCut). c.cause) is ∙ memory in cc
+    by (inr fault) = let e : fault_end fault.faulted.element fault.fault ≡ wants_memory = sym fault.cause_is ∙ memory in cc
 
 -- where all claims are committed, and a stop is cut
 pub cut_owes_none : (setup : PlainSetup) (state : PlainState) (monitor : ℕ) → stop_in setup state ≡ Some monitor → committed setup state ≡ length state.claims → state.cut ≡ Some (record { number = committed setup state; cause = stopped_by monitor }) → owed_cut setup state ≡ None

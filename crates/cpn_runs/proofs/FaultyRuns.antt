@@ -44,7 +44,7 @@ abbrev faulted : PlainState
 faulted = record { clock = 3; claims = []; cut = Some cut_for_it }
 
 faulty_cut : MayCut faulty_setup (with_claims (faulty_claim ∷ [])) 0 faulted
-faulty_cut = record { cut = cut_for_it; owed = refl; number_is = refl; new_is = refl }
+faulty_cut = record { cut = cut_for_it; due = inl refl; number_is = refl; new_is = refl }
 
 ends_by_the_fault : EndsBy faulty_setup faulted no_fault
 ends_by_the_fault = record { none_open = refl; none_owed = refl; has_cause = refl }
@@ -61,11 +61,11 @@ none_owed_behind_a_hole : owed_cut faulty_setup (with_claims (new_claim faulty 0
 none_owed_behind_a_hole = refl
 
 both_are_cut_off : MayCut faulty_setup (with_claims (faulty_claim ∷ faulty_second ∷ [])) 0 faulted
-both_are_cut_off = record { cut = cut_for_it; owed = refl; number_is = refl; new_is = refl }
+both_are_cut_off = record { cut = cut_for_it; due = inl refl; number_is = refl; new_is = refl }
 
 -- a claim behind the fault goes too, though it is done with its outputs; one ahead of it stays
 done_is_cut_off : MayCut setup (with_claims (done 0 ∷ record (opened 1) { status = faulted_with not_in_colour } ∷ done 0 ∷ [])) 1 (record { clock = 3; claims = done 0 ∷ []; cut = Some (record { number = 1; cause = no_fault }) })
-done_is_cut_off = record { cut = record { number = 1; cause = no_fault }; owed = refl; number_is = refl; new_is = refl }
+done_is_cut_off = record { cut = record { number = 1; cause = no_fault }; due = inl refl; number_is = refl; new_is = refl }
 
 -- ---- the run of one seat
 
@@ -123,7 +123,7 @@ unfolding outputs_of
 alone_completed = record { none_owed = refl; held_claim = new_claim faulty 0 3 move; claim_is = refl; held = refl; status = faulted_with not_in_colour; status_is = refl; new_is = refl }
 
 alone_cut : MayCut one_seat (with_claims (faulty_claim ∷ [])) 0 faulted
-alone_cut = record { cut = cut_for_it; owed = refl; number_is = refl; new_is = refl }
+alone_cut = record { cut = cut_for_it; due = inl refl; number_is = refl; new_is = refl }
 
 outlook_there : HasOutlook one_seat start 3 (record { ready_count = 1; next = Some 3 })
 outlook_there = record { entries = entry 3 ∷ []; enabled = enabled_at_start; ready_count_is = refl; next_is = refl }

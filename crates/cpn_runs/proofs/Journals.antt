@@ -1,6 +1,6 @@
 -- Every journal, whatever the order in which claims are made and completed, and for any number of seats: the claims leave a
 -- marking, and those that are committed are a legal occurrence sequence.
-use Rattle.std.proofs.Common.{◌≡◌, ℕ, suc, ◌==◌, ◌⊎◌, true, false, List, [], ◌∷◌, ◌++◌, map, length, take, drop, append_assoc, Some, None, Option, refl, sym, ap, subst, ◌∙◌, inl, inr}
+use Rattle.std.proofs.Common.{◌≡◌, ℕ, suc, ◌+◌, ◌-◌, ◌≤◌, ◌==◌, ◌⊎◌, true, false, arith, List, [], ◌∷◌, ◌++◌, map, length, take, drop, append_assoc, Some, None, Option, refl, sym, ap, subst, ◌∙◌, inl, inr}
 use Rattle.std.specs.List.{AllByRecursion, list_any}
 use Rattle.std.specs.Option.{MatchOption}
 use Rattle.std.proofs.Math.Path.{ap₂}
@@ -22,15 +22,16 @@ use Rattle.cpn_definitions.proofs.Subtraction.{AllAreSorted}
 use Rattle.cpn_definitions.proofs.ListItems.{split_at, all_parts}
 use Rattle.cpn_definitions.proofs.RisingLists.{each_appended}
 use Rattle.cpn_runs.specs.HoleRun.{PlainClaim, Status, open_claim, done_with, faulted_with, added, after_claim, marking_left, is_open, is_done}
-use Rattle.cpn_runs.specs.State.{PlainSetup, PlainState, PlainEvent, claim_made, claim_completed, clock_moved, cut_made, PlainEnd, dead, steps_made, until_passed, fault_end, stopped_by, PlainCut, first_state, unclaimed_in, settled_in, committed, committed_claims, stop_in, owed_cut, given_needs, new_claim, status_after, MayClaim, MayComplete, MayMove, MayCut, Happens, Leads, IsState, numbered, committed_occurrences, HasCause, EndsBy}
+use Rattle.cpn_runs.specs.State.{PlainSetup, PlainState, PlainEvent, claim_made, claim_completed, clock_moved, cut_made, PlainEnd, dead, steps_made, until_passed, fault_end, stopped_by, wants_memory, PlainCut, IsDue, first_state, unclaimed_in, settled_in, committed, committed_claims, stop_in, owed_cut, given_needs, new_claim, status_after, MayClaim, MayComplete, MayMove, MayCut, Happens, Leads, IsState, numbered, committed_occurrences, HasCause, EndsBy}
+use Rattle.cpn_runs.specs.GivingBack.{OnlyGivenBack}
 use Rattle.cpn_runs.specs.Commits.{timed_claim, committed_from}
 use Rattle.cpn_runs.specs.MeasuredStates.{values_in}
 use Rattle.cpn_runs.specs.Run.{Outlook, HasOutlook, IsTrueFault, IsTrueStop, IsRun}
 use Rattle.cpn_runs.proofs.Sequences.{legal_joined, legal_moved, left_parts, left_from, left_split, marking_left_more}
 use Rattle.cpn_runs.proofs.CoveredElements.{covered_needs, covered_too, after_is, least_now}
 use Rattle.cpn_runs.proofs.FilledRuns.{HasOrder, completed, filled_leaves}
-use Rattle.cpn_runs.proofs.Cuts.{AreDone, committed_are_done, committed_ahead, taken_ahead, all_in, open_is_not_done, IsForFault, owed_is, owes_none}
-use Rattle.cpn_runs.proofs.States.{IsClaimOf, drawn_now, IsCutFor, IsReached, uncut_where_owed, event_reaches, every_state, no_completion_after_a_cut}
+use Rattle.cpn_runs.proofs.Cuts.{AreDone, committed_are_done, committed_ahead, taken_ahead, all_in, open_is_not_done, IsForFault, owed_is, owes_none, uncut_so}
+use Rattle.cpn_runs.proofs.States.{IsClaimOf, drawn_now, IsCutFor, IsReached, given_back_where_owed, cut_leaves_committed, event_reaches, every_state, completes_after, is_for_memory}
 
 -- ---- the needs of claims stand in their order
 
@@ -156,6 +157,10 @@ claim_leaves setup old seat number new c stamped moved =
       true_cut = λ cut stands. absurd (not_none old.cut cut stands c.no_cut);
     })
 
+-- a cut for want of memory is for no fault
+true_for_memory : (setup : PlainSetup) (m : Marking) (clock : ℕ) (cause : PlainEnd) → cause ≡ wants_memory → IsTrueFault setup.net m clock cause
+true_for_memory setup m clock cause is = subst (IsTrueFault setup.net m clock) (sym is) tt
+
 completion_leaves : (setup : PlainSetup) (journal : List PlainEvent) (old : PlainState) (seat number : ℕ) (new : PlainState) → AllAreSorted setup.start → IsReached setup journal old → LeavesMarking setup old → MayComplete setup old seat number new → LeavesMarking setup new
 completion_leaves setup journal old seat number new sorted reached leaves c =
     let claim = c.held_claim in
@@ -181,7 +186,7 @@ completion_leaves setup journal old seat number new sorted reached leaves c =
         legal = moved.legal;
         made_now = each_appended (λ k. k.time ≡ old.clock) behind.ahead (completed c.status claim ∷ parts.later) now.0 (now.1.0, now.1.1);
       };
-      true_cut = λ cut stands. absurd (no_completion_after_a_cut setup journal old seat number new cut reached stands c);
+      true_cut = λ cut stands. true_for_memory setup filled.0 old.clock cut.cause (is_for_memory old.cut cut (completes_after setup journal old seat number new reached c) stands);
     })
 
 -- of claims that leave a marking those ahead of one leave one too, and it covers the needs of that one
@@ -239,24 +244,37 @@ committed_since setup state moved =
     let ahead = committed_ahead setup.monitors [] setup.start moved.before moved.since moved.before_in in
     (ahead.0, ap (λ cs. take (committed_from setup.monitors [] setup.start cs) cs) moved.claims_are ∙ ap (λ k. take k (moved.before ++ moved.since)) ahead.1 ∙ taken_ahead moved.before moved.since ahead.0)
 
+-- the first claims, of at least those that are committed, are those before the last move, and some of those at the clock
+first_since : (setup : PlainSetup) (state : PlainState) (i : ℕ) → committed setup state ≤ i → (moved : SinceMove setup state.clock state.claims) → (j : ℕ) × (take i state.claims ≡ moved.before ++ take j moved.since)
+first_since setup state i within moved =
+    let ahead = committed_ahead setup.monitors [] setup.start moved.before moved.since moved.before_in in
+    let rest : (j : ℕ) × (i ≡ length moved.before + j) = beyond (length moved.before) i (more ahead.0 ahead.1) in
+    (rest.0, ap₂ take rest.1 moved.claims_are ∙ taken_ahead moved.before moved.since rest.0)
+  where
+    more : (j : ℕ) → committed_from setup.monitors [] setup.start (moved.before ++ moved.since) ≡ length moved.before + j → length moved.before ≤ i
+    more j is =
+        let many : committed setup state ≡ length moved.before + j = ap (committed_from setup.monitors [] setup.start) moved.claims_are ∙ is in
+        omega (arith, many, within)
+
+    beyond : (n k : ℕ) → n ≤ k → (j : ℕ) × (k ≡ n + j)
+    beyond n k le = (k - n, omega (arith, le))
+
 -- A cut leaves the marking of the claims ahead of it.
 cut_leaves : (setup : PlainSetup) (journal : List PlainEvent) (old : PlainState) (number : ℕ) (new : PlainState) → IsStamped setup.net setup.start → IsReached setup journal old → LeavesMarking setup old → MayCut setup old number new → LeavesMarking setup new
 cut_leaves setup journal old number new stamped reached leaves c =
-    let owed = owed_is setup old c.cut (uncut_where_owed setup journal old c.cut reached c.owed) c.owed in
-    let at : number ≡ committed setup old = c.number_is ∙ owed.number_is in
+    let least = (cut_leaves_committed setup journal old c.cut reached c.due).least in
     let moved = leaves.moved in
-    let since = committed_since setup old moved in
-    let first : take number old.claims ≡ moved.before ++ take since.0 moved.since = ap (λ k. take k old.claims) at ∙ since.1 in
-    let whole = take-append-drop (committed setup old) old.claims in
-    let left = left_split setup.start (committed_claims setup old) (drop (committed setup old) old.claims) leaves.last (subst (λ cs. marking_left setup.start cs ≡ Some leaves.last) (sym whole) leaves.is) in
+    let since = first_since setup old number (let is = c.number_is in omega (arith, least, is)) moved in
+    let whole = take-append-drop number old.claims in
+    let left = left_split setup.start (take number old.claims) (drop number old.claims) leaves.last (subst (λ cs. marking_left setup.start cs ≡ Some leaves.last) (sym whole) leaves.is) in
     let now = all_parts (λ k. k.time ≡ old.clock) (take since.0 moved.since) (drop since.0 moved.since) (subst (WereMadeAt old.clock) (sym (take-append-drop since.0 moved.since)) moved.made_now) in
     subst (LeavesMarking setup) (sym c.new_is) (record {
       last = left.0;
-      is = ap (λ k. marking_left setup.start (take k old.claims)) at ∙ left.1;
+      is = left.1;
       moved = record {
         before = moved.before;
         since = take since.0 moved.since;
-        claims_are = first;
+        claims_are = since.1;
         before_done = moved.before_done;
         before_in = moved.before_in;
         mid = moved.mid;
@@ -264,14 +282,20 @@ cut_leaves setup journal old number new stamped reached leaves c =
         legal = moved.legal;
         made_now = now.0;
       };
-      true_cut = λ cut stands. subst (IsTrueFault setup.net left.0 old.clock) (ap (λ (k : PlainCut). k.cause) (same_Some c.cut cut stands)) (is_true owed.cause left.0 left.1);
+      true_cut = λ cut stands. subst (IsTrueFault setup.net left.0 old.clock) (ap (λ (k : PlainCut). k.cause) (same_Some c.cut cut stands)) (is_true c.due left.0 left.1);
     })
   where
-    is_true
+    by_owed
         : ((monitor : ℕ) × (stop_in setup old ≡ Some monitor) × (c.cut.cause ≡ stopped_by monitor)) ⊎ ((stop_in setup old ≡ None) × IsForFault old.claims (committed setup old) c.cut)
         → (mid : Marking) → marking_left setup.start (committed_claims setup old) ≡ Some mid → IsTrueFault setup.net mid old.clock c.cut.cause
-    is_true (inl (monitor, stop, cause)) mid mid_is = subst (IsTrueFault setup.net mid old.clock) (sym cause) tt
-    is_true (inr (goes_on, fault)) mid mid_is = fault_is_true setup old c.cut mid stamped reached.claims_are leaves fault mid_is
+    by_owed (inl (monitor, stop, cause)) mid mid_is = subst (IsTrueFault setup.net mid old.clock) (sym cause) tt
+    by_owed (inr (goes_on, fault)) mid mid_is = fault_is_true setup old c.cut mid stamped reached.claims_are leaves fault mid_is
+
+    is_true : IsDue setup old c.cut → (mid : Marking) → marking_left setup.start (take number old.claims) ≡ Some mid → IsTrueFault setup.net mid old.clock c.cut.cause
+    is_true (inl is) mid mid_is =
+        let owed = owed_is setup old c.cut (given_back_where_owed setup journal old c.cut reached is) is in
+        by_owed owed.cause mid (ap (λ k. marking_left setup.start (take k old.claims)) (sym (c.number_is ∙ owed.number_is)) ∙ mid_is)
+    is_true (inr back) mid mid_is = true_for_memory setup mid old.clock c.cut.cause back.cause_is
 
 -- ---- the committed claims
 
@@ -311,10 +335,10 @@ done_are_legal setup m clock (claim ∷ claims) last stamped now each done is =
       ),
     )
 
--- With no claim open, no cut standing and no cut owed, all claims are committed.
-pub all_are_committed : (setup : PlainSetup) (state : PlainState) → list_any (λ claim. is_open claim.status) state.claims ≡ false → state.cut ≡ None → owed_cut setup state ≡ None → committed setup state ≡ length state.claims
-all_are_committed setup state none_open uncut none_owed =
-    let none = owes_none setup state uncut none_owed in
+-- With no claim open, no cut standing, unless for want of memory, and no cut owed, all claims are committed.
+pub all_are_committed : (setup : PlainSetup) (state : PlainState) → list_any (λ claim. is_open claim.status) state.claims ≡ false → OnlyGivenBack state.cut → owed_cut setup state ≡ None → committed setup state ≡ length state.claims
+all_are_committed setup state none_open given_back none_owed =
+    let none = owes_none setup state given_back none_owed in
     all_in setup.monitors [] setup.start state.claims none_open none.0 none.1
 
 -- so the committed claims are all claims
@@ -359,7 +383,7 @@ no_more_claims (c ∷ cs) = ap (λ ds. c ∷ ds) (no_more_claims cs)
 move_leaves : (setup : PlainSetup) (old : PlainState) (time : ℕ) (new : PlainState) → IsStamped setup.net setup.start → AllByRecursion (IsClaimOf setup) old.claims → LeavesMarking setup old → MayMove setup old time new → LeavesMarking setup new
 move_leaves setup old time new stamped claims leaves c =
     let moved = leaves.moved in
-    let all = all_are_committed setup old c.none_open c.no_cut c.none_owed in
+    let all = all_are_committed setup old c.none_open (uncut_so old.cut c.no_cut) c.none_owed in
     let done : AreDone old.claims = subst AreDone (all_taken setup old all) (committed_are_done setup.monitors [] setup.start old.claims) in
     let same : leaves.last ≡ c.marking = same_Some leaves.last c.marking (sym leaves.is ∙ c.marking_is) in
     let two = all_parts (λ claim. is_done claim.status ≡ true) moved.before moved.since (subst AreDone moved.claims_are done) in
@@ -455,6 +479,30 @@ at_start setup = record {
   true_cut = λ cut stands. absurd (not_none None cut stands refl);
 }
 
+-- where no claim is open and no cut is owed, all claims are committed
+pub no_claim_left
+    : (setup : PlainSetup) (journal : List PlainEvent) (state : PlainState)
+    → IsState setup journal state
+    → list_any (λ claim. is_open claim.status) state.claims ≡ false
+    → owed_cut setup state ≡ None
+    → committed setup state ≡ length state.claims
+no_claim_left setup journal state reached none_open none_owed = by state.cut refl
+  where
+    r : IsReached setup journal state
+    r = every_state setup journal state reached
+
+    by_cause : (cause : PlainEnd) → IsCutFor setup state cause → (cause ≡ wants_memory → OnlyGivenBack state.cut) → committed setup state ≡ length state.claims
+    by_cause dead made_for only = absurd made_for
+    by_cause steps_made made_for only = absurd made_for
+    by_cause (until_passed time) made_for only = absurd made_for
+    by_cause (fault_end e fault) made_for only = made_for.0.all_committed
+    by_cause (stopped_by monitor) made_for only = made_for.0.all_committed
+    by_cause wants_memory made_for only = all_are_committed setup state none_open (only refl) none_owed
+
+    by : (cut : Option PlainCut) → state.cut ≡ cut → committed setup state ≡ length state.claims
+    by None uncut = all_are_committed setup state none_open (uncut_so state.cut uncut) none_owed
+    by (Some cut) stands = by_cause cut.cause (r.cut_off cut stands).made_for (λ memory. subst OnlyGivenBack (sym stands) memory)
+
 -- every journal settles, for any number of seats
 pub every_journal_settles : (setup : PlainSetup) (journal : List PlainEvent) (state : PlainState) → IsStart setup → IsState setup journal state → Settles setup state
 every_journal_settles setup journal state start reached =
@@ -473,25 +521,29 @@ every_journal_settles setup journal state start reached =
       all_committed = λ none_open none_owed. all_taken setup state (all none_open none_owed);
       all_settled = λ none_open none_owed. same_Some front.0 leaves.last (sym front.1 ∙ ap (marking_left setup.start) (all_taken setup state (all none_open none_owed)) ∙ leaves.is);
       true_cut = λ cut stands.
-          let same : front.0 ≡ leaves.last = same_Some front.0 leaves.last (sym front.1 ∙ ap (marking_left setup.start) (all_taken setup state (r.cut_off cut stands).all_committed) ∙ leaves.is) in
-          let P : Marking → Type 0 = λ m. IsTrueFault setup.net m state.clock cut.cause in
-          subst P (sym same) (leaves.true_cut cut stands);
+          true_cut front.0 leaves.last cut.cause (r.cut_off cut stands).made_for (leaves.true_cut cut stands) (λ all. same_Some front.0 leaves.last (sym front.1 ∙ ap (marking_left setup.start) (all_taken setup state all) ∙ leaves.is));
       stop = λ cut stands. true_stop cut.cause (r.cut_off cut stands).made_for;
     }
   where
     all : list_any (λ claim. is_open claim.status) state.claims ≡ false → owed_cut setup state ≡ None → committed setup state ≡ length state.claims
-    all none_open none_owed = by state.cut refl
-      where
-        by : (cut : Option PlainCut) → state.cut ≡ cut → committed setup state ≡ length state.claims
-        by None uncut = all_are_committed setup state none_open uncut none_owed
-        by (Some cut) stands = ((every_state setup journal state reached).cut_off cut stands).all_committed
+    all = no_claim_left setup journal state reached
+
+    -- where the cut was owed both markings are the same
+    true_cut : (marking last : Marking) (cause : PlainEnd) → IsCutFor setup state cause → IsTrueFault setup.net last state.clock cause → (committed setup state ≡ length state.claims → marking ≡ last) → IsTrueFault setup.net marking state.clock cause
+    true_cut marking last dead made_for is_true same = tt
+    true_cut marking last steps_made made_for is_true same = tt
+    true_cut marking last (until_passed time) made_for is_true same = tt
+    true_cut marking last (fault_end e fault) made_for is_true same = subst (λ m. IsTrueFault setup.net m state.clock (fault_end e fault)) (sym (same made_for.0.all_committed)) is_true
+    true_cut marking last (stopped_by monitor) made_for is_true same = tt
+    true_cut marking last wants_memory made_for is_true same = tt
 
     true_stop : (cause : PlainEnd) → IsCutFor setup state cause → IsTrueStop setup state cause
     true_stop dead made_for = tt
     true_stop steps_made made_for = tt
     true_stop (until_passed time) made_for = tt
     true_stop (fault_end e fault) made_for = tt
-    true_stop (stopped_by monitor) made_for = made_for
+    true_stop (stopped_by monitor) made_for = made_for.1
+    true_stop wants_memory made_for = tt
 
 -- where a run ends, all that it claimed has occurred: its last marking is the one that all its claims leave
 pub ended_is_settled : (setup : PlainSetup) (journal : List PlainEvent) (state : PlainState) (cause : PlainEnd) → IsStart setup → IsState setup journal state → EndsBy setup state cause → settled_in setup state ≡ unclaimed_in setup state
@@ -509,6 +561,7 @@ ends_truly setup state cause m is_true ends = by state.cut refl ends.has_cause
     without (until_passed time) has = tt
     without (fault_end e fault) has = absurd has
     without (stopped_by monitor) has = tt
+    without wants_memory has = tt
 
     by : (cut : Option PlainCut) → state.cut ≡ cut → MatchOption cut (HasCause setup state cause) (λ k. cause ≡ k.cause) → IsTrueFault setup.net m state.clock cause
     by None stands has = without cause has
@@ -524,6 +577,7 @@ stops_truly setup state cause is_true ends = by state.cut refl ends.has_cause
     without (until_passed time) has = tt
     without (fault_end e fault) has = tt
     without (stopped_by monitor) has = absurd has
+    without wants_memory has = tt
 
     by : (cut : Option PlainCut) → state.cut ≡ cut → MatchOption cut (HasCause setup state cause) (λ k. cause ≡ k.cause) → IsTrueStop setup state cause
     by None stands has = without cause has

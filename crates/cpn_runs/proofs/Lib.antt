@@ -2,10 +2,12 @@ mod EachTwoItems
 pub mod Sequences
 mod CoveredElements
 pub mod Cuts
+pub mod GivenBackClaims
 pub mod States
 mod OneJournal
 pub mod OneRun
 pub mod Journals
+pub mod NoneGivenBack
 pub mod BoundedStates
 pub mod MeasuredStates
 pub mod GrownRuns
@@ -26,6 +28,7 @@ mod MovedRows
 mod MeasuredRows
 mod StopRows
 mod StoppedRuns
+mod GivenBackRows
 mod GrownRows
 mod PlayableRows
 mod PhaseRows

@@ -1,22 +1,22 @@
--- A journal is that of one run; and with one seat a setup has one run.
-use Rattle.std.proofs.Common.{◌≡◌, ℕ, ◌≤◌, true, false, List, length, Some, None, Option, refl, sym, ap, ◌∙◌, subst, inl}
+-- A journal is that of one run; and with one seat a setup has one run that ends otherwise than for want of memory.
+use Rattle.std.proofs.Common.{◌≡◌, ◌≢◌, ℕ, ◌≤◌, true, false, List, length, Some, None, Option, refl, sym, ap, ◌∙◌, subst, inl}
 use Rattle.std.specs.Option.{MatchOption}
 use Rattle.std.proofs.Math.Path.{ap₂}
 use Rattle.std.proofs.lemmas.Option.{same_Some}
 use Rattle.cpn_definitions.specs.Marking.{Marking}
 use Rattle.cpn_definitions.specs.Legal.{LeastTime}
 use Rattle.cpn_definitions.specs.Enabled.{ready, next_time, IsDead}
-use Rattle.cpn_runs.specs.State.{PlainSetup, PlainEvent, PlainEnd, dead, steps_made, until_passed, fault_end, stopped_by, PlainCut, PlainState, first_state, IsState, HasCause, EndsBy, committed_occurrences, settled_in}
+use Rattle.cpn_runs.specs.State.{PlainSetup, PlainEvent, PlainEnd, dead, steps_made, until_passed, fault_end, stopped_by, wants_memory, PlainCut, PlainState, first_state, IsState, HasCause, EndsBy, committed_occurrences, settled_in}
 use Rattle.cpn_runs.specs.MeasuredStates.{values_in}
 use Rattle.cpn_runs.specs.Run.{PlainFinished, IsRun, Outlook, HasOutlook}
 use Rattle.cpn_definitions.proofs.OneEnabledList.{enabled_is_unique}
 use Rattle.cpn_runs.proofs.States.{one_state, least_is_unique}
 use Rattle.cpn_runs.proofs.OneJournal.{IsSameEnd, same_journal}
 
--- with one seat there is at most one journal that has an end, and it leads to one state
-pub one_journal : (setup : PlainSetup) (J J' : List PlainEvent) (s s' : PlainState) (cause cause' : PlainEnd) → setup.limits.seats ≡ 1 → setup.clock ≤ setup.limits.until → IsState setup J s → EndsBy setup s cause → IsState setup J' s' → EndsBy setup s' cause' → IsSameEnd J J' s s'
-one_journal setup J J' s s' cause cause' one in_time a ends b ends' =
-    same_journal setup (first_state setup) J J' s s' cause cause' one (inl (record { no_cut = refl; closed = refl; in_time = in_time })) a ends b ends'
+-- with one seat there is at most one journal that has an end, unless for want of memory, and it leads to one state
+pub one_journal : (setup : PlainSetup) (J J' : List PlainEvent) (s s' : PlainState) (cause cause' : PlainEnd) → setup.limits.seats ≡ 1 → setup.clock ≤ setup.limits.until → IsState setup J s → EndsBy setup s cause → cause ≢ wants_memory → IsState setup J' s' → EndsBy setup s' cause' → cause' ≢ wants_memory → IsSameEnd J J' s s'
+one_journal setup J J' s s' cause cause' one in_time a ends other b ends' other' =
+    same_journal setup (first_state setup) J J' s s' cause cause' one (inl (record { no_cut = refl; closed = refl; in_time = in_time })) a ends other b ends' other'
 
 -- where something is covered at some time the marking is not dead
 dead_or_later : (setup : PlainSetup) (s : PlainState) (time : ℕ) → HasCause setup s dead → HasCause setup s (until_passed time) → ⊥
@@ -41,12 +41,16 @@ one_cause setup s (until_passed time) (until_passed time') has has' =
     ap until_passed (least_is_unique setup.net has'.2.0 s.clock time time' (subst P (same_Some has.2.0 has'.2.0 (sym has.2.1 ∙ has'.2.1)) has.2.2) has'.2.2)
 one_cause setup s (fault_end e f) c' has has' = absurd has
 one_cause setup s (stopped_by monitor) c' has has' = absurd has
+one_cause setup s wants_memory c' has has' = absurd has
 one_cause setup s steps_made (fault_end e f) has has' = absurd has'
 one_cause setup s dead (fault_end e f) has has' = absurd has'
 one_cause setup s (until_passed time) (fault_end e f) has has' = absurd has'
 one_cause setup s steps_made (stopped_by monitor) has has' = absurd has'
 one_cause setup s dead (stopped_by monitor) has has' = absurd has'
 one_cause setup s (until_passed time) (stopped_by monitor) has has' = absurd has'
+one_cause setup s steps_made wants_memory has has' = absurd has'
+one_cause setup s dead wants_memory has has' = absurd has'
+one_cause setup s (until_passed time) wants_memory has has' = absurd has'
 
 -- and so has each run, with a cut or without
 one_end : (setup : PlainSetup) (s : PlainState) (c c' : PlainEnd) → EndsBy setup s c → EndsBy setup s c' → c ≡ c'
@@ -86,6 +90,6 @@ run_of_journal setup r r' journals a b =
     same_finished r r' (one_outlook setup setup.start setup.clock r.opening r'.opening a.opening b.opening) journals (a.occurrences_are ∙ ap (committed_occurrences setup) states ∙ sym b.occurrences_are) markings clocks causes
     (one_outlook setup r'.marking r'.clock r.closing r'.closing closing b.closing) (a.values_are ∙ ap (values_in setup) states ∙ sym b.values_are)
 
--- with one seat a setup whose clock is one that the run may reach has one run
-pub one_run : (setup : PlainSetup) (r r' : PlainFinished) → setup.limits.seats ≡ 1 → setup.clock ≤ setup.limits.until → IsRun setup r → IsRun setup r' → r ≡ r'
-one_run setup r r' one in_time a b = run_of_journal setup r r' (one_journal setup r.journal r'.journal a.state b.state r.cause r'.cause one in_time a.reached a.ends b.reached b.ends).journals a b
+-- with one seat a setup whose clock is one that the run may reach has one run that ends otherwise than for want of memory
+pub one_run : (setup : PlainSetup) (r r' : PlainFinished) → setup.limits.seats ≡ 1 → setup.clock ≤ setup.limits.until → IsRun setup r → r.cause ≢ wants_memory → IsRun setup r' → r'.cause ≢ wants_memory → r ≡ r'
+one_run setup r r' one in_time a other b other' = run_of_journal setup r r' (one_journal setup r.journal r'.journal a.state b.state r.cause r'.cause one in_time a.reached a.ends other b.reached b.ends other').journals a b

@@ -1,12 +1,12 @@
 -- The states of a run, for any number of seats: a journal leads to one state; what holds in each state that a journal allows;
 -- and where nothing happens and nothing ends.
-use Rattle.std.proofs.Common.{◌≡◌, ℕ, suc, ◌+◌, ◌<◌, ◌≤◌, ◌==◌, ◌⊎◌, Bool, true, false, ◌&&◌, ◌||◌, cond, List, [], ◌∷◌, ◌++◌, length, map, take, drop, append_assoc, length-append, Some, None, Option, refl, sym, ap, ◌∙◌, subst, inl, inr, arith, slice_set, eqb-true, count_by, add-zero}
+use Rattle.std.proofs.Common.{◌≡◌, ℕ, suc, ◌+◌, ◌<◌, ◌≤◌, ◌==◌, ◌⊎◌, Bool, true, false, ◌&&◌, ◌||◌, cond, List, [], ◌∷◌, ◌++◌, length, map, take, drop, append_assoc, length-append, Some, None, Option, refl, sym, ap, ◌∙◌, subst, inl, inr, arith, slice_get, slice_set, eqb-true, count_by, add-zero}
 use Rattle.std.specs.List.{list_any, AllByRecursion}
 use Rattle.std.specs.Option.{MatchOption}
 use Rattle.std.proofs.Math.Path.{ap₂}
 use Rattle.std.proofs.lemmas.Bool.{and_parts, cases_lt}
 use Rattle.std.proofs.lemmas.Option.{same_Some}
-use Rattle.std.proofs.lemmas.List.{take-append-drop}
+use Rattle.std.proofs.lemmas.List.{take-append-drop, length-take-le}
 use Rattle.std.proofs.lemmas.List.Sums.{sum_by-cons, sum_by-append}
 use Rattle.cpn_definitions.specs.Marking.{Marking}
 use Rattle.cpn_definitions.specs.Outcome.{Outcome, gives, faults, no_meaning}
@@ -16,10 +16,15 @@ use Rattle.cpn_definitions.specs.Legal.{LeastTime}
 use Rattle.cpn_definitions.specs.Enabled.{PlainEntry, Enabled, ready}
 use Rattle.cpn_definitions.proofs.RisingLists.{in_filter_from, contains_from_in, each_appended}
 use Rattle.cpn_definitions.proofs.OneEnabledList.{enabled_is_unique}
-use Rattle.cpn_definitions.proofs.ListItems.{IsSplit, split_at, in_from_get, map_more, all_parts}
+use Rattle.cpn_definitions.proofs.ListItems.{IsSplit, split_at, in_from_get, map_more, all_parts, place_known}
 use Rattle.cpn_runs.specs.HoleRun.{PlainClaim, Status, done_with, faulted_with, is_open}
-use Rattle.cpn_runs.specs.State.{PlainSetup, PlainEvent, claim_made, claim_completed, clock_moved, cut_made, PlainEnd, dead, steps_made, until_passed, fault_end, stopped_by, PlainCut, PlainState, first_state, committed, stop_in, owed_cut, is_held_by, given_needs, new_claim, status_after, IsDrawn, MayClaim, MayComplete, MayMove, MayCut, Happens, Leads, IsState, HasCause, EndsBy}
-use Rattle.cpn_runs.proofs.Cuts.{AreDone, committed_are_done, as_many_are_committed, done_is_not_open, done_at, fewer_first, IsForFault, IsOwed, owed_is, left_by, left_all, left_stop, left_owes_none}
+use Rattle.cpn_runs.specs.State.{PlainSetup, PlainEvent, claim_made, claim_completed, clock_moved, cut_made, PlainEnd, dead, steps_made, until_passed, fault_end, stopped_by, wants_memory, PlainCut, PlainState, first_state, committed, stop_in, owed_cut, IsDue, is_held_by, given_needs, new_claim, status_after, IsDrawn, MayClaim, MayComplete, MayMove, MayCut, Happens, Leads, IsState, HasCause, EndsBy}
+use Rattle.cpn_runs.specs.GivingBack.{OnlyGivenBack}
+use Rattle.cpn_runs.proofs.Cuts.{AreDone, committed_are_done, as_many_are_committed, done_is_not_open, done_at, fewer_first, IsForFault, IsOwed, owed_is, left_by, left_all, left_stop, left_owes_none, no_more_committed, owed_number}
+use Rattle.cpn_runs.proofs.GivenBackClaims.{left_after, still_committed, committed_stay, still_owes_none}
+
+some_is_not_none : {A : Type 0} (o : Option A) (x : A) → o ≡ Some x → o ≡ None → ⊥
+some_is_not_none o x some none = let e : Some x ≡ None = sym some ∙ none in cc
 
 -- ---- one state
 
@@ -66,10 +71,17 @@ move_is_unique setup old time time' new new' a b =
     let times : time ≡ time' = least_is_unique setup.net b.marking old.clock time time' (subst P markings a.least) b.least in
     (times, a.new_is ∙ ap (λ (t : ℕ). record old { clock = t }) times ∙ sym b.new_is)
 
+-- of one number one cut is due
+due_is_unique : (setup : PlainSetup) (old : PlainState) (a b : PlainCut) → a.number ≡ b.number → IsDue setup old a → IsDue setup old b → a ≡ b
+due_is_unique setup old a b numbers (inl owed) (inl owed') = same_Some a b (sym owed ∙ owed')
+due_is_unique setup old a b numbers (inl owed) (inr back') = absurd (some_is_not_none (owed_cut setup old) a owed back'.none_owed)
+due_is_unique setup old a b numbers (inr back) (inl owed') = absurd (some_is_not_none (owed_cut setup old) b owed' back.none_owed)
+due_is_unique setup old a b numbers (inr back) (inr back') = ap₂ (λ number cause. record { number = number; cause = cause }) numbers (back.cause_is ∙ sym back'.cause_is)
+
 -- a cut leads to one state
 pub cut_is_unique : (setup : PlainSetup) (old : PlainState) (number : ℕ) (new new' : PlainState) → MayCut setup old number new → MayCut setup old number new' → new ≡ new'
 cut_is_unique setup old number new new' a b =
-    let cuts : a.cut ≡ b.cut = same_Some a.cut b.cut (sym a.owed ∙ b.owed) in
+    let cuts : a.cut ≡ b.cut = due_is_unique setup old a.cut b.cut (sym a.number_is ∙ b.number_is) a.due b.due in
     a.new_is ∙ ap (λ (cut : PlainCut). record old { claims = take number old.claims; cut = Some cut }) cuts ∙ sym b.new_is
 
 pub event_is_unique : (setup : PlainSetup) (old : PlainState) (event : PlainEvent) (new new' : PlainState) → Happens setup old event new → Happens setup old event new' → new ≡ new'
@@ -99,17 +111,16 @@ leads_more setup old (event ∷ events) more mid new first second = (first.0, fi
 
 -- ---- where nothing happens and nothing ends
 
-some_is_not_none : {A : Type 0} (o : Option A) (x : A) → o ≡ Some x → o ≡ None → ⊥
-some_is_not_none o x some none = let e : Some x ≡ None = sym some ∙ none in cc
-
 -- where a cut is owed just that cut happens
 pub cut_happens_where_owed : (setup : PlainSetup) (old : PlainState) (cut : PlainCut) (event : PlainEvent) (new : PlainState) → owed_cut setup old ≡ Some cut → Happens setup old event new → event ≡ cut_made cut.number
 cut_happens_where_owed setup old cut (claim_made seat number) new owed happens = absurd (some_is_not_none (owed_cut setup old) cut owed happens.none_owed)
 cut_happens_where_owed setup old cut (claim_completed seat number) new owed happens = absurd (some_is_not_none (owed_cut setup old) cut owed happens.none_owed)
 cut_happens_where_owed setup old cut (clock_moved time) new owed happens = absurd (some_is_not_none (owed_cut setup old) cut owed happens.none_owed)
-cut_happens_where_owed setup old cut (cut_made number) new owed happens =
-    let same : happens.cut ≡ cut = same_Some happens.cut cut (sym happens.owed ∙ owed) in
-    ap cut_made (happens.number_is ∙ ap (λ (c : PlainCut). c.number) same)
+cut_happens_where_owed setup old cut (cut_made number) new owed happens = ap cut_made (happens.number_is ∙ number_of happens.due)
+  where
+    number_of : IsDue setup old happens.cut → happens.cut.number ≡ cut.number
+    number_of (inl is) = ap (λ (c : PlainCut). c.number) (same_Some happens.cut cut (sym is ∙ owed))
+    number_of (inr back) = absurd (some_is_not_none (owed_cut setup old) cut owed back.none_owed)
 
 -- no claim is made after a cut
 pub no_claim_after_a_cut : (setup : PlainSetup) (old : PlainState) (cut : PlainCut) (seat number : ℕ) (new : PlainState) → old.cut ≡ Some cut → MayClaim setup old seat number new → ⊥
@@ -180,22 +191,35 @@ pub record IsUncut (journal : List PlainEvent) (state : PlainState) : Type 0 whe
   pub claimed_by : map (λ (claim : PlainClaim). claim.seat) state.claims ≡ claim_seats journal
   pub balance : (seat : ℕ) → count_by (is_held_by seat) state.claims + count_by (is_completion_by seat) journal ≡ count_by (is_claim_by seat) journal
 
--- What a cut was made for: a claim of the run that was done with a fault, where no monitor stops the run after the last claim; or the first
--- monitor that does.
+-- What a cut leaves that was owed: claims that are all done and committed, and no other cut is owed.
+pub record IsSettled (setup : PlainSetup) (state : PlainState) : Type 0 where
+  pub all_done : AreDone state.claims
+  pub all_committed : committed setup state ≡ length state.claims
+  pub none_owed : owed_cut setup state ≡ None
+
+-- What a cut was made for: a claim of the run that was done with a fault, where no monitor stops the run after the last claim; the first
+-- monitor that does; or want of memory, after which claims may be open.
 abbrev pub IsCutFor : PlainSetup → PlainState → PlainEnd → Type 0
 IsCutFor setup state dead = ⊥
 IsCutFor setup state steps_made = ⊥
 IsCutFor setup state (until_passed time) = ⊥
-IsCutFor setup state (fault_end e fault) = (removed : PlainClaim) × IsClaimOf setup removed × (removed.status ≡ faulted_with fault) × (removed.element ≡ e) × (stop_in setup state ≡ None)
-IsCutFor setup state (stopped_by monitor) = stop_in setup state ≡ Some monitor
+IsCutFor setup state (fault_end e fault) = IsSettled setup state × ((removed : PlainClaim) × IsClaimOf setup removed × (removed.status ≡ faulted_with fault) × (removed.element ≡ e) × (stop_in setup state ≡ None))
+IsCutFor setup state (stopped_by monitor) = IsSettled setup state × (stop_in setup state ≡ Some monitor)
+IsCutFor setup state wants_memory = Unit {0}
 
--- What a cut leaves: just the claims ahead of its number, which are all done and committed, and no other cut is owed.
+-- What a cut leaves: just the claims ahead of its number.
 pub record IsCutOff (setup : PlainSetup) (state : PlainState) (cut : PlainCut) : Type 0 where
   pub number_is : cut.number ≡ length state.claims
-  pub all_done : AreDone state.claims
-  pub all_committed : committed setup state ≡ length state.claims
-  pub none_owed : owed_cut setup state ≡ None
   pub made_for : IsCutFor setup state cut.cause
+
+-- a cut that stands was owed, and settles all, or was for want of memory
+settled_or_given_back : (setup : PlainSetup) (state : PlainState) (cause : PlainEnd) → IsCutFor setup state cause → IsSettled setup state ⊎ (cause ≡ wants_memory)
+settled_or_given_back setup state dead made_for = absurd made_for
+settled_or_given_back setup state steps_made made_for = absurd made_for
+settled_or_given_back setup state (until_passed time) made_for = absurd made_for
+settled_or_given_back setup state (fault_end e fault) made_for = inl made_for.0
+settled_or_given_back setup state (stopped_by monitor) made_for = inl made_for.0
+settled_or_given_back setup state wants_memory made_for = inr refl
 
 -- What holds in each state that a journal allows: the clock did not go back, and is one that the run may reach; at most as many claims were made as may be,
 -- numbered from 0; each that stands is one of the run; no seat has two open claims; and what holds before a cut and after it.
@@ -208,6 +232,31 @@ pub record IsReached (setup : PlainSetup) (journal : List PlainEvent) (state : P
   pub one_each : (seat : ℕ) → count_by (is_held_by seat) state.claims ≤ 1
   pub uncut : state.cut ≡ None → IsUncut journal state
   pub cut_off : (cut : PlainCut) → state.cut ≡ Some cut → IsCutOff setup state cut
+
+-- so where a claim is open no cut stands, unless for want of memory; and so it is where one is owed
+given_back_unless : (setup : PlainSetup) (journal : List PlainEvent) (state : PlainState) → IsReached setup journal state → (IsSettled setup state → ⊥) → OnlyGivenBack state.cut
+given_back_unless setup journal state r unsettled = by state.cut refl
+  where
+    because : (cut : PlainCut) → IsSettled setup state ⊎ (cut.cause ≡ wants_memory) → OnlyGivenBack (Some cut)
+    because cut (inl settled) = absurd (unsettled settled)
+    because cut (inr memory) = memory
+
+    by : (stands : Option PlainCut) → state.cut ≡ stands → OnlyGivenBack stands
+    by None is = tt
+    by (Some cut) is = because cut (settled_or_given_back setup state cut.cause (r.cut_off cut is).made_for)
+
+pub given_back_where_open
+    : (setup : PlainSetup) (journal : List PlainEvent) (state : PlainState) (i : ℕ) (claim : PlainClaim)
+    → IsReached setup journal state
+    → slice_get state.claims i ≡ Some claim
+    → is_open claim.status ≡ true
+    → OnlyGivenBack state.cut
+given_back_where_open setup journal state i claim r is opened = given_back_unless setup journal state r (λ settled.
+    let e : true ≡ false = sym opened ∙ done_is_not_open claim.status (done_at state.claims i claim settled.all_done is) in
+    cc)
+
+pub given_back_where_owed : (setup : PlainSetup) (journal : List PlainEvent) (state : PlainState) (cut : PlainCut) → IsReached setup journal state → owed_cut setup state ≡ Some cut → OnlyGivenBack state.cut
+given_back_where_owed setup journal state cut r owed = given_back_unless setup journal state r (λ settled. some_is_not_none (owed_cut setup state) cut owed settled.none_owed)
 
 -- ---- counting
 
@@ -340,13 +389,17 @@ count_completed s claim status before later closed =
     sums : (x b l new old : ℕ) → new ≡ b + (0 + l) → old ≡ b + (x + l) → new + x ≡ old
     sums x b l new old first second = omega arith
 
--- no claim is completed after a cut: each that it leaves is done
-pub no_completion_after_a_cut : (setup : PlainSetup) (journal : List PlainEvent) (old : PlainState) (seat number : ℕ) (new : PlainState) (cut : PlainCut) → IsReached setup journal old → old.cut ≡ Some cut → MayComplete setup old seat number new → ⊥
-no_completion_after_a_cut setup journal old seat number new cut r stands c =
-    let done = done_at old.claims number c.held_claim (r.cut_off cut stands).all_done c.claim_is in
-    let opened = (and_parts (is_open c.held_claim.status) (c.held_claim.seat == seat) c.held).0 in
-    let e : true ≡ false = sym opened ∙ done_is_not_open c.held_claim.status done in
-    cc
+-- a claim is completed after no cut, unless one for want of memory
+pub completes_after : (setup : PlainSetup) (journal : List PlainEvent) (old : PlainState) (seat number : ℕ) (new : PlainState) → IsReached setup journal old → MayComplete setup old seat number new → OnlyGivenBack old.cut
+completes_after setup journal old seat number new r c =
+    given_back_where_open setup journal old number c.held_claim r c.claim_is (and_parts (is_open c.held_claim.status) (c.held_claim.seat == seat) c.held).0
+
+-- a cut that stands, where none does unless for want of memory, is for that
+pub is_for_memory : (stands : Option PlainCut) (cut : PlainCut) → OnlyGivenBack stands → stands ≡ Some cut → cut.cause ≡ wants_memory
+is_for_memory stands cut only is = subst OnlyGivenBack is only
+
+for_memory : (setup : PlainSetup) (state : PlainState) (cause : PlainEnd) → cause ≡ wants_memory → IsCutFor setup state cause
+for_memory setup state cause is = subst (IsCutFor setup state) (sym is) tt
 
 completion_reaches : (setup : PlainSetup) (journal : List PlainEvent) (old : PlainState) (seat number : ℕ) (new : PlainState) → IsReached setup journal old → MayComplete setup old seat number new → IsReached setup (journal ++ claim_completed seat number ∷ []) new
 completion_reaches setup journal old seat number new r c =
@@ -366,7 +419,10 @@ completion_reaches setup journal old seat number new r c =
             λ s. balanced_by_a_completion _ _ _ _ _ _ (cond (seat == s) 1 0) (ap (λ b. count_by (is_held_by s) (parts.before ++ completed ∷ parts.later) + cond b 1 0) (sym (held_by s)) ∙ count s)
             (count_last (is_completion_by s) journal (claim_completed seat number)) (count_last (is_claim_by s) journal (claim_completed seat number)) (whole.balance s);
       };
-      cut_off = λ cut is. absurd (no_completion_after_a_cut setup journal old seat number new cut r is c);
+      cut_off = λ cut is. record {
+        number_is = (r.cut_off cut is).number_is ∙ sym lengths;
+        made_for = for_memory setup (record old { claims = parts.before ++ completed ∷ parts.later }) cut.cause (is_for_memory old.cut cut (completes_after setup journal old seat number new r c) is);
+      };
     })
   where
     claim : PlainClaim
@@ -441,30 +497,51 @@ move_reaches setup journal old time new r c =
 
 -- ---- a cut
 
--- no cut stands where one is owed
-pub uncut_where_owed : (setup : PlainSetup) (journal : List PlainEvent) (old : PlainState) (cut : PlainCut) → IsReached setup journal old → owed_cut setup old ≡ Some cut → old.cut ≡ None
-uncut_where_owed setup journal old cut r owed = by old.cut refl
-  where
-    by : (stands : Option PlainCut) → old.cut ≡ stands → stands ≡ None
-    by None is = refl
-    by (Some stood) is = absurd (some_is_not_none (owed_cut setup old) cut owed (r.cut_off stood is).none_owed)
-
 -- what is left by a cut that is owed
 left_by_a_cut : (setup : PlainSetup) (journal : List PlainEvent) (old : PlainState) (cut : PlainCut) → IsReached setup journal old → IsOwed setup old cut → IsCutOff setup (left_by setup old cut) cut
 left_by_a_cut setup journal old cut r owed = record {
   number_is = owed.number_is ∙ sym (as_many_are_committed setup.monitors [] setup.start old.claims);
-  all_done = committed_are_done setup.monitors [] setup.start old.claims;
-  all_committed = left_all setup old cut;
-  none_owed = left_owes_none setup old cut owed;
   made_for = for_it owed.cause;
 }
   where
+    settled : IsSettled setup (left_by setup old cut)
+    settled = record { all_done = committed_are_done setup.monitors [] setup.start old.claims; all_committed = left_all setup old cut; none_owed = left_owes_none setup old cut owed }
+
     for_it : ((monitor : ℕ) × (stop_in setup old ≡ Some monitor) × (cut.cause ≡ stopped_by monitor)) ⊎ ((stop_in setup old ≡ None) × IsForFault old.claims (committed setup old) cut) → IsCutFor setup (left_by setup old cut) cut.cause
-    for_it (inl (monitor, stop, cause)) = subst (IsCutFor setup (left_by setup old cut)) (sym cause) (left_stop setup old cut ∙ stop)
+    for_it (inl (monitor, stop, cause)) = subst (IsCutFor setup (left_by setup old cut)) (sym cause) (settled, left_stop setup old cut ∙ stop)
     for_it (inr (goes_on, fault)) =
         let parts = split_at old.claims (committed setup old) fault.faulted fault.claim_is in
         let removed_is : IsClaimOf setup fault.faulted = (all_parts (IsClaimOf setup) parts.before (fault.faulted ∷ parts.later) (subst (AllByRecursion (IsClaimOf setup)) parts.is r.claims_are)).1.0 in
-        subst (IsCutFor setup (left_by setup old cut)) (sym fault.cause_is) (fault.faulted, removed_is, fault.fault_is, refl, left_stop setup old cut ∙ goes_on)
+        subst (IsCutFor setup (left_by setup old cut)) (sym fault.cause_is) (settled, (fault.faulted, removed_is, fault.fault_is, refl, left_stop setup old cut ∙ goes_on))
+
+-- What a cut that may be made leaves: its number is from that of the first claim that is not committed up to that of the next claim; as many
+-- claims are committed as before, and no cut is owed.
+pub record LeavesCommitted (setup : PlainSetup) (old : PlainState) (cut : PlainCut) : Type 0 where
+  pub least : committed setup old ≤ cut.number
+  pub most : cut.number ≤ length old.claims
+  pub as_many : committed setup (left_after old cut) ≡ committed setup old
+  pub none_owed : owed_cut setup (left_after old cut) ≡ None
+
+pub cut_leaves_committed : (setup : PlainSetup) (journal : List PlainEvent) (old : PlainState) (cut : PlainCut) → IsReached setup journal old → IsDue setup old cut → LeavesCommitted setup old cut
+cut_leaves_committed setup journal old cut r (inl owed) =
+    let is = owed_is setup old cut (given_back_where_owed setup journal old cut r owed) owed in
+    let at = is.number_is in
+    let few = no_more_committed setup.monitors [] setup.start old.claims in
+    let same : left_after old cut ≡ left_by setup old cut = ap (λ k. record old { claims = take k old.claims; cut = Some cut }) at in
+    record {
+      least = omega (arith, at);
+      most = omega (arith, at, few);
+      as_many = ap (committed setup) same ∙ left_all setup old cut ∙ as_many_are_committed setup.monitors [] setup.start old.claims;
+      none_owed = ap (owed_cut setup) same ∙ left_owes_none setup old cut is;
+    }
+cut_leaves_committed setup journal old cut r (inr back) =
+    let known = place_known old.claims cut.number back.claim back.claim_is in
+    record {
+      least = committed_stay setup old cut back;
+      most = omega (arith, known);
+      as_many = still_committed setup old cut back;
+      none_owed = still_owes_none setup old cut back (given_back_where_open setup journal old cut.number back.claim r back.claim_is back.opened);
+    }
 
 cut_reaches : (setup : PlainSetup) (journal : List PlainEvent) (old : PlainState) (number : ℕ) (new : PlainState) → IsReached setup journal old → MayCut setup old number new → IsReached setup (journal ++ cut_made number ∷ []) new
 cut_reaches setup journal old number new r c =
@@ -477,13 +554,17 @@ cut_reaches setup journal old number new r c =
       claims_are = (all_parts (IsClaimOf setup) (take number old.claims) (drop number old.claims) whole).0;
       one_each = λ s. fewer (fewer_first (is_held_by s) number old.claims) (r.one_each s);
       uncut = λ none. absurd (some_is_not_none (Some c.cut) c.cut refl none);
-      cut_off = λ cut is.
-          subst (λ k. IsCutOff setup (record old { claims = take k old.claims; cut = Some c.cut }) cut) (sym (c.number_is ∙ owed.number_is))
-          (subst (λ k. IsCutOff setup (record old { claims = take (committed setup old) old.claims; cut = Some c.cut }) k) (same_Some c.cut cut is) (left_by_a_cut setup journal old c.cut r owed));
+      cut_off = λ cut is. subst (IsCutOff setup (record old { claims = take number old.claims; cut = Some c.cut })) (same_Some c.cut cut is) (off c.due);
     })
   where
-    owed : IsOwed setup old c.cut
-    owed = owed_is setup old c.cut (uncut_where_owed setup journal old c.cut r c.owed) c.owed
+    off : IsDue setup old c.cut → IsCutOff setup (record old { claims = take number old.claims; cut = Some c.cut }) c.cut
+    off (inl owed) =
+        let is = owed_is setup old c.cut (given_back_where_owed setup journal old c.cut r owed) owed in
+        subst (λ k. IsCutOff setup (record old { claims = take k old.claims; cut = Some c.cut }) c.cut) (sym (c.number_is ∙ is.number_is)) (left_by_a_cut setup journal old c.cut r is)
+    off (inr back) = subst (λ k. IsCutOff setup (record old { claims = take k old.claims; cut = Some c.cut }) c.cut) (sym c.number_is) (record {
+      number_is = let known = place_known old.claims c.cut.number back.claim back.claim_is in sym (length-take-le c.cut.number old.claims (omega (arith, known)));
+      made_for = for_memory setup (left_after old c.cut) c.cut.cause back.cause_is;
+    })
 
     whole : AllByRecursion (IsClaimOf setup) (take number old.claims ++ drop number old.claims)
     whole = subst (AllByRecursion (IsClaimOf setup)) (sym (take-append-drop number old.claims)) r.claims_are
@@ -523,10 +604,40 @@ every_state setup journal state reached =
     at_most_one : 0 ≤ 1
     at_most_one = omega arith
 
--- after a cut nothing happens
-pub nothing_happens_after_a_cut : (setup : PlainSetup) (journal : List PlainEvent) (old : PlainState) (cut : PlainCut) (event : PlainEvent) (new : PlainState) → IsReached setup journal old → old.cut ≡ Some cut → Happens setup old event new → ⊥
-nothing_happens_after_a_cut setup journal old cut (claim_made seat number) new r stands happens = no_claim_after_a_cut setup old cut seat number new stands happens
-nothing_happens_after_a_cut setup journal old cut (claim_completed seat number) new r stands happens = no_completion_after_a_cut setup journal old seat number new cut r stands happens
-nothing_happens_after_a_cut setup journal old cut (clock_moved time) new r stands happens = some_is_not_none old.cut cut stands happens.no_cut
-nothing_happens_after_a_cut setup journal old cut (cut_made number) new r stands happens =
-    some_is_not_none (owed_cut setup old) happens.cut happens.owed (r.cut_off cut stands).none_owed
+-- What may follow a cut: completions of claims ahead of its number, and cuts of no greater number.
+abbrev pub MayFollow : PlainCut → PlainEvent → Type 0
+MayFollow cut (claim_made seat number) = ⊥
+MayFollow cut (claim_completed seat number) = number < cut.number
+MayFollow cut (clock_moved time) = ⊥
+MayFollow cut (cut_made number) = number ≤ cut.number
+
+-- After a cut no claim is made, the clock does not move, and no claim from its number on is completed or given back; and after one that was owed
+-- nothing happens.
+pub follows_a_cut
+    : (setup : PlainSetup) (journal : List PlainEvent) (old : PlainState) (cut : PlainCut) (event : PlainEvent) (new : PlainState)
+    → IsReached setup journal old
+    → old.cut ≡ Some cut
+    → Happens setup old event new
+    → MayFollow cut event × (cut.cause ≡ wants_memory)
+follows_a_cut setup journal old cut (claim_made seat number) new r stands happens = absurd (no_claim_after_a_cut setup old cut seat number new stands happens)
+follows_a_cut setup journal old cut (claim_completed seat number) new r stands happens =
+    let known = place_known old.claims number happens.held_claim happens.claim_is in
+    let all = (r.cut_off cut stands).number_is in
+    (omega (arith, known, all), is_for_memory old.cut cut (completes_after setup journal old seat number new r happens) stands)
+follows_a_cut setup journal old cut (clock_moved time) new r stands happens = absurd (some_is_not_none old.cut cut stands happens.no_cut)
+follows_a_cut setup journal old cut (cut_made number) new r stands happens = by happens.due
+  where
+    all : cut.number ≡ length old.claims
+    all = (r.cut_off cut stands).number_is
+
+    at : number ≡ happens.cut.number
+    at = happens.number_is
+
+    by : IsDue setup old happens.cut → (number ≤ cut.number) × (cut.cause ≡ wants_memory)
+    by (inl owed) =
+        let few = no_more_committed setup.monitors [] setup.start old.claims in
+        let is = owed_number setup old happens.cut owed in
+        (omega (arith, few, is, at, all), is_for_memory old.cut cut (given_back_where_owed setup journal old happens.cut r owed) stands)
+    by (inr back) =
+        let known = place_known old.claims happens.cut.number back.claim back.claim_is in
+        (omega (arith, known, at, all), is_for_memory old.cut cut (given_back_where_open setup journal old happens.cut.number back.claim r back.claim_is back.opened) stands)

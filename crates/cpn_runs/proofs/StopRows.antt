@@ -1,6 +1,6 @@
 -- Worked cases of monitors that stop a run: which claims are committed, which cut is owed, and what it leaves; in the worked net, from two
 -- tokens on place 0, at the clock 3.
-use Rattle.std.proofs.Common.{◌≡◌, ℕ, List, [], ◌∷◌, Some, None, refl}
+use Rattle.std.proofs.Common.{inl, ◌≡◌, ℕ, List, [], ◌∷◌, Some, None, refl}
 use Rattle.cpn_definitions.specs.Marking.{token_at}
 use Rattle.cpn_definitions.specs.Outcome.{not_in_colour}
 use Rattle.cpn_definitions.specs.Occurrence.{needs_of}
@@ -60,7 +60,7 @@ abbrev pub stopped : PlainState
 stopped = stopped_with (done 0 ∷ []) (stop_cut 1 0)
 
 pub later_is_cut_off : MayCut (by (stops_by_count 0 1)) two_done 1 stopped
-later_is_cut_off = record { cut = stop_cut 1 0; owed = refl; number_is = refl; new_is = refl }
+later_is_cut_off = record { cut = stop_cut 1 0; due = inl refl; number_is = refl; new_is = refl }
 
 none_is_owed_then : owed_cut (by (stops_by_count 0 1)) stopped ≡ None
 none_is_owed_then = refl
@@ -105,7 +105,7 @@ whatever_comes_after : (later : List PlainClaim) → owed_cut (by (stops_by_coun
 whatever_comes_after later = refl
 
 fault_is_cut_off : MayCut (by (stops_by_count 0 1)) (with_claims (done 0 ∷ faulted ∷ [])) 1 stopped
-fault_is_cut_off = record { cut = stop_cut 1 0; owed = refl; number_is = refl; new_is = refl }
+fault_is_cut_off = record { cut = stop_cut 1 0; due = inl refl; number_is = refl; new_is = refl }
 
 -- where the occurrence does not stop the run, the cut of the fault is owed after it; and that of a fault ahead of all is owed too, as nothing has occurred
 fault_without_a_stop : owed_cut (by (stops_by_count 0 2)) (with_claims (done 0 ∷ faulted ∷ [])) ≡ Some (record { number = 1; cause = no_fault })
@@ -159,7 +159,7 @@ second_occurrence : committed (by (stops_by_count 0 2)) two_done ≡ 2
 second_occurrence = refl
 
 both_stay : MayCut (by (stops_by_count 0 2)) two_done 2 (stopped_with (done 0 ∷ done 1 ∷ []) (stop_cut 2 0))
-both_stay = record { cut = stop_cut 2 0; owed = refl; number_is = refl; new_is = refl }
+both_stay = record { cut = stop_cut 2 0; due = inl refl; number_is = refl; new_is = refl }
 
 -- of three claims, from three tokens, the second occurrence stops the run: by its number, and by the two tokens that it leaves on place 1
 abbrev from_three : PlainMeasure → PlainSetup

@@ -32,7 +32,7 @@ abbrev stopped : PlainState
 stopped = stopped_with (done 0 ∷ []) (stop_cut 1 1)
 
 stop_at_the_first : MayCut (monitored at_the_first) both_done 1 stopped
-stop_at_the_first = record { cut = stop_cut 1 1; owed = refl; number_is = refl; new_is = refl }
+stop_at_the_first = record { cut = stop_cut 1 1; due = inl refl; number_is = refl; new_is = refl }
 
 abbrev after_one : Marking
 after_one = (token_at seven 0 ∷ []) ∷ (token_at seven 5 ∷ []) ∷ []
@@ -92,7 +92,7 @@ stopped_last = stopped_with (done 0 ∷ done 1 ∷ []) (stop_cut 2 0)
 
 stop_at_the_last : MayCut (monitored at_the_last) both_done 2 stopped_last
 unfolding needs_of
-stop_at_the_last = record { cut = stop_cut 2 0; owed = refl; number_is = refl; new_is = refl }
+stop_at_the_last = record { cut = stop_cut 2 0; due = inl refl; number_is = refl; new_is = refl }
 
 -- it ends by the stop, and not for its claims; the first of the monitors is the cause
 last_run : IsRun (monitored at_the_last) (record run { journal = journal ++ cut_made 2 ∷ []; cause = stopped_by 0; values = value (counted_to_stop 2) ∷ value (sized_to_stop 2) ∷ [] })

@@ -25,7 +25,7 @@ marked_from m (claim ∷ claims) = marked_claim m claim ∷ marked_from (after_c
 abbrev pub stop_at_last : List PlainMonitor → List MarkedOccurrence → Option ℕ
 stop_at_last monitors occurrences = stop_after monitors occurrences (length occurrences - 1)
 
--- How many claims are committed, behind occurrences that left a marking: those of the longest prefix in which each is done without fault, and no
+-- How many claims are committed, after occurrences that left a marking: those of the longest prefix in which each is done without fault, and no
 -- monitor stops the run after any but the last.
 abbrev pub committed_from : List PlainMonitor → List MarkedOccurrence → Marking → List PlainClaim → ℕ
 committed_from monitors before m [] = 0

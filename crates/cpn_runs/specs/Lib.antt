@@ -2,6 +2,7 @@ pub mod HoleRun
 pub mod Filling
 pub mod Commits
 pub mod State
+pub mod GivingBack
 pub mod MeasuredStates
 pub mod Run
 pub mod Views

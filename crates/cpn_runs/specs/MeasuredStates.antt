@@ -6,11 +6,11 @@ use Rattle.cpn_runs.specs.Commits.{marked_from}
 use Rattle.cpn_runs.specs.HoleRun.{PlainClaim}
 use Rattle.cpn_runs.specs.State.{PlainSetup, PlainState, committed_claims}
 
--- what monitors are told of a run by a clock where these claims are committed
+-- what monitors are told of a run up to a clock where these claims are committed
 abbrev pub run_of : PlainSetup → ℕ → List PlainClaim → MeasuredRun
 run_of setup clock claims = record { start = setup.start; clock = setup.clock; occurrences = marked_from setup.start claims; last_clock = clock }
 
--- what they are told in a state: its committed claims, by its clock
+-- what they are told in a state: its committed claims, up to its clock
 abbrev pub measured_run : PlainSetup → PlainState → MeasuredRun
 measured_run setup state = run_of setup state.clock (committed_claims setup state)
 

@@ -8,7 +8,7 @@ use Rattle.cpn_definitions.specs.Legal.{PlainOccurrence, timed, Legal}
 use Rattle.cpn_definitions.specs.Enabled.{PlainEntry, Enabled, ready, next_time}
 use Rattle.cpn_monitor.specs.MonitorValues.{PlainMonitorValue}
 use Rattle.cpn_runs.specs.MeasuredStates.{values_in}
-use Rattle.cpn_runs.specs.State.{PlainSetup, PlainEvent, PlainEnd, dead, steps_made, until_passed, fault_end, stopped_by, PlainState, IsState, EndsBy, committed_occurrences, settled_in, stop_in}
+use Rattle.cpn_runs.specs.State.{PlainSetup, PlainEvent, PlainEnd, dead, steps_made, until_passed, fault_end, stopped_by, wants_memory, PlainState, IsState, EndsBy, committed_occurrences, settled_in, stop_in}
 
 -- The number of the ready elements of a marking at a clock, and the next time.
 pub record Outlook : Type 0 where
@@ -41,6 +41,7 @@ IsTrueFault n m clock dead = Unit {0}
 IsTrueFault n m clock steps_made = Unit {0}
 IsTrueFault n m clock (until_passed time) = Unit {0}
 IsTrueFault n m clock (stopped_by monitor) = Unit {0}
+IsTrueFault n m clock wants_memory = Unit {0}
 IsTrueFault n m clock (fault_end e fault) = (covered n m clock e ≡ true) × (outputs_of n e clock ≡ faults fault)
 
 -- Where the cause is a stop, its monitor is the first that stops the run after the last committed claim.
@@ -49,6 +50,7 @@ IsTrueStop setup state dead = Unit {0}
 IsTrueStop setup state steps_made = Unit {0}
 IsTrueStop setup state (until_passed time) = Unit {0}
 IsTrueStop setup state (fault_end e fault) = Unit {0}
+IsTrueStop setup state wants_memory = Unit {0}
 IsTrueStop setup state (stopped_by monitor) = stop_in setup state ≡ Some monitor
 
 -- A run of a setup: the journal leads to a state that ends by the cause; the occurrences are those that are committed

@@ -1,7 +1,7 @@
 -- What a run's journal says: the events that may happen, and the state that they lead to.
 -- Source: own choice. The occurrences of such a run are a legal occurrence sequence of Jensen and
 -- Kristensen, chapter 11, which is a theorem and no part of this definition.
-use Rattle.std.specs.Prelude.{◌≡◌, ◌≢◌, ℕ, suc, ◌<◌, ◌≤◌, ◌%◌, ◌&&◌, ◌==◌, if◌then◌else◌, Bool, true, false, List, [], ◌∷◌, ◌++◌, length, take, Option, Some, None, MatchOption, slice_get, slice_set}
+use Rattle.std.specs.Prelude.{◌≡◌, ◌≢◌, ℕ, suc, ◌<◌, ◌≤◌, ◌%◌, ◌&&◌, ◌==◌, ◌⊎◌, if◌then◌else◌, Bool, true, false, List, [], ◌∷◌, ◌++◌, length, take, Option, Some, None, MatchOption, slice_get, slice_set}
 use Rattle.std.specs.List.{list_any}
 use Rattle.cpn_definitions.specs.Inscription.{Functions}
 use Rattle.cpn_definitions.specs.Marking.{Marking}
@@ -41,13 +41,15 @@ pub data PlainEvent : Type 0 where
   cut_made : ℕ → PlainEvent
 
 -- How a run ends: no element is covered at any time; as many claims were made as it may make; the least time at which an
--- element is covered is above the last one that it may reach; the outputs of an element had a fault; or the monitor of a number stopped it.
+-- element is covered is above the last one that it may reach; the outputs of an element had a fault; the monitor of a number stopped it; or a
+-- claim was given back for want of memory.
 pub data PlainEnd : Type 0 where
   dead : PlainEnd
   steps_made : PlainEnd
   until_passed : ℕ → PlainEnd
   fault_end : PlainElement → Fault → PlainEnd
   stopped_by : ℕ → PlainEnd
+  wants_memory : PlainEnd
 
 -- A cut: the number from which on claims were removed, and the cause.
 pub record PlainCut : Type 0 where
@@ -99,6 +101,7 @@ is_cause monitor steps_made = false
 is_cause monitor (until_passed time) = false
 is_cause monitor (fault_end e fault) = false
 is_cause monitor (stopped_by other) = monitor == other
+is_cause monitor wants_memory = false
 
 -- whether a cut is the one that a monitor makes after so many claims
 abbrev pub is_cut_by_stop : ℕ → ℕ → Option PlainCut → Bool
@@ -187,11 +190,23 @@ pub record MayMove (setup : PlainSetup) (old : PlainState) (time : ℕ) (new : P
   pub in_time : time ≤ setup.limits.until
   pub new_is : new ≡ record old { clock = time }
 
--- Cut: it is owed, and has the number. The claims from that number on are removed, and the cut stands; what they took is
--- back in the marking that the claims leave.
+-- A cut for want of memory: none is owed, and the claim of its number is open, and is given back.
+pub record IsGivenBack (setup : PlainSetup) (old : PlainState) (cut : PlainCut) : Type 0 where
+  pub none_owed : owed_cut setup old ≡ None
+  pub claim : PlainClaim
+  pub claim_is : slice_get old.claims cut.number ≡ Some claim
+  pub opened : is_open claim.status ≡ true
+  pub cause_is : cut.cause ≡ wants_memory
+
+-- A cut that may be made: it is owed, or gives a claim back.
+abbrev pub IsDue : PlainSetup → PlainState → PlainCut → Type 0
+IsDue setup old cut = (owed_cut setup old ≡ Some cut) ⊎ IsGivenBack setup old cut
+
+-- Cut: it is due, and has the number. The claims from that number on are removed, and the cut stands; what they took is
+-- back in the marking that the claims leave. Claims ahead of the number may still be open.
 pub record MayCut (setup : PlainSetup) (old : PlainState) (number : ℕ) (new : PlainState) : Type 0 where
   pub cut : PlainCut
-  pub owed : owed_cut setup old ≡ Some cut
+  pub due : IsDue setup old cut
   pub number_is : number ≡ cut.number
   pub new_is : new ≡ record old { claims = take number old.claims; cut = Some cut }
 
@@ -233,6 +248,7 @@ HasCause setup state (until_passed time) =
     × ((marking : Marking) × (unclaimed_in setup state ≡ Some marking) × LeastTime setup.net marking state.clock time)
 HasCause setup state (fault_end e fault) = ⊥
 HasCause setup state (stopped_by monitor) = ⊥
+HasCause setup state wants_memory = ⊥
 
 -- End: no claim is open and no cut is owed. The cause is that of the last cut, or else that for which a run
 -- with no cut ends.

@@ -1,7 +1,7 @@
 -- The plain events, limits and ends that those of the program stand for.
 use Rattle.cpn_core.specs.Elements.{element_view}
 use Rattle.cpn_core.specs.Faults.{fault_view}
-use Rattle.cpn_runs.specs.State.{PlainEvent, claim_made, claim_completed, clock_moved, cut_made, PlainEnd, dead, steps_made, until_passed, fault_end, stopped_by, PlainLimits}
+use Rattle.cpn_runs.specs.State.{PlainEvent, claim_made, claim_completed, clock_moved, cut_made, PlainEnd, dead, steps_made, until_passed, fault_end, stopped_by, wants_memory, PlainLimits}
 use Rattle.cpn_runs.specs.declared.events.Event.{Event}
 use Rattle.cpn_runs.specs.declared.events.Event.TheVariants as events
 use Rattle.cpn_runs.specs.declared.events.End.{End}
@@ -19,6 +19,7 @@ end_view ends.Dead = dead
 end_view ends.Steps = steps_made
 end_view (ends.Until time) = until_passed time
 end_view (ends.Stop monitor) = stopped_by monitor
+end_view ends.Memory = wants_memory
 end_view (ends.Fault element fault) = fault_end (element_view element) (fault_view fault)
 
 abbrev pub limits_view : Limits → PlainLimits

@@ -28,13 +28,16 @@ pub struct Limits {
     pub seats: u32,
 }
 
-/// The cause of a run's end, in the order in which they are tried.
+/// The cause of a run's end: first those of a cut, of which the last that was made counts; then those of a run without one, in the order in
+/// which they are tried.
 #[derive(Drop)]
 pub enum End {
     /// The monitor of this number, from 0, stops the run after its last occurrence.
     Stop(u64),
     /// The outputs of the element have this fault.
     Fault(Element, EvalFault),
+    /// A claim was given back for want of memory.
+    Memory,
     /// As many claims were made as the limit allows.
     Steps,
     /// No binding element is enabled at any time.

@@ -48,7 +48,7 @@ module _ (printable : RunsArePrintable) (bytes : List ℕ) (words : List (List �
 
   its_printable : IsPrintable report.is_report.model.loaded.net its_run
   its_printable =
-      printable (setup_from report.is_report.model report.options) its_run (record { sound = its_well.well.well.sound; named = its_well.well.well.named }) its_well.well.well.marking report.is_report.is_report.is_run
+      printable (setup_from report.is_report.model report.options) its_run (record { sound = its_well.well.well.sound; named = its_well.well.well.named }) its_well.well.well.marking report.is_report.is_report.is_run report.is_report.is_report.ends_otherwise
 
   its_text : HasTrace report → report_text traces.On (setup_from report.is_report.model report.options) its_run ≡ text
   its_text on = sym (subst (λ (trace : Trace). text ≡ report_text trace (setup_from report.is_report.model report.options) its_run) on report.is_report.is_report.text_is)

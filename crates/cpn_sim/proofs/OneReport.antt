@@ -27,7 +27,7 @@ pub record IsSameReport (status status' : Status) (report other : List ℕ) : Ty
 of_one_net : (model : PlainModel) (options : PlainOptions) (s s' : Status) (report other : List ℕ) → options.workers ≡ 1 → IsReportOf model options s report → IsReportOf model options s' other → IsSameReport s s' report other
 of_one_net model options s s' report other one a b =
     let in_time : 0 ≤ options.until = omega arith in
-    let same = one_run (setup_from model options) a.run b.run one in_time a.is_run b.is_run in
+    let same = one_run (setup_from model options) a.run b.run one in_time a.is_run a.ends_otherwise b.is_run b.ends_otherwise in
     record {
       reports = a.text_is ∙ ap (report_text options.trace (setup_from model options)) same ∙ sym b.text_is;
       statuses = a.status_is ∙ ap (λ (run : PlainFinished). status_after run.cause) same ∙ sym b.status_is;

@@ -1,6 +1,6 @@
 -- The report that a run of a document gives, and the status that it has. Source: own choice.
-use Rattle.std.specs.Prelude.{◌≡◌, ℕ, ◌⊎◌, List, [], Some}
-use Rattle.cpn_runs.specs.State.{PlainSetup, PlainEnd, dead, steps_made, until_passed, fault_end, stopped_by}
+use Rattle.std.specs.Prelude.{◌≡◌, ◌≢◌, ℕ, ◌⊎◌, List, Some}
+use Rattle.cpn_runs.specs.State.{PlainSetup, PlainEnd, dead, steps_made, until_passed, fault_end, stopped_by, wants_memory}
 use Rattle.cpn_runs.specs.Run.{PlainFinished, IsRun}
 use Rattle.cpn_model.specs.Models.{IsModel}
 use Rattle.cpn_model.specs.Reading.{PlainModel, read}
@@ -28,6 +28,7 @@ status_after steps_made = statuses.Done
 status_after (until_passed time) = statuses.Done
 status_after (stopped_by monitor) = statuses.Done
 status_after (fault_end e fault) = statuses.RunFault
+status_after wants_memory = statuses.Memory
 
 -- the status is that of a report
 abbrev pub IsReported : Status → Type 0
@@ -37,10 +38,11 @@ IsReported status = (status ≡ statuses.Done) ⊎ (status ≡ statuses.RunFault
 -- that ends by the cause, its occurrences are a legal occurrence sequence from the initial marking to the printed one; where
 -- the cause is a fault, its element is covered at the printed marking and clock, and its outputs have the fault, and where it is a
 -- stop, its monitor is the first that stops the run after the last occurrence; what is printed as ready and next, at the start and at
--- the end, is that of the enabled elements; and what is printed of each monitor is what it measures of those occurrences, up to the printed clock.
+-- the end, is that of the enabled elements; it does not end for want of memory; and what is printed of each monitor is what it measures of those occurrences, up to the printed clock.
 pub record IsReportOf (model : PlainModel) (options : PlainOptions) (status : Status) (report : List ℕ) : Type 0 where
   pub run : PlainFinished
   pub is_run : IsRun (setup_from model options) run
+  pub ends_otherwise : run.cause ≢ wants_memory
   pub status_is : status ≡ status_after run.cause
   pub text_is : report ≡ report_text options.trace (setup_from model options) run
 

@@ -1,6 +1,6 @@
 //! From the words and the source to the report, or to the reason why there is none.
 
-ghost use Rattle.std.specs.Prelude.{◌≡◌, ◌≤◌, ◌⊎◌, [], length, Some, None, Err, map, string_bytes, IfOk, IfErr, OnOk, IfSome, MatchOption};
+ghost use Rattle.std.specs.Prelude.{◌≡◌, ◌≢◌, ◌≤◌, ◌⊎◌, [], length, Some, None, Err, map, string_bytes, IfOk, IfErr, OnOk, IfSome, MatchOption};
 ghost use Rattle.cpn_model.specs.Views.{model_view};
 ghost use Rattle.cpn_core.specs.Inscriptions.{funs_view};
 ghost use Rattle.cpn_core.specs.Nets.{net_view};
@@ -11,6 +11,7 @@ ghost use Rattle.cpn_monitor.specs.Views.{monitors_view};
 ghost use Rattle.cpn_sim.specs.Limits.{most_bytes};
 ghost use Rattle.cpn_sim.specs.Options.{PlainOptions, options_from};
 ghost use Rattle.cpn_sim.specs.OptionsView.{options_view};
+ghost use Rattle.cpn_runs.specs.State.{wants_memory};
 ghost use Rattle.cpn_runs.specs.Views.{end_view};
 ghost use Rattle.cpn_sim.specs.Reported.{status_after, IsReported, IsReport, IsReportOf};
 ghost use Rattle.cpn_sim.specs.Causes.{HasCause, GiveOptions, HaveOneReading, IsReadOnce};
@@ -98,8 +99,9 @@ fn report_of(alloc: Global, options: &Options, model: Model) -> Result<Report, M
     Ok(Report { text, status })
 }
 
-/// The status of a run that has ended by the cause.
+/// The status of a run that has ended by the cause, which is not want of memory.
 fn status_after(cause: &End) -> Status
+    requires told { end_view cause.now ≢ wants_memory }
     ensures status { result ≡ status_after (end_view cause.now) }
     ensures reported { IsReported result }
 {
@@ -109,5 +111,6 @@ fn status_after(cause: &End) -> Status
         End::Dead => Status::Done,
         End::Until(_) => Status::Done,
         End::Stop(_) => Status::Done,
+        End::Memory => unreachable!(),
     }
 }

@@ -1,1 +1,3 @@
+mod SeenItems
 mod ShownBooks
+mod ToldEnds

@@ -8,18 +8,21 @@ use Rattle.cpn_jobs.specs.Work.{PlainJob}
 use Rattle.cpn_runs.specs.HoleRun.{PlainClaim, is_open}
 use Rattle.cpn_runs.specs.State.{PlainSetup, claim_made}
 use Rattle.cpn_runs.proofs.States.{IsClaimOf, every_state, event_reaches}
-use Rattle.cpn_book.specs.Answers.{AnswersClaim, AnswersEvaluation, job_if_open}
+use Rattle.cpn_book.specs.Answers.{AnswersClaim, AnswersEvaluation, AnswersGivenBack, job_if_open}
 use Rattle.cpn_book.specs.Books.{setup_in, journal_in, InState}
 use Rattle.cpn_book.specs.States.{claimed_job}
 use Rattle.cpn_book.specs.Tickets.{number_of, evaluated_number}
 use Rattle.cpn_book.specs.declared.books.Book.{Book}
 use Rattle.cpn_book.specs.declared.tickets.Evaluated.{Evaluated}
+use Rattle.cpn_book.specs.declared.tickets.Ticket.{Ticket}
 use Rattle.cpn_book.specs.declared.answers.Claimed.{Claimed}
 use Rattle.cpn_book.specs.declared.answers.Claimed.TheVariants as claims
 use Rattle.cpn_book.specs.declared.answers.Completed.{Completed}
 use Rattle.cpn_book.specs.declared.answers.Completed.TheVariants as completions
+use Rattle.cpn_book.specs.declared.answers.GivenBack.{GivenBack}
+use Rattle.cpn_book.specs.declared.answers.GivenBack.TheVariants as returns
 use Rattle.std.proofs.lemmas.Option.{same_Some}
-use Rattle.cpn_test_schedules.specs.Shown.{IsShown, HasElement, TellsElement, KeepsElement}
+use Rattle.cpn_test_schedules.specs.Shown.{IsShown, HasElement, TellsElement, KeepsElement, KeepsElementGivenBack}
 
 -- a claim among those of a run has a binding element
 claim_shown : (setup : PlainSetup) (claims : List PlainClaim) (k : ℕ) (claim : PlainClaim) → AllByRecursion (IsClaimOf setup) claims → slice_get claims k ≡ Some claim → HasElement setup.net (claimed_job setup claim)
@@ -61,4 +64,18 @@ kept_shown book after seat done (completions.Stranger (Some job) brought) is tel
     let setup = setup_in book in
     let state = is.kept.state in
     let told = (tells state is.kept.reached).2 in
-    open_shown setup state.claims (evaluated_number done) (slice_get state.claims (evaluated_number done)) (job_view job.value) (every_state setup (journal_in book) state is.kept.reached).claims_are refl told.3
+    open_shown setup state.claims (evaluated_number done) (slice_get state.claims (evaluated_number done)) (job_view job.value) (every_state setup (journal_in book) state is.kept.reached).claims_are refl told.2.2
+
+pub given_back_shown
+    : (book after : Book) (seat : ℕ) (ticket : Ticket) (answer : GivenBack)
+    → IsShown book
+    → AnswersGivenBack book after seat ticket answer
+    → KeepsElementGivenBack (setup_in book).net answer
+given_back_shown book after seat ticket returns.Cut is tells = tt
+given_back_shown book after seat ticket (returns.Void number) is tells = tt
+given_back_shown book after seat ticket (returns.Stranger None brought) is tells = tt
+given_back_shown book after seat ticket (returns.Stranger (Some job) brought) is tells =
+    let setup = setup_in book in
+    let state = is.kept.state in
+    let told = (tells state is.kept.reached).2 in
+    open_shown setup state.claims (number_of ticket) (slice_get state.claims (number_of ticket)) (job_view job.value) (every_state setup (journal_in book) state is.kept.reached).claims_are refl told.2.2

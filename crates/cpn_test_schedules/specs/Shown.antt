@@ -1,5 +1,5 @@
 -- What is asked for of what is printed, so that each value has its text. Source: own choice.
-use Rattle.std.specs.Prelude.{◌≡◌, ◌≤◌, ◌<◌, true, MatchOption}
+use Rattle.std.specs.Prelude.{◌≡◌, ◌≤◌, ◌<◌, true, Option, MatchOption}
 use Rattle.cpn_definitions.specs.Named.{IsNamed}
 use Rattle.cpn_definitions.specs.Net.{PlainNet}
 use Rattle.cpn_definitions.specs.Times.{last_time}
@@ -16,6 +16,8 @@ use Rattle.cpn_book.specs.declared.answers.Claimed.{Claimed}
 use Rattle.cpn_book.specs.declared.answers.Claimed.TheVariants as claims
 use Rattle.cpn_book.specs.declared.answers.Completed.{Completed}
 use Rattle.cpn_book.specs.declared.answers.Completed.TheVariants as completions
+use Rattle.cpn_book.specs.declared.answers.GivenBack.{GivenBack}
+use Rattle.cpn_book.specs.declared.answers.GivenBack.TheVariants as returns
 
 -- Limits within their ranges.
 pub record AreLimits (limits : PlainLimits) : Type 0 where
@@ -46,8 +48,17 @@ TellsElement n (claims.Busy number) = Unit {0}
 TellsElement n (claims.Nothing held) = Unit {0}
 TellsElement n (claims.Ticket ticket) = HasElement n (job_of ticket)
 
--- the job in the answer, if there is one, is of a binding element
+-- the job that is kept, if there is one, is of a binding element
+abbrev pub HasKept : {J : Type 0} → (J → PlainJob) → PlainNet → Option J → Type 0
+HasKept view n kept = MatchOption kept (Unit {0}) (λ job. HasElement n (view job))
+
+-- so it is in the answer to an evaluation, and in that to a ticket that is given back
 abbrev pub KeepsElement : PlainNet → Completed → Type 0
 KeepsElement n completions.Done = Unit {0}
 KeepsElement n (completions.Void number) = Unit {0}
-KeepsElement n (completions.Stranger kept brought) = MatchOption kept (Unit {0}) (λ job. HasElement n (job_view job.value))
+KeepsElement n (completions.Stranger kept brought) = HasKept (λ job. job_view job.value) n kept
+
+abbrev pub KeepsElementGivenBack : PlainNet → GivenBack → Type 0
+KeepsElementGivenBack n returns.Cut = Unit {0}
+KeepsElementGivenBack n (returns.Void number) = Unit {0}
+KeepsElementGivenBack n (returns.Stranger kept brought) = HasKept (λ job. job_view job.value) n kept

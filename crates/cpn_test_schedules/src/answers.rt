@@ -3,14 +3,15 @@
 ghost use Rattle.cpn_core.specs.Nets.{net_view};
 ghost use Rattle.cpn_jobs.specs.Views.{job_view};
 ghost use Rattle.cpn_report.specs.Printable.{IsPrintableNet};
-ghost use Rattle.cpn_test_schedules.specs.Shown.{HasElement, KeepsElement, TellsElement};
+ghost use Rattle.cpn_test_schedules.specs.Shown.{HasElement, HasKept, KeepsElement, KeepsElementGivenBack, TellsElement};
 
-use cpn_book::{Advanced, Claimed, Completed};
+use cpn_book::{Advanced, Claimed, Completed, GivenBack};
 use cpn_core::{Memory, Net};
 use cpn_jobs::Job;
 use cpn_report::push_element;
 use std::alloc::Global;
 use std::fmt::Write;
+use std::sync::Arc;
 
 /// The answer to a seat that makes a claim.
 pub fn claimed_text(alloc: Global, net: &Net, answer: &Claimed) -> Result<String, Memory>
@@ -41,14 +42,21 @@ pub fn completed_text(alloc: Global, net: &Net, answer: &Completed) -> Result<St
     match answer {
         Completed::Done => out.push_str("done")?,
         Completed::Void { number } => write!(out, "void {number}")?,
-        Completed::Stranger {
-            kept: Some(job),
-            ..
-        } => {
-            out.push_str("stranger ")?;
-            push_job(&mut out, net, job)?;
-        }
-        Completed::Stranger { kept: None, .. } => out.push_str("stranger none")?,
+        Completed::Stranger { kept, .. } => push_stranger(&mut out, net, kept)?,
+    }
+    Ok(out)
+}
+
+/// The answer to a seat that gives a ticket back.
+pub fn given_back_text(alloc: Global, net: &Net, answer: &GivenBack) -> Result<String, Memory>
+    requires net { IsPrintableNet (net_view net.now) }
+    requires element { KeepsElementGivenBack (net_view net.now) answer.now }
+{
+    let mut out = String::new(alloc);
+    match answer {
+        GivenBack::Cut => out.push_str("cut")?,
+        GivenBack::Void { number } => write!(out, "void {number}")?,
+        GivenBack::Stranger { kept, .. } => push_stranger(&mut out, net, kept)?,
     }
     Ok(out)
 }
@@ -67,6 +75,23 @@ pub fn advanced_text(alloc: Global, answer: Advanced) -> Result<String, Memory> 
         Advanced::Spent => out.push_str("spent")?,
     }
     Ok(out)
+}
+
+/// Appends that what was brought is a stranger, and the job of the open claim of its number, if there is one.
+fn push_stranger(out: &mut String, net: &Net, kept: &Option<Arc<Job>>) -> Result<(), Memory>
+    requires net { IsPrintableNet (net_view net.now) }
+    requires element { HasKept (λ job. job_view job.value) (net_view net.now) kept.now }
+{
+    match kept {
+        Some(job) => {
+            out.push_str("stranger ")?;
+            push_job(out, net, job)
+        }
+        None => {
+            out.push_str("stranger none")?;
+            Ok(())
+        }
+    }
 }
 
 /// Appends a job: its time and its element.

@@ -1,11 +1,11 @@
 //! The calls of a schedule.
 
-/// Whose evaluations a seat brings.
+/// Of which run a seat brings an evaluation or a ticket.
 #[derive(Clone, Copy, Debug, PartialEq, Eq)]
 pub enum Run {
-    /// Those of the run's own claims.
+    /// Of the run itself.
     Own,
-    /// Those of the run of the net beside.
+    /// Of the run of the net beside.
     Beside,
 }
 
@@ -16,6 +16,8 @@ pub enum Call {
     Claim { seat: u32 },
     /// A seat brings the evaluation of the claim of a number of a run.
     Complete { seat: u32, run: Run, number: u64 },
+    /// A seat gives the ticket of the claim of a number of a run back.
+    GiveBack { seat: u32, run: Run, number: u64 },
     /// The clock moves, where it may.
     Advance,
     /// The transitions are searched in the unclaimed marking, for what is enabled from a time on.
@@ -39,6 +41,16 @@ pub fn call_in(line: &str) -> Option<Call> {
             number: number_in(words.next()?)?,
         },
         "bring" => Call::Complete {
+            seat: seat_in(words.next()?)?,
+            run: Run::Beside,
+            number: number_in(words.next()?)?,
+        },
+        "back" => Call::GiveBack {
+            seat: seat_in(words.next()?)?,
+            run: Run::Own,
+            number: number_in(words.next()?)?,
+        },
+        "bring_back" => Call::GiveBack {
             seat: seat_in(words.next()?)?,
             run: Run::Beside,
             number: number_in(words.next()?)?,

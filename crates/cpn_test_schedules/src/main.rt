@@ -1,13 +1,14 @@
 //! The program: a net document and a schedule of calls in, a table of what they answer out.
 //!
 //! It makes the calls of the schedule on the book of one run, one after another, and prints what each answers and where the run then
-//! stands. Several seats claim and complete in whatever order the schedule says. The program decides no rule of nets and of runs itself:
+//! stands. Several seats claim, complete and give back in whatever order the schedule says. The program decides no rule of nets and of runs itself:
 //! the answers are the book's.
 #![tactic(auto)]
 
 mod answers;
 mod calls;
 mod documents;
+mod hands;
 mod plays;
 mod refusals;
 mod rows;
@@ -15,7 +16,8 @@ mod searches;
 mod words;
 
 use crate::documents::{model_from, text_from};
-use crate::plays::{evaluations_of, play};
+use crate::hands::Hand;
+use crate::plays::{play, tickets_of};
 use crate::refusals::Refusal;
 use crate::words::{Options, options_from};
 use cpn_io::{Stdout, write_all};
@@ -46,11 +48,11 @@ fn table_of(rt: &(impl Env + Files + AllocGlobal)) -> Result<String, Refusal> {
     let words = command_words(rt)?;
     let options = options_from(rt.alloc(), &words)?;
     let brought = match options.beside {
-        Some(beside) => evaluations_of(
+        Some(beside) => tickets_of(
             rt.alloc(),
             options.setup(rt.alloc(), model_from(rt, beside)?)?,
         )?,
-        None => Vec::new(rt.alloc()),
+        None => Hand::new(rt.alloc()),
     };
     let setup = options.setup(rt.alloc(), model_from(rt, options.net)?)?;
     let schedule = text_from(rt, options.schedule)?;

@@ -6,42 +6,37 @@ ghost use Rattle.cpn_runs.specs.FinishedViews.{setup_view};
 ghost use Rattle.cpn_runs.specs.Playable.{IsPlayable};
 ghost use Rattle.cpn_test_schedules.specs.Shown.{IsShown, IsShownSetup};
 
-use crate::answers::{advanced_text, claimed_text, completed_text};
+use crate::answers::{advanced_text, claimed_text, completed_text, given_back_text};
 use crate::calls::{Call, Run, call_in, is_idle};
+use crate::hands::Hand;
 use crate::refusals::Refusal;
 use crate::rows::{HEAD, net_of, push_end, push_row};
 use crate::searches::searched_text;
-use cpn_book::{Book, Claimed, Completed, Evaluated, Finish};
+use cpn_book::{Book, Claimed, Completed, Evaluated, Finish, GivenBack, Ticket};
 use cpn_core::Memory;
-use cpn_report::printable_runs;
 use cpn_runs::Setup;
 use std::alloc::Global;
 
-/// The table so far, and the evaluations at hand.
+/// The table so far, and what is at hand of claims.
 #[derive(Drop)]
 struct Table {
     alloc: Global,
     out: String,
-    /// Those of the run's own claims.
-    held: Vec<Evaluated>,
-    /// Those of the net beside.
-    brought: Vec<Evaluated>,
+    /// What is at hand of the claims of the run itself.
+    own: Hand,
+    /// What is at hand of those of the net beside.
+    brought: Hand,
 }
 
-/// The table of the calls of a schedule on a run from the setup, where the evaluations that are brought are at hand.
-pub fn play(
-    alloc: Global,
-    setup: Setup,
-    brought: Vec<Evaluated>,
-    schedule: &str,
-) -> Result<String, Refusal>
+/// The table of the calls of a schedule on a run from the setup, where the tickets that are brought are at hand.
+pub fn play(alloc: Global, setup: Setup, brought: Hand, schedule: &str) -> Result<String, Refusal>
     requires shown { IsShownSetup (setup_view setup) }
 {
     let book = Book::start(alloc, setup)?;
     let mut table = Table {
         alloc,
         out: String::from_str(alloc, HEAD)?,
-        held: Vec::new(alloc),
+        own: Hand::new(alloc),
         brought,
     };
     push_row(&mut table.out, "start", "begun", &book)?;
@@ -60,19 +55,16 @@ pub fn play(
     Ok(table.out)
 }
 
-/// The evaluations of the claims that the seats make, one each, at the start of a run.
-pub fn evaluations_of(alloc: Global, setup: Setup) -> Result<Vec<Evaluated>, Memory>
+/// The tickets of the claims that the seats make, one each, at the start of a run.
+pub fn tickets_of(alloc: Global, setup: Setup) -> Result<Hand, Memory>
     requires playable { IsPlayable (setup_view setup) }
 {
     let seats = setup.limits.seats;
     let mut book = Book::start(alloc, setup)?;
-    let mut found = Vec::new(alloc);
+    let mut found = Hand::new(alloc);
     for seat in 0..seats {
         if let Claimed::Ticket(ticket) = book.claim(seat)? {
-            let Ok(done) = ticket.evaluate() else {
-                return Err(Memory);
-            };
-            found.push(done)?;
+            found.put_ticket(ticket)?;
         }
     }
     Ok(found)
@@ -95,12 +87,16 @@ impl Table {
                 Ok(Some(self.claim(book, line, seat)?))
             }
             Call::Complete { seat, run, number } => {
-                let Some(done) = taken(self.hand(run), number) else {
+                let Some(done) = self.hand(run).take_evaluation(number)? else {
                     return Err(refused(place, "no evaluation of that claim is at hand"));
                 };
-                let (book, back) = self.complete(book, line, seat, done)?;
-                put_back(self.hand(run), back)?;
-                Ok(Some(book))
+                Ok(Some(self.bring(book, line, seat, run, done)?))
+            }
+            Call::GiveBack { seat, run, number } => {
+                let Some(ticket) = self.hand(run).take_ticket(number) else {
+                    return Err(refused(place, "no ticket of that claim is at hand"));
+                };
+                Ok(Some(self.bring_back(book, line, seat, run, ticket)?))
             }
             Call::Advance => Ok(Some(self.advance(book, line)?)),
             Call::Search { time } => Ok(Some(self.search(book, line, time)?)),
@@ -112,15 +108,53 @@ impl Table {
         }
     }
 
-    /// The evaluations of a run that are at hand.
-    fn hand(&mut self, run: Run) -> &mut Vec<Evaluated> {
+    /// A completion by a seat. The evaluation is at hand again, where it comes back.
+    fn bring(
+        &mut self,
+        book: Book,
+        line: &str,
+        seat: u32,
+        run: Run,
+        done: Evaluated,
+    ) -> Result<Book, Memory>
+        requires shown { IsShown book }
+        ensures shown { IfOk result (λ book. IsShown book) }
+    {
+        let (book, back) = self.complete(book, line, seat, done)?;
+        if let Some(done) = back {
+            self.hand(run).put_evaluation(done)?;
+        }
+        Ok(book)
+    }
+
+    /// A ticket that a seat gives back. It is at hand again, where it comes back.
+    fn bring_back(
+        &mut self,
+        book: Book,
+        line: &str,
+        seat: u32,
+        run: Run,
+        ticket: Ticket,
+    ) -> Result<Book, Memory>
+        requires shown { IsShown book }
+        ensures shown { IfOk result (λ book. IsShown book) }
+    {
+        let (book, back) = self.give_back(book, line, seat, ticket)?;
+        if let Some(ticket) = back {
+            self.hand(run).put_ticket(ticket)?;
+        }
+        Ok(book)
+    }
+
+    /// What is at hand of the claims of a run.
+    fn hand(&mut self, run: Run) -> &mut Hand {
         match run {
-            Run::Own => &mut self.held,
+            Run::Own => &mut self.own,
             Run::Beside => &mut self.brought,
         }
     }
 
-    /// A claim of a seat. The evaluation of its ticket is then at hand.
+    /// A claim of a seat. Its ticket is then at hand.
     fn claim(&mut self, book: Book, line: &str, seat: u32) -> Result<Book, Memory>
         requires shown { IsShown book }
         requires known { seat < (setup_in book).limits.seats }
@@ -131,10 +165,7 @@ impl Table {
         let answer = claimed_text(self.alloc, net_of(&book), &claimed)?;
         push_row(&mut self.out, line, answer.as_str(), &book)?;
         if let Claimed::Ticket(ticket) = claimed {
-            let Ok(done) = ticket.evaluate() else {
-                return Err(Memory);
-            };
-            self.held.push(done)?;
+            self.own.put_ticket(ticket)?;
         }
         Ok(book)
     }
@@ -154,7 +185,25 @@ impl Table {
         let completed = book.complete(seat, done)?;
         let answer = completed_text(self.alloc, net_of(&book), &completed)?;
         push_row(&mut self.out, line, answer.as_str(), &book)?;
-        Ok((book, back_of(completed)))
+        Ok((book, evaluation_of(completed)))
+    }
+
+    /// A ticket that a seat gives back: the book after it, and the ticket, where it comes back.
+    fn give_back(
+        &mut self,
+        book: Book,
+        line: &str,
+        seat: u32,
+        ticket: Ticket,
+    ) -> Result<(Book, Option<Ticket>), Memory>
+        requires shown { IsShown book }
+        ensures shown { IfOk result (λ after. IsShown after.0) }
+    {
+        let mut book = book;
+        let given_back = book.give_back(seat, ticket)?;
+        let answer = given_back_text(self.alloc, net_of(&book), &given_back)?;
+        push_row(&mut self.out, line, answer.as_str(), &book)?;
+        Ok((book, ticket_of(given_back)))
     }
 
     /// A move of the clock.
@@ -186,7 +235,6 @@ impl Table {
     fn alone(&mut self, book: Book, line: &str) -> Result<(), Memory>
         requires shown { IsShown book }
     {
-        printable_runs();
         let finished = book.run_alone()?;
         push_end(&mut self.out, self.alloc, line, &finished)
     }
@@ -196,7 +244,6 @@ impl Table {
         requires shown { IsShown book }
         ensures shown { IfOk result (λ run. IfSome run (λ book. IsShown book)) }
     {
-        printable_runs();
         match book.finish() {
             Finish::Ended(finished) => {
                 push_end(&mut self.out, self.alloc, line, &finished)?;
@@ -211,14 +258,8 @@ impl Table {
     }
 }
 
-/// The evaluation of the claim of a number, taken out of those at hand.
-fn taken(held: &mut Vec<Evaluated>, number: u64) -> Option<Evaluated> {
-    let at = held.iter().position(|done| done.number() == number)?;
-    Some(held.remove(at))
-}
-
 /// The evaluation that comes back with an answer.
-fn back_of(completed: Completed) -> Option<Evaluated> {
+fn evaluation_of(completed: Completed) -> Option<Evaluated> {
     match completed {
         Completed::Stranger {
             kept: _kept,
@@ -229,12 +270,16 @@ fn back_of(completed: Completed) -> Option<Evaluated> {
     }
 }
 
-/// The evaluation that came back is at hand again.
-fn put_back(held: &mut Vec<Evaluated>, back: Option<Evaluated>) -> Result<(), Memory> {
-    if let Some(done) = back {
-        held.push(done)?;
+/// The ticket that comes back with an answer.
+fn ticket_of(given_back: GivenBack) -> Option<Ticket> {
+    match given_back {
+        GivenBack::Stranger {
+            kept: _kept,
+            brought,
+        } => Some(brought),
+        GivenBack::Cut => None,
+        GivenBack::Void { number: _number } => None,
     }
-    Ok(())
 }
 
 /// That a line of the schedule cannot be played.

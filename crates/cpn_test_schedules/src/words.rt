@@ -30,7 +30,7 @@ pub struct Options<'a> {
     pub net: &'a str,
     /// The file of the schedule.
     pub schedule: &'a str,
-    /// The file of the net beside it, from whose run evaluations may be brought.
+    /// The file of the net beside it, from whose run evaluations and tickets may be brought.
     pub beside: Option<&'a str>,
     ghost within: { AreLimits (limits_view limits) },
 }

@@ -4,7 +4,7 @@ use Rattle.cpn_log.specs.Logs.{claims_made}
 use Rattle.cpn_log.specs.LogViews.{log_view}
 use Rattle.cpn_runs.specs.FinishedViews.{setup_view}
 use Rattle.cpn_runs.specs.State.{PlainEvent}
-use Rattle.cpn_book.specs.GoingAlone.{AreCompletions}
+use Rattle.cpn_book.specs.GoingAlone.{AreCompletions, GivesNoneBack}
 use Rattle.cpn_book.specs.Standings.{IsAt, StillCommitted, events_in}
 use Rattle.cpn_book.proofs.alone.complete_all.Given as goal
 
@@ -14,6 +14,6 @@ invariant-loop-number l = record {
   room : vec_len l.standing.journal < vec_capacity l.standing.journal;
   few : claims_made (log_view l.standing.log) ≤ claims_made (log_view l.fn.standing.log);
   closed : (s k : ℕ) → slice_get l.standing.held.items s ≡ Some (Some k) → l.number ≤ k;
-  events : (more : List PlainEvent) × (events_in l.standing ≡ events_in l.fn.standing ++ more) × AreCompletions 0 l.number more;
+  events : (more : List PlainEvent) × (events_in l.standing ≡ events_in l.fn.standing ++ more) × AreCompletions 0 l.number more × GivesNoneBack (setup_view l.setup) (events_in l.fn.standing) more;
   committed : StillCommitted (setup_view l.setup) l.fn.standing l.standing;
 }

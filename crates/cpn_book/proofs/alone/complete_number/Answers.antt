@@ -1,19 +1,20 @@
 -- The open claim is held by the seat that made it, and its job is ready to be evaluated.
-use Rattle.std.proofs.Common.{◌≡◌, suc, ◌+◌, ◌∷◌, ◌++◌, Some, map, refl, sym, ap, ◌∙◌, subst, slice_get, arith}
-use Rattle.std.specs.Option.{option_map}
+use Rattle.std.proofs.Common.{◌≡◌, suc, ◌+◌, [], ◌∷◌, Some, map, refl, sym, ap, ◌∙◌, subst, slice_get, arith}
+use Rattle.std.proofs.lemmas.List.{append-nil}
 use Rattle.cpn_jobs.specs.Views.{job_view}
 use Rattle.cpn_log.specs.Logs.{standings}
 use Rattle.cpn_log.specs.LogViews.{log_view, jobs_in}
 use Rattle.cpn_runs.specs.FinishedViews.{setup_view}
 use Rattle.cpn_book.specs.Evaluations.{IsReadyToEvaluate}
 use Rattle.cpn_runs.specs.State.{claim_completed}
+use Rattle.cpn_book.specs.Committing.{AddsCompletion}
 use Rattle.cpn_book.specs.GoingAlone.{AreCompletions}
-use Rattle.cpn_book.specs.Standings.{cut_view, events_in}
+use Rattle.cpn_book.specs.Standings.{events_in}
 use Rattle.cpn_book.specs.States.{cut_events}
 use Rattle.cpn_book.specs.Tickets.{evaluated_number, evaluated_job}
 use Rattle.cpn_book.proofs.CommittedStandings.{still_at}
-use Rattle.cpn_book.proofs.FilledStandings.{image_at}
-use Rattle.cpn_book.proofs.GoingAlone.{one_completion}
+use Rattle.cpn_book.proofs.HeldJobs.{image_at}
+use Rattle.cpn_book.proofs.GoingAlone.{one_completion, completion_gives_none, nothing_gives_none}
 use Rattle.cpn_book.proofs.HeldSeats.{where_ok}
 use Rattle.cpn_book.proofs.OpenNumbers.{number_within, holds_number, number_is_ready, held_stands_open}
 use Rattle.cpn_book.proofs.alone.complete_number.Goals as goal
@@ -56,10 +57,21 @@ returns-in_default-evaluate-clause-committed c = still_at (setup_view c.args.set
 
 pub returns-clause-completions : goal.returns-clause-completions
 returns-clause-completions c =
+    let s = setup_view c.args.setup.now in
+    let old = c.args.standing.now in
     let n = c.args.number in
-    let number : evaluated_number c.in-Ok.done ≡ n = c.in-Ok.ensures.number ∙ c.new.ensures.number in
-    let cut = option_map cut_view c.complete_claim.new.standing.cut in
-    let next : suc n ≡ n + 1 = omega arith in
+    let seat = c.seat-seat.result in
+    let number : evaluated_number c.in-Ok.done ≡ c.args.number = c.in-Ok.ensures.number ∙ c.new.ensures.number in
+    let next : suc c.args.number ≡ c.args.number + 1 = omega arith in
     where_ok c.complete_claim.result _ _
-    (λ events. (claim_completed c.seat-seat.result n ∷ cut_events cut, events ∙ ap (λ k. events_in c.args.standing.now ++ claim_completed c.seat-seat.result k ∷ cut_events cut) number, subst (λ k. AreCompletions n k (claim_completed c.seat-seat.result n ∷ cut_events cut)) next (one_completion c.seat-seat.result n cut)))
+    (λ events.
+    let adds = subst (λ k. AddsCompletion (setup_view c.args.setup.now) c.seat-seat.result k c.args.standing.now c.complete_claim.new.standing) number events in (
+      claim_completed seat n ∷ cut_events adds.owed,
+      adds.events,
+      subst (λ k. AreCompletions c.args.number k (claim_completed c.seat-seat.result c.args.number ∷ cut_events adds.owed)) next (one_completion seat n adds.owed),
+      completion_gives_none s (events_in old) seat n adds.owed adds.owed_is,
+    ))
     c.complete_claim.ensures.events
+
+pub returns-in_default-clause-completions : goal.returns-in_default-clause-completions
+returns-in_default-clause-completions c = ([], sym (append-nil (events_in c.args.standing.now)), omega arith, nothing_gives_none (setup_view c.args.setup.now) (events_in c.args.standing.now))

@@ -6,7 +6,8 @@ use Rattle.cpn_runs.specs.Views.{event_view}
 use Rattle.cpn_runs.specs.declared.events.Event.TheVariants as events
 use Rattle.cpn_book.specs.Tickets.{evaluated_job}
 use Rattle.cpn_book.proofs.CommittedStandings.{still_at}
-use Rattle.cpn_book.proofs.FilledStandings.{IsBrought, held_known, open_in_log, outputs_fit, none_cut_now, filled_may_commit}
+use Rattle.cpn_book.proofs.FilledStandings.{IsBrought, outputs_fit, only_now, filled_may_commit}
+use Rattle.cpn_book.proofs.HeldJobs.{held_known, open_in_log}
 use Rattle.cpn_book.proofs.completing.fill_claim.Goals as goal
 use Rattle.cpn_definitions.proofs.ListItems.{map_more}
 
@@ -17,24 +18,24 @@ complete_in-requires c =
     let brought : IsBrought s old c.args.seat c.args.done.number (evaluated_job c.args.done) c.args.done.result = record { held = c.requires.held; job_is = c.requires.job; tells = c.args.done.tells } in
     record {
       kept = c.requires.at.at.told.kept;
-      «open» = open_in_log s old c.requires.at c.args.seat c.args.done.number (evaluated_job c.args.done) c.args.done.result brought;
+      «open» = open_in_log s old c.requires.at c.args.seat c.args.done.number c.requires.held;
       few = λ outputs gave. (outputs_fit s old c.requires.at c.args.seat c.args.done.number (evaluated_job c.args.done) c.args.done.result brought outputs c.requires.playable gave).0;
       on_places = λ outputs gave. (outputs_fit s old c.requires.at c.args.seat c.args.done.number (evaluated_job c.args.done) c.args.done.result brought outputs c.requires.playable gave).1;
     }
 
-pub returns-in_err-complete_in-clause-uncut : goal.returns-in_err-complete_in-clause-uncut
-returns-in_err-complete_in-clause-uncut c =
-    none_cut_now (setup_view c.args.setup.now) c.args.standing.now c.requires.at c.args.seat c.args.done.number (evaluated_job c.args.done) c.args.done.result (record { held = c.requires.held; job_is = c.requires.job; tells = c.args.done.tells })
+pub returns-in_err-complete_in-clause-only_given_back : goal.returns-in_err-complete_in-clause-only_given_back
+returns-in_err-complete_in-clause-only_given_back c =
+    only_now (setup_view c.args.setup.now) c.args.standing.now c.requires.at c.args.seat c.args.done.number (evaluated_job c.args.done) c.args.done.result (record { held = c.requires.held; job_is = c.requires.job; tells = c.args.done.tells })
 
 pub index_mut-requires : goal.index_mut-requires
 index_mut-requires c =
-    let known = held_known (setup_view c.args.setup.now) c.args.standing.now c.requires.at c.args.seat c.args.done.number (evaluated_job c.args.done) c.args.done.result (record { held = c.requires.held; job_is = c.requires.job; tells = c.args.done.tells }) in
+    let known = held_known (setup_view c.args.setup.now) c.args.standing.now c.requires.at c.args.seat c.args.done.number c.requires.held in
     let long : length c.args.standing.now.held.items ≡ (setup_view c.args.setup.now).limits.seats = c.requires.at.at.told.holds.each in
     omega (arith, known, long)
 
-pub returns-clause-uncut : goal.returns-clause-uncut
-returns-clause-uncut c =
-    none_cut_now (setup_view c.args.setup.now) c.args.standing.now c.requires.at c.args.seat c.args.done.number (evaluated_job c.args.done) c.args.done.result (record { held = c.requires.held; job_is = c.requires.job; tells = c.args.done.tells })
+pub returns-clause-only_given_back : goal.returns-clause-only_given_back
+returns-clause-only_given_back c =
+    only_now (setup_view c.args.setup.now) c.args.standing.now c.requires.at c.args.seat c.args.done.number (evaluated_job c.args.done) c.args.done.result (record { held = c.requires.held; job_is = c.requires.job; tells = c.args.done.tells })
 
 pub returns-clause-may : goal.returns-clause-may
 returns-clause-may c =

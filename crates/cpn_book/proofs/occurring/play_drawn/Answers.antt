@@ -1,11 +1,10 @@
 -- No seat holds a claim before, and none after.
-use Rattle.std.proofs.Common.{[], ◌∷◌, ◌++◌, Some, sym, ap, ◌∙◌, append_assoc, arith, slice_get}
-use Rattle.std.specs.Option.{option_map}
+use Rattle.std.proofs.Common.{[], ◌∷◌, ◌++◌, Some, sym, ap, ◌∙◌, subst, append_assoc, arith, slice_get}
 use Rattle.cpn_runs.specs.FinishedViews.{setup_view}
-use Rattle.cpn_runs.specs.State.{claim_made, claim_completed}
-use Rattle.cpn_book.specs.Standings.{cut_view, events_in}
+use Rattle.cpn_runs.specs.State.{claim_made, claim_completed, IsState}
+use Rattle.cpn_book.specs.Standings.{events_in}
 use Rattle.cpn_book.specs.States.{cut_events}
-use Rattle.cpn_book.proofs.GoingAlone.{one_round}
+use Rattle.cpn_book.proofs.GoingAlone.{one_round, round_gives_none}
 use Rattle.cpn_book.proofs.HeldSeats.{where_ok, in_any_case}
 use Rattle.cpn_book.proofs.CommittedStandings.{still_through}
 use Rattle.cpn_book.proofs.OwedCuts.{told_of}
@@ -33,11 +32,17 @@ returns-in_ok-make_claim-in-Err-clause-none_open c =
 
 pub returns-in_ok-make_claim-in-Err-clause-rounds : goal.returns-in_ok-make_claim-in-Err-clause-rounds
 returns-in_ok-make_claim-in-Err-clause-rounds c =
+    let s = setup_view c.args.setup.now in
     let n = c.args.done.number in
     let old = c.args.standing.now in
-    let cut = option_map cut_view c.complete_claim.new.standing.cut in
+    let claimed = c.in_ok-make_claim-in-Err.ensures.events in
     where_ok c.complete_claim.result _ _
-    (λ events. (claim_made 0 n ∷ claim_completed 0 n ∷ cut_events cut, events ∙ ap (λ es. es ++ claim_completed 0 n ∷ cut_events cut) c.in_ok-make_claim-in-Err.ensures.events ∙ append_assoc (events_in old) (claim_made 0 n ∷ []) (claim_completed 0 n ∷ cut_events cut), one_round n cut))
+    (λ adds. (
+      claim_made 0 n ∷ claim_completed 0 n ∷ cut_events adds.owed,
+      adds.events ∙ ap (λ es. es ++ claim_completed 0 n ∷ cut_events adds.owed) claimed ∙ append_assoc (events_in old) (claim_made 0 n ∷ []) (claim_completed 0 n ∷ cut_events adds.owed),
+      one_round n adds.owed,
+      round_gives_none s (events_in old) 0 n adds.owed (λ after is. adds.owed_is after (subst (λ es. IsState s es after) (sym (ap (λ es. es ++ claim_completed 0 n ∷ []) claimed ∙ append_assoc (events_in old) (claim_made 0 n ∷ []) (claim_completed 0 n ∷ []))) is)),
+    ))
     c.complete_claim.ensures.events
 
 pub returns-in_ok-stop-in-Ok-clause-none_open : goal.returns-in_ok-stop-in-Ok-clause-none_open
@@ -48,11 +53,17 @@ returns-in_ok-stop-in-Ok-clause-none_open c =
 
 pub returns-in_ok-stop-in-Ok-clause-rounds : goal.returns-in_ok-stop-in-Ok-clause-rounds
 returns-in_ok-stop-in-Ok-clause-rounds c =
+    let s = setup_view c.args.setup.now in
     let n = c.args.done.number in
     let old = c.args.standing.now in
-    let cut = option_map cut_view c.make_owed_cut.new.standing.cut in
+    let occurred = c.in_ok-stop-in-Ok.ensures.events in
     where_ok c.make_owed_cut.result _ _
-    (λ events. (claim_made 0 n ∷ claim_completed 0 n ∷ cut_events cut, events ∙ ap (λ es. es ++ cut_events cut) c.in_ok-stop-in-Ok.ensures.events ∙ append_assoc (events_in old) (claim_made 0 n ∷ claim_completed 0 n ∷ []) (cut_events cut), one_round n cut))
+    (λ makes. let adds = makes s c.in_ok-stop-in-Ok.ensures.no_more in (
+      claim_made 0 n ∷ claim_completed 0 n ∷ cut_events adds.owed,
+      adds.events ∙ ap (λ es. es ++ cut_events adds.owed) occurred ∙ append_assoc (events_in old) (claim_made 0 n ∷ claim_completed 0 n ∷ []) (cut_events adds.owed),
+      one_round n adds.owed,
+      round_gives_none s (events_in old) 0 n adds.owed (λ after is. adds.owed_is after (subst (λ es. IsState s es after) (sym occurred) is)),
+    ))
     c.make_owed_cut.ensures.events
 
 pub returns-in_ok-stop-in-Ok-clause-committed : goal.returns-in_ok-stop-in-Ok-clause-committed

@@ -21,4 +21,7 @@ report-requires c =
     let Runs : PlainSetup → Type 0 = λ s. IsRun s (finished_view run) in
     let at : setup_view run.setup ≡ _ = c.in_ok-finished.ensures.setup ∙ c.in_ok-book.ensures.setup in
     let start : Starts (setup_view run.setup) = subst Starts (sym at) (subst OfNet (sym same) (loaded.sound, loaded.named, loaded.marking)) in
-    record { printable = c.printable_runs.ensures.printable (setup_view run.setup) (finished_view run) (record { sound = start.0; named = start.1 }) start.2 (subst Runs (sym c.in_ok-finished.ensures.setup) c.in_ok-finished.ensures.run) }
+    record { printable = c.printable_runs.ensures.printable (setup_view run.setup) (finished_view run) (record { sound = start.0; named = start.1 }) start.2 (subst Runs (sym c.in_ok-finished.ensures.setup) c.in_ok-finished.ensures.run) (c.in_ok-finished.ensures.ends_otherwise c.in_ok-book.ensures.journal) }
+
+pub status_after-status-requires : goal.status_after-status-requires
+status_after-status-requires c = record { told = c.in_ok-finished.ensures.ends_otherwise c.in_ok-book.ensures.journal }

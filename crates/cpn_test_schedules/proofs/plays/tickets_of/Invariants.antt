@@ -2,7 +2,7 @@
 use Rattle.std.proofs.Common.{◌≡◌}
 use Rattle.cpn_book.specs.Books.{setup_in, IsBook}
 use Rattle.cpn_runs.specs.FinishedViews.{setup_view}
-use Rattle.cpn_test_schedules.proofs.plays.evaluations_of.Given as goal
+use Rattle.cpn_test_schedules.proofs.plays.tickets_of.Given as goal
 
 abbrev pub invariant-loop-seat : goal.invariant-loop-seat
 invariant-loop-seat l = record {
