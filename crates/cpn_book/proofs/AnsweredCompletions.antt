@@ -26,7 +26,7 @@ use Rattle.cpn_book.specs.declared.standings.Cut.{Cut}
 use Rattle.cpn_book.specs.declared.answers.Completed.{Completed}
 use Rattle.cpn_book.specs.declared.answers.Completed.TheVariants as completions
 use Rattle.cpn_book.proofs.AnsweredBooks.{leads_rest, reached_in}
-use Rattle.cpn_book.proofs.HeldJobs.{its, claim_stands, job_of_claim}
+use Rattle.cpn_book.proofs.HeldJobs.{has_open_claim}
 use Rattle.cpn_book.proofs.RefusedClaims.{cut_below, not_cut}
 use Rattle.cpn_book.proofs.RunningBooks.{in_state}
 
@@ -49,9 +49,7 @@ module _ (book : Book) (running : IsRunning book) (seat : ℕ) (done : Evaluated
     module _ (playable : IsPlayable (setup_in book)) (held : slice_get book.standing.held.items seat ≡ Some (Some (evaluated_number done))) (job : slice_get (map job_view (jobs_in book.standing.log)) (evaluated_number done) ≡ Some (evaluated_job done))
         (new : Book) (setup : new.setup ≡ book.setup) (then : IsRunning new) (adds : AddsCompletion (setup_in book) seat (evaluated_number done) book.standing new.standing) where
       has_claim : HasOpenClaim (setup_in book) running.at.at.state seat (evaluated_number done) (evaluated_job done)
-      has_claim =
-          let claim = its (setup_in book) book.standing running.at seat (evaluated_number done) held in
-          (claim.claim, claim_stands (setup_in book) book.standing running.at seat (evaluated_number done) held, claim.held, sym (job_of_claim (setup_in book) book.standing running.at seat (evaluated_number done) held (evaluated_job done) job))
+      has_claim = has_open_claim (setup_in book) book.standing running.at seat (evaluated_number done) held (evaluated_job done) job
 
       led : Leads (setup_in book) running.at.at.state (claim_completed seat (evaluated_number done) ∷ cut_events adds.owed) then.at.at.state
       led =

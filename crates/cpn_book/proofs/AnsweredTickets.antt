@@ -5,7 +5,7 @@ use Rattle.std.proofs.lemmas.List.{append-nil}
 use Rattle.cpn_jobs.specs.Views.{job_view}
 use Rattle.cpn_log.specs.LogViews.{jobs_in}
 use Rattle.cpn_runs.specs.State.{PlainSetup, PlainState, PlainEvent, wants_memory, cut_made, owed_cut, IsDue, MayCut}
-use Rattle.cpn_book.specs.Answers.{HasOpenClaim, IsGivingBack, AnswersGivingBack, AnswersGivenBack}
+use Rattle.cpn_book.specs.Answers.{IsGivingBack, AnswersGivingBack, AnswersTicket}
 use Rattle.cpn_book.specs.Books.{setup_in, journal_in, IsRunning}
 use Rattle.cpn_book.specs.Committing.{IsDueAt}
 use Rattle.cpn_book.specs.Standings.{IsAt}
@@ -17,7 +17,7 @@ use Rattle.cpn_book.specs.declared.standings.Standing.{Standing}
 use Rattle.cpn_book.specs.declared.answers.GivenBack.{GivenBack}
 use Rattle.cpn_book.specs.declared.answers.GivenBack.TheVariants as returns
 use Rattle.cpn_book.proofs.AnsweredBooks.{happens_last, reached_in}
-use Rattle.cpn_book.proofs.HeldJobs.{its, claim_stands, its_open, job_of_claim}
+use Rattle.cpn_book.proofs.HeldJobs.{its, claim_stands, its_open, has_open_claim}
 use Rattle.cpn_book.proofs.RefusedClaims.{cut_below, not_cut}
 use Rattle.cpn_book.proofs.RunningBooks.{in_state}
 
@@ -46,7 +46,7 @@ for_memory setup old number new none may = ap (λ (s : PlainState). s.cut) may.n
 module _ (book : Book) (running : IsRunning book) (seat : ℕ) (ticket : Ticket) where
   -- the answer, with the events that it appends
   abbrev pub Answered : Book → GivenBack → Type 0
-  Answered new answer = AnswersGivenBack book new seat ticket answer
+  Answered new answer = AnswersTicket book new seat ticket answer
 
   -- a cut has removed the claim
   pub void_ticket : (number : ℕ) → (cut : Cut) × (book.standing.cut ≡ Some cut) × (number ≡ cut.number) × (number ≤ number_of ticket) → Answered book (returns.Void number)
@@ -68,11 +68,6 @@ module _ (book : Book) (running : IsRunning book) (seat : ℕ) (ticket : Ticket)
       in_state book running (λ state. (es : List PlainEvent) × (journal_in new ≡ journal_in book ++ es) × AnswersGivingBack (setup_in book) state seat ticket es returns.Cut)
       (cut_made (number_of ticket) ∷ [], events, (not_cut book running seat (number_of ticket) (job_of ticket) uncut, gives_back))
     where
-      has_claim : HasOpenClaim (setup_in book) running.at.at.state seat (number_of ticket) (job_of ticket)
-      has_claim =
-          let claim = its (setup_in book) book.standing running.at seat (number_of ticket) held in
-          (claim.claim, claim_stands (setup_in book) book.standing running.at seat (number_of ticket) held, claim.held, sym (job_of_claim (setup_in book) book.standing running.at seat (number_of ticket) held (job_of ticket) job))
-
       may : MayCut (setup_in book) running.at.at.state (number_of ticket) then.at.at.state
       may =
           happens_last (setup_in book) (journal_in book) (cut_made (number_of ticket)) running.at.at.state then.at.at.state running.at.at.told.reached
@@ -80,7 +75,7 @@ module _ (book : Book) (running : IsRunning book) (seat : ℕ) (ticket : Ticket)
 
       gives_back : IsGivingBack (setup_in book) running.at.at.state seat ticket (cut_made (number_of ticket) ∷ [])
       gives_back = record {
-        open_claim = has_claim;
+        open_claim = has_open_claim (setup_in book) book.standing running.at seat (number_of ticket) held (job_of ticket) job;
         after = then.at.at.state;
         may = may;
         cut_is = for_memory (setup_in book) running.at.at.state (number_of ticket) then.at.at.state running.at.none_owed may;

@@ -31,7 +31,7 @@ use Rattle.cpn_book.specs.declared.standings.Standing.{Standing}
 use Rattle.cpn_book.proofs.MeasuredStandings.{measured_alike, made_at_same, now, noted_measured, stop_noted}
 use Rattle.cpn_book.proofs.CountedClaims.{as_many, first_are, heads_are}
 use Rattle.cpn_book.specs.Committing.{IsDueAt}
-use Rattle.cpn_book.specs.Held.{if_ahead}
+use Rattle.cpn_book.specs.Held.{held_below}
 
 -- ---- what is committed
 
@@ -175,7 +175,7 @@ module _ (setup : PlainSetup) (old : Standing) (cut : PlainCut) (may : IsDueAt s
     (settled_same : (log_view new.log).settled ≡ (log_view old.log).settled)
     (kept : IsKept (log_view new.log))
     (long : length new.held.items ≡ length old.held.items)
-    (freed : (s : ℕ) → slice_get new.held.items s ≡ option_map (if_ahead cut.number) (slice_get old.held.items s))
+    (freed : (s : ℕ) → slice_get new.held.items s ≡ option_map (held_below cut.number) (slice_get old.held.items s))
     (cut_is : option_map cut_view new.cut ≡ Some cut)
     (events : events_in new ≡ events_in old ++ cut_made cut.number ∷ [])
     (rest : new ≡ record old { log = new.log; held = new.held; journal = new.journal; cut = new.cut }) where

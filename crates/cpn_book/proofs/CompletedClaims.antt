@@ -13,7 +13,7 @@ use Rattle.cpn_runs.proofs.Cuts.{AreDone, open_is_not_done}
 use Rattle.cpn_runs.proofs.Sequences.{left_parts}
 use Rattle.cpn_runs.proofs.GivenBackClaims.{left_after, first_of_first}
 use Rattle.cpn_runs.proofs.States.{LeavesCommitted, cut_leaves_committed, leads_more, every_state, closed_status}
-use Rattle.cpn_book.specs.Held.{held_from, if_ahead, AreHeld}
+use Rattle.cpn_book.specs.Held.{held_from, held_below, AreHeld}
 use Rattle.cpn_log.specs.Kept.{IsKept}
 use Rattle.cpn_log.specs.Logs.{PlainLog, PlainHead, head_of, with_status, with_committed}
 use Rattle.cpn_book.specs.StandingRuns.{IsTold, NoneStops, StandsAt}
@@ -164,7 +164,7 @@ module _ (setup : PlainSetup) (journal : List PlainEvent) (state : PlainState) (
       → IsKept new
       → (still : List (Option ℕ))
       → length still ≡ length held
-      → ((s : ℕ) → slice_get still s ≡ option_map (if_ahead cut.number) (slice_get held s))
+      → ((s : ℕ) → slice_get still s ≡ option_map (held_below cut.number) (slice_get held s))
       → StandsAt setup (journal ++ cut_made cut.number ∷ []) (left_after state cut) new still
   stands_cut place where_is is heads_same settled_same kept still long freed = record {
     told = record {

@@ -8,7 +8,7 @@ use Rattle.std.proofs.lemmas.List.Sums.{sum_by-cons}
 use Rattle.cpn_runs.specs.HoleRun.{PlainClaim}
 use Rattle.cpn_runs.specs.State.{is_held_by}
 use Rattle.cpn_runs.proofs.Cuts.{AreDone, done_is_not_open}
-use Rattle.cpn_book.specs.Held.{held_from, if_ahead, AreHeld}
+use Rattle.cpn_book.specs.Held.{held_from, held_below, AreHeld}
 
 -- ---- whether a seat has one
 
@@ -123,12 +123,12 @@ held_closed k seat (suc i) (c ∷ claims) old new at was not one =
 
 -- ---- claims are cut off
 
-ahead_of_none : (number : ℕ) (o : Option ℕ) → ((n : ℕ) → o ≡ Some n → number ≤ n) → if_ahead number o ≡ None
+ahead_of_none : (number : ℕ) (o : Option ℕ) → ((n : ℕ) → o ≡ Some n → number ≤ n) → held_below number o ≡ None
 ahead_of_none number None behind = refl
 ahead_of_none number (Some n) behind = cond-false (nat_lt n number) (Some n) None (le-ltb n number (behind n refl))
 
 -- of the first claims a seat holds what it holds of all, if that is one of these
-held_first : (k seat i : ℕ) (claims : List PlainClaim) → held_from k seat (take i claims) ≡ if_ahead (k + i) (held_from k seat claims)
+held_first : (k seat i : ℕ) (claims : List PlainClaim) → held_from k seat (take i claims) ≡ held_below (k + i) (held_from k seat claims)
 held_first k seat zero claims = sym (ahead_of_none (k + 0) (held_from k seat claims) (λ n h. let its = its_claim k seat claims n h in let is = its.is in omega (arith, is)))
 held_first k seat (suc i) [] = refl
 held_first k seat (suc i) (c ∷ claims) = split (is_held_by seat c) refl (held_first (suc k) seat i claims)
@@ -139,26 +139,26 @@ held_first k seat (suc i) (c ∷ claims) = split (is_held_by seat c) refl (held_
     here : nat_lt k (k + suc i) ≡ true
     here = lt-ltb k (k + suc i) (omega arith)
 
-    split : (b : Bool) → is_held_by seat c ≡ b → held_from (suc k) seat (take i claims) ≡ if_ahead (suc k + i) (held_from (suc k) seat claims) → held_from k seat (c ∷ take i claims) ≡ if_ahead (k + suc i) (held_from k seat (c ∷ claims))
+    split : (b : Bool) → is_held_by seat c ≡ b → held_from (suc k) seat (take i claims) ≡ held_below (suc k + i) (held_from (suc k) seat claims) → held_from k seat (c ∷ take i claims) ≡ held_below (k + suc i) (held_from k seat (c ∷ claims))
     split true is rest =
         cond-true (is_held_by seat c) (Some k) (held_from (suc k) seat (take i claims)) is
         ∙ sym (cond-true (nat_lt k (k + suc i)) (Some k) None here)
-        ∙ ap (if_ahead (k + suc i)) (sym (cond-true (is_held_by seat c) (Some k) (held_from (suc k) seat claims) is))
+        ∙ ap (held_below (k + suc i)) (sym (cond-true (is_held_by seat c) (Some k) (held_from (suc k) seat claims) is))
     split false is rest =
         cond-false (is_held_by seat c) (Some k) (held_from (suc k) seat (take i claims)) is
         ∙ rest
-        ∙ ap (λ n. if_ahead n (held_from (suc k) seat claims)) later
-        ∙ ap (if_ahead (k + suc i)) (sym (cond-false (is_held_by seat c) (Some k) (held_from (suc k) seat claims) is))
+        ∙ ap (λ n. held_below n (held_from (suc k) seat claims)) later
+        ∙ ap (held_below (k + suc i)) (sym (cond-false (is_held_by seat c) (Some k) (held_from (suc k) seat claims) is))
 
 pub held_ahead
     : (seats : ℕ) (claims : List PlainClaim) (held still : List (Option ℕ)) (number : ℕ)
     → AreHeld seats claims held
     → length still ≡ length held
-    → ((s : ℕ) → slice_get still s ≡ option_map (if_ahead number) (slice_get held s))
+    → ((s : ℕ) → slice_get still s ≡ option_map (held_below number) (slice_get held s))
     → AreHeld seats (take number claims) still
 held_ahead seats claims held still number are long freed = record {
   each = long ∙ are.each;
-  numbers = λ s lt. freed s ∙ ap (option_map (if_ahead number)) (are.numbers s lt) ∙ ap (λ k. Some (if_ahead k (held_from 0 s claims))) from_none ∙ ap Some (sym (held_first 0 s number claims));
+  numbers = λ s lt. freed s ∙ ap (option_map (held_below number)) (are.numbers s lt) ∙ ap (λ k. Some (held_below k (held_from 0 s claims))) from_none ∙ ap Some (sym (held_first 0 s number claims));
 }
   where
     from_none : number ≡ 0 + number

@@ -12,6 +12,7 @@ use Rattle.cpn_runs.specs.HoleRun.{PlainClaim, Status, open_claim, done_with, fa
 use Rattle.cpn_runs.specs.State.{PlainSetup}
 use Rattle.cpn_runs.specs.GivingBack.{OnlyGivenBack}
 use Rattle.cpn_runs.proofs.States.{given_back_where_open, every_state}
+use Rattle.cpn_book.specs.Answers.{HasOpenClaim}
 use Rattle.cpn_book.specs.Held.{held_from}
 use Rattle.cpn_book.specs.Standings.{IsAt, job_for, events_in}
 use Rattle.cpn_book.specs.declared.standings.Standing.{Standing}
@@ -78,3 +79,7 @@ module _ (setup : PlainSetup) (old : Standing) (is : IsAt setup old) (seat numbe
       let image : slice_get (map (job_for setup.net) (heads (log_view old.log))) number ≡ Some job = ap (λ js. slice_get js number) (sym is.at.jobs) ∙ job_is in
       let there : slice_get (heads (log_view old.log)) number ≡ Some (head_of its.claim) = ap (λ hs. slice_get hs number) (heads_are setup.start is.at.state.claims (log_view old.log) is.at.told.has) ∙ image_at head_of is.at.state.claims number its.claim claim_stands in
       sym (from_image (job_for setup.net) (heads (log_view old.log)) number (head_of its.claim) job there image)
+
+  -- the seat has an open claim of the number and job
+  pub has_open_claim : (job : PlainJob) → slice_get (map job_view (jobs_in old.log)) number ≡ Some job → HasOpenClaim setup is.at.state seat number job
+  has_open_claim job job_is = (its.claim, claim_stands, its.held, sym (job_of_claim job job_is))

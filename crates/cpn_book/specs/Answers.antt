@@ -90,9 +90,9 @@ pub record IsCompletion (setup : PlainSetup) (state : PlainState) (seat : ℕ) (
   pub fills : IsFilled setup state (evaluated_number done) (outputs_told (evaluated_job done)) after
   pub events_are : events ≡ claim_completed seat (evaluated_number done) ∷ cut_events (owed_cut setup after)
 
--- a cut stands, of this number, at or below that of a claim
+-- the claim of the first number is cut off: a cut of the second number stands, at or below it
 abbrev pub IsCutBelow : PlainState → ℕ → ℕ → Type 0
-IsCutBelow state claim cut_at = (cut : PlainCut) × (state.cut ≡ Some cut) × (cut_at ≡ cut.number) × (cut.number ≤ claim)
+IsCutBelow state claim cut_number = (cut : PlainCut) × (state.cut ≡ Some cut) × (cut_number ≡ cut.number) × (cut.number ≤ claim)
 
 -- No cut stands at or below the number, and the seat has no open claim of the number and job; the job that is kept is that of the open claim of
 -- the number, if there is one.
@@ -113,7 +113,7 @@ AnswersEvaluation old new seat done answer =
 
 -- ---- a claim that is given back
 
--- A ticket that may be given back: a cut for want of memory may be made at its number, which is the one event.
+-- A ticket of an open claim of the seat is given back: the cut for want of memory at its number may be made, and is the one event.
 pub record IsGivingBack (setup : PlainSetup) (state : PlainState) (seat : ℕ) (ticket : Ticket) (events : List PlainEvent) : Type 0 where
   pub open_claim : HasOpenClaim setup state seat (number_of ticket) (job_of ticket)
   pub after : PlainState
@@ -129,8 +129,8 @@ AnswersGivingBack setup state seat ticket events (returns.Stranger kept brought)
 AnswersGivingBack setup state seat ticket events returns.Cut = IsNotCut state (number_of ticket) × IsGivingBack setup state seat ticket events
 
 -- the answer of a book to a seat that gives a ticket back, and the book after it
-abbrev pub AnswersGivenBack : Book → Book → ℕ → Ticket → GivenBack → Type 0
-AnswersGivenBack old new seat ticket answer =
+abbrev pub AnswersTicket : Book → Book → ℕ → Ticket → GivenBack → Type 0
+AnswersTicket old new seat ticket answer =
     InState old (λ state. (events : List PlainEvent) × (journal_in new ≡ journal_in old ++ events) × AnswersGivingBack (setup_in old) state seat ticket events answer)
 
 -- ---- a move of the clock

@@ -45,7 +45,7 @@ OwesCut setup s (Some cause) =
     × (committed setup told.state ≡ length (log_view s.log).committed)
     × (owed_cut setup told.state ≡ Some (record { number = length (log_view s.log).committed; cause = end_view cause }))
 
--- A cut may be made: it is due where the run stands, and what can be committed is.
+-- A cut may be made: it is due where the run stands, and all claims that can be committed are committed.
 pub record IsDueAt (setup : PlainSetup) (s : Standing) (cut : PlainCut) : Type 0 where
   pub told : IsToldAt setup s
   pub all_committed : committed setup told.state ≡ length (log_view s.log).committed

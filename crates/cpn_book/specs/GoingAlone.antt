@@ -32,3 +32,10 @@ pub record GoesOnAlone (events : List PlainEvent) : Type 0 where
 -- None of the events by which a journal goes on gives a claim back.
 abbrev pub GivesNoneBack : PlainSetup → List PlainEvent → List PlainEvent → Type 0
 GivesNoneBack setup journal more = (state : PlainState) → IsState setup journal state → NoneIsGivenBack setup state more
+
+-- How a journal goes on alone to a whole one: by the completions of the open claims, then by rounds of seat 0, and no claim is given back.
+pub record GoesOnAloneTo (setup : PlainSetup) (journal whole : List PlainEvent) : Type 0 where
+  pub more : List PlainEvent
+  pub whole_is : whole ≡ journal ++ more
+  pub alone : GoesOnAlone more
+  pub gives_none_back : GivesNoneBack setup journal more

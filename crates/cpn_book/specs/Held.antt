@@ -8,10 +8,10 @@ abbrev pub held_from : ℕ → ℕ → List PlainClaim → Option ℕ
 held_from k seat [] = None
 held_from k seat (claim ∷ claims) = if is_held_by seat claim then Some k else held_from (suc k) seat claims
 
--- the number of a claim that a seat holds, if it holds one ahead of a number
-abbrev pub if_ahead : ℕ → Option ℕ → Option ℕ
-if_ahead number None = None
-if_ahead number (Some k) = if nat_lt k number then Some k else None
+-- what a seat holds after a cut at a number: the claim that it held, if that is below the number
+abbrev pub held_below : ℕ → Option ℕ → Option ℕ
+held_below number None = None
+held_below number (Some k) = if nat_lt k number then Some k else None
 
 -- Of each seat the number of its open claim, if it has one.
 pub record AreHeld (seats : ℕ) (claims : List PlainClaim) (held : List (Option ℕ)) : Type 0 where

@@ -7,14 +7,15 @@ ghost use Rattle.cpn_core.specs.Elements.{enabled_view};
 ghost use Rattle.cpn_definitions.specs.Enabled.{ready};
 ghost use Rattle.cpn_log.specs.Logs.{claims_made};
 ghost use Rattle.cpn_log.specs.LogViews.{log_view};
+ghost use Rattle.cpn_runs.specs.GivingBack.{IsCutForMemory};
 ghost use Rattle.cpn_runs.specs.Playable.{IsPlayable};
 ghost use Rattle.cpn_runs.specs.Run.{IsRun};
 ghost use Rattle.cpn_runs.specs.State.{PlainEvent, wants_memory};
 ghost use Rattle.cpn_runs.specs.FinishedViews.{setup_view, finished_view};
 ghost use Rattle.cpn_book.specs.Bounds.{EndsInBounds};
-ghost use Rattle.cpn_book.specs.Books.{setup_in, journal_in, is_spent_in, IsBook, IsRunning};
+ghost use Rattle.cpn_book.specs.Books.{setup_in, journal_in, is_spent_in, InState, IsBook, IsRunning};
 ghost use Rattle.cpn_book.specs.Standings.{IsAt, StillCommitted, events_in};
-ghost use Rattle.cpn_book.specs.GoingAlone.{AreCompletions, AreRounds, GoesOnAlone, GivesNoneBack};
+ghost use Rattle.cpn_book.specs.GoingAlone.{AreCompletions, AreRounds, GivesNoneBack, GoesOnAloneTo};
 ghost use Rattle.cpn_book.specs.Steps.{Follows, IsMovedFrom, MayGoOn};
 
 use crate::books::Book;
@@ -32,7 +33,7 @@ impl Book {
     /// The run from where it stands to its end: the open claims are completed in order of number; then seat 0 completes each claim
     /// before it makes the next, and the clock moves where nothing is ready: until the limit of claims is reached, nothing is enabled
     /// at any time, nothing is enabled up to the last time that the run may reach, the outputs of an element have a fault, or a monitor
-    /// stops the run. Where a cut stands there is no further claim, and the run ends by the cause of the last one.
+    /// stops the run. Where a cut stands no further claim is made, and the run ends by the cause of the last cut.
     ///
     /// # Errors
     ///
@@ -46,9 +47,9 @@ impl Book {
         ensures run { IfOk result (λ f. IsRun (setup_in self) (finished_view f)) }
         // It goes on from the book's journal: by the completions of the open claims, in order of number, and then by rounds of seat 0.
         // None of these gives a claim back.
-        ensures goes_on { IfOk result (λ f. (more : List PlainEvent) × ((finished_view f).journal ≡ journal_in self ++ more) × GoesOnAlone more × GivesNoneBack (setup_in self) (journal_in self) more) }
-        // From the start of a run it does not end for want of memory.
-        ensures ends_otherwise { IfOk result (λ f. journal_in self ≡ [] → (finished_view f).cause ≢ wants_memory) }
+        ensures goes_on { IfOk result (λ f. GoesOnAloneTo (setup_in self) (journal_in self) (finished_view f).journal) }
+        // So it ends for want of memory only where a cut for that stood before.
+        ensures ends_for_memory { IfOk result (λ f. (finished_view f).cause ≡ wants_memory → InState self (λ state. IsCutForMemory state.cut)) }
         // The clock does not pass the last time that the run may reach; each place has tokens of its colour set, fewer than 2^48, and at
         // most as many more than the start as the occurrences make.
         ensures bounds { IfOk result (λ f. EndsInBounds (setup_in self) (finished_view f)) }

@@ -36,9 +36,10 @@ use std::sync::Arc;
 
 /// A run under way, of 1 to 64 seats.
 ///
-/// A seat claims a ready element, and has the claim open until its evaluation completes it, it is given back, or a cut removes it; it may
-/// hold one open claim. Several seats may hold claims at the same time and complete them in any order. A call that wants memory makes the book spent: its journal is
-/// the one from before that call, what was committed stands, and each later call that may take memory wants memory too.
+/// A seat claims a ready element, and may hold one open claim: it is open until its evaluation completes it, the seat gives it back, or a
+/// cut removes it. Several seats may hold claims at the same time and complete them in any order. A call that wants memory makes the book
+/// spent: its journal is the one from before that call, what was committed stands, and each later call that may take memory wants memory
+/// too.
 ///
 /// Source: own choice. Each call is made on a book that `start` gave and that other calls changed (`IsBook`); a clause speaks of the
 /// state that the book's journal leads to (`InState`), which is that of the definitions.

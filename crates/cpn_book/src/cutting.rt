@@ -9,7 +9,7 @@ ghost use Rattle.cpn_runs.specs.State.{PlainSetup, PlainEvent, cut_made, wants_m
 ghost use Rattle.cpn_runs.specs.GivingBack.{OnlyGivenBack};
 ghost use Rattle.cpn_runs.specs.Views.{end_view};
 ghost use Rattle.cpn_book.specs.Committing.{CommitsNoMore, OwesCut, IsDueAt, AddsOwedCut};
-ghost use Rattle.cpn_book.specs.Held.{if_ahead};
+ghost use Rattle.cpn_book.specs.Held.{held_below};
 ghost use Rattle.cpn_book.specs.Standings.{IsToldAt, IsAt, StillCommitted, cut_view, events_in, occurrences_in};
 
 use crate::standings::{Cut, Standing};
@@ -102,7 +102,7 @@ fn cut_off(standing: &mut Standing, number: u64, cause: End) -> Result<(), Memor
 
 /// No seat holds a claim from a number on.
 fn free_from(held: &mut Vec<Option<u64>>, number: u64)
-    ensures freed { (s : ℕ) → slice_get held.new.items s ≡ option_map (if_ahead number) (slice_get held.old.items s) }
+    ensures freed { (s : ℕ) → slice_get held.new.items s ≡ option_map (held_below number) (slice_get held.old.items s) }
     ensures long { length held.new.items ≡ length held.old.items }
 {
     for seat in 0..held.len() {

@@ -2,7 +2,7 @@
 
 ghost use Rattle.std.specs.Prelude.{◌≡◌, ◌≢◌, ℕ, ◌<◌, Some, true, false, [], ◌∷◌, ◌++◌, slice_get, IfOk, OnOk, OnErr};
 ghost use Rattle.cpn_runs.specs.State.{cut_made};
-ghost use Rattle.cpn_book.specs.Answers.{AnswersGivenBack, IsNotCut};
+ghost use Rattle.cpn_book.specs.Answers.{AnswersTicket, IsNotCut};
 ghost use Rattle.cpn_book.specs.Books.{setup_in, journal_in, index_in, committed_in, is_spent_in, InState, IsBook, IsRunning};
 ghost use Rattle.cpn_book.specs.Steps.{Follows};
 ghost use Rattle.cpn_book.specs.Tickets.{number_of};
@@ -15,8 +15,8 @@ use crate::tickets::Ticket;
 use cpn_core::Memory;
 
 impl Book {
-    /// Gives the claim that a seat holds back, for want of memory: the claim and all after it are removed. Claims before it may still be
-    /// open, and are completed or given back; the run makes no further claim, and ends by the cause of its last cut.
+    /// Gives back the claim that a seat holds, for want of memory: the claim and all after it are removed. Claims before it may still be
+    /// open, and are then completed or given back. The run makes no further claim, and ends by the cause of its last cut.
     ///
     /// # Errors
     ///
@@ -25,7 +25,7 @@ impl Book {
         requires kept { IsBook self.old }
         ensures kept { IsBook self.new }
         ensures setup { setup_in self.new ≡ setup_in self.old }
-        ensures answer { IfOk result (λ answer. AnswersGivenBack self.old self.new seat ticket answer) }
+        ensures answer { IfOk result (λ answer. AnswersTicket self.old self.new seat ticket answer) }
         ensures unspent { OnOk result (is_spent_in self.old ≡ false) }
         ensures unspent_still { OnOk result (is_spent_in self.new ≡ false) }
         ensures unchanged { IfOk result (λ answer. answer ≢ GivenBack.Cut → self.new ≡ self.old) }
@@ -57,7 +57,7 @@ impl Book {
         requires kept { IsBook self.old }
         requires running { IsRunning self.old }
         requires uncut { (cut : Cut) → self.old.standing.cut ≡ Some cut → number_of ticket < cut.number }
-        ensures answer { IfOk result (λ answer. AnswersGivenBack self.old self.new seat ticket answer) }
+        ensures answer { IfOk result (λ answer. AnswersTicket self.old self.new seat ticket answer) }
         ensures unchanged { IfOk result (λ answer. answer ≢ GivenBack.Cut → self.new ≡ self.old) }
         ensures running { OnOk result (IsRunning self.new) }
         ensures follows { Follows self.old self.new }

@@ -1,8 +1,9 @@
 //! The pure state machine of a run: by the calls of its seats, claims and completions change its state one event after another.
 //!
 //! A seat claims a ready element and gets a ticket; the ticket is evaluated, with no book at hand; and the evaluation completes the
-//! claim, in any order with those of other seats. A ticket whose outputs want memory is given back. The crate has no threads, prints nothing, and knows no document. What a call
-//! answers is stated by the definitions of states; the search for enabled elements is the layer's below.
+//! claim, in any order with those of other seats. A ticket may be given back, as where memory for its outputs is wanted. The crate has
+//! no threads, prints nothing, and knows no document. What a call answers is stated by the definitions of states; the search for enabled
+//! elements is the layer's below.
 #![tactic(auto)]
 
 mod alone;

@@ -7,7 +7,7 @@ mod LineFeeds
 mod MonitorRows
 mod MonitorsApart
 mod NamesApart
-mod PrintableNets
+pub mod PrintableNets
 mod PrintableRuns
 mod ReportTexts
 mod RunRows

@@ -387,7 +387,7 @@ one_more n line lines first rest = and_from (is_one_line (line_text n line)) (ar
 module _ (setup : PlainSetup) (run : PlainFinished) (spelled : HasWellSpelledNames setup.net) (names : HaveSpelledNames run.values) (printable : IsPrintable setup.net run) where
   placed_lines : are_lines setup.net (place_lines setup.net.places run.marking) ≡ true
   placed_lines = places_lines setup.net spelled 0 setup.net.places run.marking spelled.places printable.net.named.places_named
-      (λ i lt. at_zero i (held_at setup.net.places run.marking i nothing printable.marking lt))
+      (λ i lt. at_zero i (held_at setup.net.places run.marking i nothing printable.parts.marking lt))
     where
       at_zero : (i : ℕ) → list_all (may_hold (get_or setup.net.places i nothing).colour) (tokens_at run.marking i) ≡ true → list_all (may_hold (get_or setup.net.places i nothing).colour) (tokens_at run.marking (0 + i)) ≡ true
       at_zero i is = let here : i ≡ 0 + i = omega arith in subst (λ k. list_all (may_hold (get_or setup.net.places i nothing).colour) (tokens_at run.marking k) ≡ true) here is
@@ -404,7 +404,7 @@ module _ (setup : PlainSetup) (run : PlainFinished) (spelled : HasWellSpelledNam
       let rest = place_lines n.places run.marking ++ last in
       one_more n (run_line number start setup.clock run.opening) (trace_lines run ++ last_lines setup run) (run_opens number start setup.clock run.opening)
       (joined_lines n (trace_lines run) (last_lines setup run)
-      (joined_lines n (map occurrence_line run.occurrences) (schedule_line run.journal ∷ []) (occurrences_lines n spelled printable.net run.occurrences printable.occurrences) (one_more n (schedule_line run.journal) [] (journal_line run.journal) refl))
+      (joined_lines n (map occurrence_line run.occurrences) (schedule_line run.journal ∷ []) (occurrences_lines n spelled printable.net run.occurrences printable.parts.occurrences) (one_more n (schedule_line run.journal) [] (journal_line run.journal) refl))
       (one_more n (end_line run.values run.cause) (occurrences_line (length run.occurrences) ∷ clock_line run.clock ∷ rest) (cause_line n spelled printable.net run.values run.cause names printable.cause)
       (one_more n (occurrences_line (length run.occurrences)) (clock_line run.clock ∷ rest) (counted_line (length run.occurrences))
       (one_more n (clock_line run.clock) rest (last_clock_line run.clock) (joined_lines n (place_lines n.places run.marking) last placed_lines closing_lines)))))

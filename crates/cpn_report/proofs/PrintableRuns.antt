@@ -54,7 +54,6 @@ is_printable_in_part setup run net marking is = record {
 pub is_printable : RunsArePrintable
 is_printable setup run net marking is other = record {
   net = net;
-  occurrences = (is_printable_in_part setup run net marking is).occurrences;
+  parts = is_printable_in_part setup run net marking is;
   cause = subst (λ values. IsCause setup.net values run.cause) (sym is.values_are) (cause_bound setup is.state run.marking run.clock run.cause is.true_fault is.true_stop other);
-  marking = (is_printable_in_part setup run net marking is).marking;
 }

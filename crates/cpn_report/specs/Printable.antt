@@ -39,23 +39,23 @@ IsCause n values (stopped_by monitor) = monitor < length values
 IsCause n values (fault_end e fault) = is_binding_element n e ≡ true
 IsCause n values wants_memory = ⊥
 
--- The report of the run can be printed: each value in it is one of the colour set of its variable or its place, and has
--- its names in the net; the monitor that stopped it, if one did, has a value; and it does not end for want of memory.
-pub record IsPrintable (n : PlainNet) (run : PlainFinished) : Type 0 where
-  pub net : IsPrintableNet n
-  pub occurrences : list_all (is_occurrence n) run.occurrences ≡ true
-  pub cause : IsCause n run.values run.cause
-  pub marking : IsMarking n.places run.marking
-
--- What of a run can be printed, whatever ends it: its occurrences, and its last marking.
+-- The occurrences and the last marking of the run can be printed, whatever ends it: each value in them is one of the colour set of its
+-- variable or its place. Its journal, and what its monitors measured, ask for nothing.
 pub record IsPrintableInPart (n : PlainNet) (run : PlainFinished) : Type 0 where
   pub occurrences : list_all (is_occurrence n) run.occurrences ≡ true
   pub marking : IsMarking n.places run.marking
 
--- so it is of a run of a printable net, from a marking of its places
+-- The report of the run can be printed: these can, and each value has its names in the net; the monitor that stopped it, if one did, has
+-- a value; and it does not end for want of memory.
+pub record IsPrintable (n : PlainNet) (run : PlainFinished) : Type 0 where
+  pub net : IsPrintableNet n
+  pub parts : IsPrintableInPart n run
+  pub cause : IsCause n run.values run.cause
+
+-- Each run of a printable net, from a marking of its places, is printable in part.
 abbrev pub RunsArePrintableInPart : Type 0
 RunsArePrintableInPart = (setup : PlainSetup) (run : PlainFinished) → IsPrintableNet setup.net → IsMarking setup.net.places setup.start → IsRun setup run → IsPrintableInPart setup.net run
 
--- and such a run can be printed whole, unless it ends for want of memory
+-- The whole report of such a run can be printed, unless it ends for want of memory.
 abbrev pub RunsArePrintable : Type 0
 RunsArePrintable = (setup : PlainSetup) (run : PlainFinished) → IsPrintableNet setup.net → IsMarking setup.net.places setup.start → IsRun setup run → run.cause ≢ wants_memory → IsPrintable setup.net run

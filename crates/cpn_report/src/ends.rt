@@ -15,8 +15,8 @@ use cpn_runs::End;
 use std::alloc::Global;
 use std::fmt::Write;
 
-/// The line of the cause of a run's end, without a line feed. A stop is told by the name of its monitor, which the values have. A run that
-/// ends for want of memory has no report.
+/// The line of the cause of a run's end, without a line feed. A stop is told by the name of its monitor, which the values have. The cause
+/// is not want of memory, which has no line.
 ///
 /// `Err` comes for want of memory alone.
 pub fn end_text(alloc: Global, net: &Net, values: &Values14, cause: &End) -> Result<String, Memory>

@@ -27,8 +27,8 @@ use std::alloc::Global;
 /// occurrences there are in all. Without a trace it leaves out the lines of the occurrences and of the
 /// journal, and no other. Source: own choice.
 ///
-/// Each value that is printed is one of the colour set of its variable or its place, and the net has the names for
-/// it. `Err` comes for want of memory alone.
+/// Each value that is printed is one of the colour set of its variable or its place, the net has the names for it, and the run does not
+/// end for want of memory. `Err` comes for want of memory alone.
 #[tactic(auto, using(crate::proofs::ScheduleLines::schedules_differ))]
 pub fn report(alloc: Global, trace: Trace, finished: &Finished) -> Result<String, Memory>
     requires printable { IsPrintable (net_view finished.now.setup.net.value) (finished_view finished.now) }
@@ -43,7 +43,8 @@ pub fn report(alloc: Global, trace: Trace, finished: &Finished) -> Result<String
     Ok(out)
 }
 
-/// The lines of the run with this number, each with its line feed, from its opening to what its monitors measured.
+/// The lines of the run with this number, each with its line feed, from its opening to what its monitors measured. The run is one that
+/// `report` may print.
 ///
 /// `Err` comes for want of memory alone.
 pub fn run_text(

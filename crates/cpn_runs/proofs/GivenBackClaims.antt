@@ -6,7 +6,7 @@ use Rattle.cpn_monitor.specs.MeasuredRuns.{MarkedOccurrence}
 use Rattle.cpn_monitor.specs.Monitors.{PlainMonitor}
 use Rattle.cpn_runs.specs.Commits.{marked_claim, marked_from, stop_at_last, committed_from}
 use Rattle.cpn_runs.specs.HoleRun.{PlainClaim, is_open, is_done, after_claim}
-use Rattle.cpn_runs.specs.State.{PlainSetup, PlainState, PlainCut, cut_at, committed, committed_claims, stop_in, owed_cut, IsGivenBack}
+use Rattle.cpn_runs.specs.State.{PlainSetup, PlainState, PlainCut, cut_at, committed, committed_claims, stop_in, owed_cut, GivesBack}
 use Rattle.cpn_runs.specs.GivingBack.{OnlyGivenBack}
 use Rattle.cpn_runs.proofs.Cuts.{not_done, done_last, done_goes_on, open_is_not_done, owes_none, owes_none_so}
 
@@ -76,7 +76,7 @@ are_ahead monitors before m (suc i) (first ∷ claims) claim is opened = split (
 abbrev pub left_after : PlainState → PlainCut → PlainState
 left_after old cut = record old { claims = take cut.number old.claims; cut = Some cut }
 
-module _ (setup : PlainSetup) (old : PlainState) (cut : PlainCut) (back : IsGivenBack setup old cut) where
+module _ (setup : PlainSetup) (old : PlainState) (cut : PlainCut) (back : GivesBack setup old cut) where
   those_ahead : AreAhead setup.monitors [] setup.start cut.number old.claims
   those_ahead = are_ahead setup.monitors [] setup.start cut.number old.claims back.claim back.claim_is back.opened
 

@@ -7,7 +7,7 @@ use Rattle.cpn_definitions.specs.Occurrence.{needs_of, outputs_of}
 use Rattle.cpn_definitions.specs.Outcome.{not_in_colour}
 use Rattle.cpn_monitor.specs.Monitors.{stops_by_count}
 use Rattle.cpn_runs.specs.HoleRun.{PlainClaim, done_with, faulted_with, is_open}
-use Rattle.cpn_runs.specs.State.{claim_made, claim_completed, cut_made, PlainEnd, wants_memory, PlainCut, PlainState, first_state, unclaimed_in, committed, committed_occurrences, owed_cut, IsGivenBack, MayComplete, MayCut, IsState, EndsBy}
+use Rattle.cpn_runs.specs.State.{claim_made, claim_completed, cut_made, PlainEnd, wants_memory, PlainCut, PlainState, first_state, unclaimed_in, committed, committed_occurrences, owed_cut, GivesBack, MayComplete, MayCut, IsState, EndsBy}
 use Rattle.cpn_runs.specs.GivingBack.{NoneIsGivenBack}
 use Rattle.cpn_runs.proofs.WorkedNet.{seven}
 use Rattle.cpn_runs.proofs.StopRows.{by, stop_cut, stopped_with}
@@ -102,7 +102,7 @@ first_is_back = record { cut = back_at 0; due = inr (record { none_owed = refl; 
 -- ---- what is not given back
 
 -- a claim that is done
-done_stays : (cut : PlainCut) → cut.number ≡ 1 → IsGivenBack setup second_done cut → ⊥
+done_stays : (cut : PlainCut) → cut.number ≡ 1 → GivesBack setup second_done cut → ⊥
 done_stays cut at back =
     let claim_is : Some (done 1) ≡ Some back.claim = subst (λ k. slice_get second_done.claims k ≡ Some back.claim) at back.claim_is in
     let P : PlainClaim → Type 0 = λ claim. is_open claim.status ≡ true in
@@ -111,7 +111,7 @@ done_stays cut at back =
     cc
 
 -- and any where a cut is owed
-none_where_owed : (cut : PlainCut) → IsGivenBack (by (stops_by_count 0 1)) (with_claims (done 0 ∷ opened 1 ∷ [])) cut → ⊥
+none_where_owed : (cut : PlainCut) → GivesBack (by (stops_by_count 0 1)) (with_claims (done 0 ∷ opened 1 ∷ [])) cut → ⊥
 none_where_owed cut back = let e : Some (stop_cut 1 0) ≡ None = back.none_owed in cc
 
 -- ---- journals in which none is given back

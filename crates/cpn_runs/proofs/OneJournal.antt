@@ -12,7 +12,7 @@ use Rattle.cpn_definitions.specs.Legal.{LeastTime}
 use Rattle.cpn_definitions.proofs.TruthValues.{not_both}
 use Rattle.cpn_definitions.proofs.ListItems.{last_changed}
 use Rattle.cpn_runs.specs.HoleRun.{PlainClaim, is_open}
-use Rattle.cpn_runs.specs.State.{PlainSetup, PlainEvent, claim_made, claim_completed, clock_moved, cut_made, PlainEnd, dead, steps_made, until_passed, fault_end, stopped_by, wants_memory, PlainState, unclaimed_in, committed_claims, owed_cut, is_held_by, new_claim, PlainCut, IsGivenBack, IsDue, MayClaim, MayComplete, MayMove, MayCut, Happens, Leads, HasCause, EndsBy}
+use Rattle.cpn_runs.specs.State.{PlainSetup, PlainEvent, claim_made, claim_completed, clock_moved, cut_made, PlainEnd, dead, steps_made, until_passed, fault_end, stopped_by, wants_memory, PlainState, unclaimed_in, committed_claims, owed_cut, is_held_by, new_claim, PlainCut, GivesBack, IsDue, MayClaim, MayComplete, MayMove, MayCut, Happens, Leads, HasCause, EndsBy}
 use Rattle.cpn_runs.specs.GivingBack.{IsOwedIfCut}
 use Rattle.cpn_runs.proofs.Cuts.{committed_are_done, done_are_closed, uncut_so, owed_is, left_by, left_owes_none}
 use Rattle.cpn_runs.proofs.GivenBackClaims.{left_after, still_owes_none}
@@ -354,7 +354,7 @@ ends_by_memory setup old cut [] s cause over stands leads ends =
 ends_by_memory setup old cut (event ∷ J) s cause over stands leads ends = absurd (none_after_cut setup old event leads.0 over leads.1)
 
 -- the claim of a busy state that is given back leaves none open
-back_is_cut : (setup : PlainSetup) (old : PlainState) (cut : PlainCut) → IsBusy setup old → IsGivenBack setup old cut → IsCut setup (left_after old cut)
+back_is_cut : (setup : PlainSetup) (old : PlainState) (cut : PlainCut) → IsBusy setup old → GivesBack setup old cut → IsCut setup (left_after old cut)
 back_is_cut setup old cut busy back =
     let P : List PlainClaim → Type 0 = λ cs. slice_get cs cut.number ≡ Some back.claim in
     let at = open_is_last busy.before busy.last back.claim cut.number busy.closed (subst P busy.claims_are back.claim_is) back.opened in

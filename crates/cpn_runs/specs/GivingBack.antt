@@ -1,4 +1,4 @@
--- What is said of claims that are given back for want of memory, beside what a state is. Source: own choice.
+-- Journals in which no claim is given back for want of memory, and states that are cut for nothing else. Source: own choice.
 use Rattle.std.specs.Prelude.{◌≡◌, ◌≢◌, List, [], ◌∷◌, Option, Some, None}
 use Rattle.cpn_runs.specs.State.{PlainSetup, PlainEvent, claim_made, claim_completed, clock_moved, cut_made, wants_memory, PlainCut, PlainState, owed_cut, Happens}
 
@@ -6,6 +6,11 @@ use Rattle.cpn_runs.specs.State.{PlainSetup, PlainEvent, claim_made, claim_compl
 abbrev pub OnlyGivenBack : Option PlainCut → Type 0
 OnlyGivenBack None = Unit {0}
 OnlyGivenBack (Some cut) = cut.cause ≡ wants_memory
+
+-- a cut for want of memory stands
+abbrev pub IsCutForMemory : Option PlainCut → Type 0
+IsCutForMemory None = ⊥
+IsCutForMemory (Some cut) = cut.cause ≡ wants_memory
 
 -- where the event is a cut, a cut is owed, so it gives no claim back
 abbrev pub IsOwedIfCut : PlainSetup → PlainState → PlainEvent → Type 0

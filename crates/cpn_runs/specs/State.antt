@@ -191,7 +191,7 @@ pub record MayMove (setup : PlainSetup) (old : PlainState) (time : ℕ) (new : P
   pub new_is : new ≡ record old { clock = time }
 
 -- A cut for want of memory: none is owed, and the claim of its number is open, and is given back.
-pub record IsGivenBack (setup : PlainSetup) (old : PlainState) (cut : PlainCut) : Type 0 where
+pub record GivesBack (setup : PlainSetup) (old : PlainState) (cut : PlainCut) : Type 0 where
   pub none_owed : owed_cut setup old ≡ None
   pub claim : PlainClaim
   pub claim_is : slice_get old.claims cut.number ≡ Some claim
@@ -200,7 +200,7 @@ pub record IsGivenBack (setup : PlainSetup) (old : PlainState) (cut : PlainCut) 
 
 -- A cut that may be made: it is owed, or gives a claim back.
 abbrev pub IsDue : PlainSetup → PlainState → PlainCut → Type 0
-IsDue setup old cut = (owed_cut setup old ≡ Some cut) ⊎ IsGivenBack setup old cut
+IsDue setup old cut = (owed_cut setup old ≡ Some cut) ⊎ GivesBack setup old cut
 
 -- Cut: it is due, and has the number. The claims from that number on are removed, and the cut stands; what they took is
 -- back in the marking that the claims leave. Claims ahead of the number may still be open.

@@ -28,8 +28,10 @@ pub struct Limits {
     pub seats: u32,
 }
 
-/// The cause of a run's end: first those of a cut, of which the last that was made counts; then those of a run without one, in the order in
-/// which they are tried.
+/// The cause of a run's end: that of its last cut, if it has one (`Stop`, `Fault` or `Memory`); otherwise the first of the others that
+/// holds, in their order here.
+///
+/// Source: own choice.
 #[derive(Drop)]
 pub enum End {
     /// The monitor of this number, from 0, stops the run after its last occurrence.

@@ -2,6 +2,7 @@ mod Readings
 mod RefusalCauses
 mod RefusedDocuments
 mod OneReport
+mod StartedBooks
 mod WrittenReports
 mod OptionRanges
 mod AcceptedRuns

@@ -35,10 +35,11 @@ abbrev pub IsReported : Status → Type 0
 IsReported status = (status ≡ statuses.Done) ⊎ (status ≡ statuses.RunFault)
 
 -- The text is the report of a run of the model, and the status is that of its end: the run's journal leads to a state
--- that ends by the cause, its occurrences are a legal occurrence sequence from the initial marking to the printed one; where
--- the cause is a fault, its element is covered at the printed marking and clock, and its outputs have the fault, and where it is a
--- stop, its monitor is the first that stops the run after the last occurrence; what is printed as ready and next, at the start and at
--- the end, is that of the enabled elements; it does not end for want of memory; and what is printed of each monitor is what it measures of those occurrences, up to the printed clock.
+-- that ends by the cause, which is not want of memory; its occurrences are a legal occurrence sequence from the initial marking to
+-- the printed one; where the cause is a fault, its element is covered at the printed marking and clock, and its outputs have the
+-- fault, and where it is a stop, its monitor is the first that stops the run after the last occurrence; what is printed as ready and
+-- next, at the start and at the end, is that of the enabled elements; and what is printed of each monitor is what it measures of
+-- those occurrences, up to the printed clock.
 pub record IsReportOf (model : PlainModel) (options : PlainOptions) (status : Status) (report : List ℕ) : Type 0 where
   pub run : PlainFinished
   pub is_run : IsRun (setup_from model options) run

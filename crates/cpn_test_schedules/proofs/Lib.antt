@@ -1,3 +1,2 @@
-mod SeenItems
 mod ShownBooks
 mod ToldEnds

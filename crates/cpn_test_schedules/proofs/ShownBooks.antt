@@ -1,6 +1,7 @@
 -- What a book tells can be printed: its claims are of binding elements.
 use Rattle.std.proofs.Common.{◌≡◌, refl, sym, subst, ℕ, Bool, true, false, if◌then◌else◌, List, ◌∷◌, Option, Some, None, slice_get}
 use Rattle.std.specs.List.{AllByRecursion}
+use Rattle.std.specs.Option.{option_map}
 use Rattle.cpn_definitions.proofs.LegalSequences.{covered_is_bound}
 use Rattle.cpn_definitions.proofs.ListItems.{split_at, all_parts}
 use Rattle.cpn_jobs.specs.Views.{job_view}
@@ -8,7 +9,7 @@ use Rattle.cpn_jobs.specs.Work.{PlainJob}
 use Rattle.cpn_runs.specs.HoleRun.{PlainClaim, is_open}
 use Rattle.cpn_runs.specs.State.{PlainSetup, claim_made}
 use Rattle.cpn_runs.proofs.States.{IsClaimOf, every_state, event_reaches}
-use Rattle.cpn_book.specs.Answers.{AnswersClaim, AnswersEvaluation, AnswersGivenBack, job_if_open}
+use Rattle.cpn_book.specs.Answers.{AnswersClaim, AnswersEvaluation, AnswersTicket, job_if_open, open_job}
 use Rattle.cpn_book.specs.Books.{setup_in, journal_in, InState}
 use Rattle.cpn_book.specs.States.{claimed_job}
 use Rattle.cpn_book.specs.Tickets.{number_of, evaluated_number}
@@ -21,8 +22,7 @@ use Rattle.cpn_book.specs.declared.answers.Completed.{Completed}
 use Rattle.cpn_book.specs.declared.answers.Completed.TheVariants as completions
 use Rattle.cpn_book.specs.declared.answers.GivenBack.{GivenBack}
 use Rattle.cpn_book.specs.declared.answers.GivenBack.TheVariants as returns
-use Rattle.std.proofs.lemmas.Option.{same_Some}
-use Rattle.cpn_test_schedules.specs.Shown.{IsShown, HasElement, TellsElement, KeepsElement, KeepsElementGivenBack}
+use Rattle.cpn_test_schedules.specs.Shown.{IsShown, HasElement, KeptHasElement, TellsElement, KeepsElement, TicketKeepsElement}
 
 -- a claim among those of a run has a binding element
 claim_shown : (setup : PlainSetup) (claims : List PlainClaim) (k : ℕ) (claim : PlainClaim) → AllByRecursion (IsClaimOf setup) claims → slice_get claims k ≡ Some claim → HasElement setup.net (claimed_job setup claim)
@@ -43,14 +43,21 @@ ticket_shown book seat (claims.Ticket ticket) is tells =
     let reached = event_reaches setup (journal_in book) state (claim_made seat (number_of ticket)) made.after (every_state setup (journal_in book) state is.kept.reached) made.may in
     subst (HasElement setup.net) (sym made.job_is) (claim_shown setup made.after.claims (number_of ticket) made.claim reached.claims_are made.claim_is)
 
--- the job of the open claim of a number has a binding element
-open_shown : (setup : PlainSetup) (claims : List PlainClaim) (k : ℕ) (found : Option PlainClaim) (job : PlainJob) → AllByRecursion (IsClaimOf setup) claims → slice_get claims k ≡ found → Some job ≡ job_if_open setup found → HasElement setup.net job
-open_shown setup claims k None job all at is = absurd cc
-open_shown setup claims k (Some claim) job all at is = by_status (is_open claim.status) is
+-- the job of the open claim of a number, if there is one, has a binding element
+kept_in : (setup : PlainSetup) (claims : List PlainClaim) (k : ℕ) (found : Option PlainClaim) → AllByRecursion (IsClaimOf setup) claims → slice_get claims k ≡ found → KeptHasElement setup.net (job_if_open setup found)
+kept_in setup claims k None all at = tt
+kept_in setup claims k (Some claim) all at = by_status (is_open claim.status)
   where
-    by_status : (opened : Bool) → Some job ≡ (if opened then Some (claimed_job setup claim) else None) → HasElement setup.net job
-    by_status true e = subst (HasElement setup.net) (sym (same_Some job (claimed_job setup claim) e)) (claim_shown setup claims k claim all at)
-    by_status false e = absurd cc
+    by_status : (opened : Bool) → KeptHasElement setup.net (if opened then Some (claimed_job setup claim) else None)
+    by_status true = claim_shown setup claims k claim all at
+    by_status false = tt
+
+-- so it is of the job that a stranger is answered with
+stranger_shown : (book : Book) (is : IsShown book) (number : ℕ) (kept : Option PlainJob) → kept ≡ open_job (setup_in book) is.kept.state number → KeptHasElement (setup_in book).net kept
+stranger_shown book is number kept kept_is =
+    let setup = setup_in book in
+    let state = is.kept.state in
+    subst (KeptHasElement setup.net) (sym kept_is) (kept_in setup state.claims number (slice_get state.claims number) (every_state setup (journal_in book) state is.kept.reached).claims_are refl)
 
 pub kept_shown
     : (book after : Book) (seat : ℕ) (done : Evaluated) (answer : Completed)
@@ -59,23 +66,17 @@ pub kept_shown
     → KeepsElement (setup_in book).net answer
 kept_shown book after seat done completions.Done is tells = tt
 kept_shown book after seat done (completions.Void number) is tells = tt
-kept_shown book after seat done (completions.Stranger None brought) is tells = tt
-kept_shown book after seat done (completions.Stranger (Some job) brought) is tells =
-    let setup = setup_in book in
-    let state = is.kept.state in
-    let told = (tells state is.kept.reached).2 in
-    open_shown setup state.claims (evaluated_number done) (slice_get state.claims (evaluated_number done)) (job_view job.value) (every_state setup (journal_in book) state is.kept.reached).claims_are refl told.2.2
+kept_shown book after seat done (completions.Stranger kept brought) is tells =
+    let told = (tells is.kept.state is.kept.reached).2 in
+    stranger_shown book is (evaluated_number done) (option_map (λ job. job_view job.value) kept) told.2.2
 
 pub given_back_shown
     : (book after : Book) (seat : ℕ) (ticket : Ticket) (answer : GivenBack)
     → IsShown book
-    → AnswersGivenBack book after seat ticket answer
-    → KeepsElementGivenBack (setup_in book).net answer
+    → AnswersTicket book after seat ticket answer
+    → TicketKeepsElement (setup_in book).net answer
 given_back_shown book after seat ticket returns.Cut is tells = tt
 given_back_shown book after seat ticket (returns.Void number) is tells = tt
-given_back_shown book after seat ticket (returns.Stranger None brought) is tells = tt
-given_back_shown book after seat ticket (returns.Stranger (Some job) brought) is tells =
-    let setup = setup_in book in
-    let state = is.kept.state in
-    let told = (tells state is.kept.reached).2 in
-    open_shown setup state.claims (number_of ticket) (slice_get state.claims (number_of ticket)) (job_view job.value) (every_state setup (journal_in book) state is.kept.reached).claims_are refl told.2.2
+given_back_shown book after seat ticket (returns.Stranger kept brought) is tells =
+    let told = (tells is.kept.state is.kept.reached).2 in
+    stranger_shown book is (number_of ticket) (option_map (λ job. job_view job.value) kept) told.2.2

@@ -1,5 +1,6 @@
 -- What is asked for of what is printed, so that each value has its text. Source: own choice.
-use Rattle.std.specs.Prelude.{◌≡◌, ◌≤◌, ◌<◌, true, Option, MatchOption}
+use Rattle.std.specs.Prelude.{◌≡◌, ◌≤◌, ◌<◌, true, Option, Some, None}
+use Rattle.std.specs.Option.{option_map}
 use Rattle.cpn_definitions.specs.Named.{IsNamed}
 use Rattle.cpn_definitions.specs.Net.{PlainNet}
 use Rattle.cpn_definitions.specs.Times.{last_time}
@@ -49,16 +50,18 @@ TellsElement n (claims.Nothing held) = Unit {0}
 TellsElement n (claims.Ticket ticket) = HasElement n (job_of ticket)
 
 -- the job that is kept, if there is one, is of a binding element
-abbrev pub HasKept : {J : Type 0} → (J → PlainJob) → PlainNet → Option J → Type 0
-HasKept view n kept = MatchOption kept (Unit {0}) (λ job. HasElement n (view job))
+abbrev pub KeptHasElement : PlainNet → Option PlainJob → Type 0
+KeptHasElement n None = Unit {0}
+KeptHasElement n (Some job) = HasElement n job
 
--- so it is in the answer to an evaluation, and in that to a ticket that is given back
+-- the job that the answer to an evaluation keeps is so
 abbrev pub KeepsElement : PlainNet → Completed → Type 0
 KeepsElement n completions.Done = Unit {0}
 KeepsElement n (completions.Void number) = Unit {0}
-KeepsElement n (completions.Stranger kept brought) = HasKept (λ job. job_view job.value) n kept
+KeepsElement n (completions.Stranger kept brought) = KeptHasElement n (option_map (λ job. job_view job.value) kept)
 
-abbrev pub KeepsElementGivenBack : PlainNet → GivenBack → Type 0
-KeepsElementGivenBack n returns.Cut = Unit {0}
-KeepsElementGivenBack n (returns.Void number) = Unit {0}
-KeepsElementGivenBack n (returns.Stranger kept brought) = HasKept (λ job. job_view job.value) n kept
+-- the job that the answer to a ticket keeps is so
+abbrev pub TicketKeepsElement : PlainNet → GivenBack → Type 0
+TicketKeepsElement n returns.Cut = Unit {0}
+TicketKeepsElement n (returns.Void number) = Unit {0}
+TicketKeepsElement n (returns.Stranger kept brought) = KeptHasElement n (option_map (λ job. job_view job.value) kept)

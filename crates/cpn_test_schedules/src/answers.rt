@@ -1,9 +1,10 @@
 //! What the calls on a book answer, as text.
 
+ghost use Rattle.std.specs.Option.{option_map};
 ghost use Rattle.cpn_core.specs.Nets.{net_view};
 ghost use Rattle.cpn_jobs.specs.Views.{job_view};
 ghost use Rattle.cpn_report.specs.Printable.{IsPrintableNet};
-ghost use Rattle.cpn_test_schedules.specs.Shown.{HasElement, HasKept, KeepsElement, KeepsElementGivenBack, TellsElement};
+ghost use Rattle.cpn_test_schedules.specs.Shown.{HasElement, KeptHasElement, KeepsElement, TellsElement, TicketKeepsElement};
 
 use cpn_book::{Advanced, Claimed, Completed, GivenBack};
 use cpn_core::{Memory, Net};
@@ -50,7 +51,7 @@ pub fn completed_text(alloc: Global, net: &Net, answer: &Completed) -> Result<St
 /// The answer to a seat that gives a ticket back.
 pub fn given_back_text(alloc: Global, net: &Net, answer: &GivenBack) -> Result<String, Memory>
     requires net { IsPrintableNet (net_view net.now) }
-    requires element { KeepsElementGivenBack (net_view net.now) answer.now }
+    requires element { TicketKeepsElement (net_view net.now) answer.now }
 {
     let mut out = String::new(alloc);
     match answer {
@@ -80,7 +81,7 @@ pub fn advanced_text(alloc: Global, answer: Advanced) -> Result<String, Memory> 
 /// Appends that what was brought is a stranger, and the job of the open claim of its number, if there is one.
 fn push_stranger(out: &mut String, net: &Net, kept: &Option<Arc<Job>>) -> Result<(), Memory>
     requires net { IsPrintableNet (net_view net.now) }
-    requires element { HasKept (λ job. job_view job.value) (net_view net.now) kept.now }
+    requires element { KeptHasElement (net_view net.now) (option_map (λ job. job_view job.value) kept.now) }
 {
     match kept {
         Some(job) => {

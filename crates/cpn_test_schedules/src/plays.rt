@@ -90,13 +90,13 @@ impl Table {
                 let Some(done) = self.hand(run).take_evaluation(number)? else {
                     return Err(refused(place, "no evaluation of that claim is at hand"));
                 };
-                Ok(Some(self.bring(book, line, seat, run, done)?))
+                Ok(Some(self.complete(book, line, seat, run, done)?))
             }
             Call::GiveBack { seat, run, number } => {
                 let Some(ticket) = self.hand(run).take_ticket(number) else {
                     return Err(refused(place, "no ticket of that claim is at hand"));
                 };
-                Ok(Some(self.bring_back(book, line, seat, run, ticket)?))
+                Ok(Some(self.give_back(book, line, seat, run, ticket)?))
             }
             Call::Advance => Ok(Some(self.advance(book, line)?)),
             Call::Search { time } => Ok(Some(self.search(book, line, time)?)),
@@ -106,44 +106,6 @@ impl Table {
             }
             Call::Finish => Ok(self.finish(book, line)?),
         }
-    }
-
-    /// A completion by a seat. The evaluation is at hand again, where it comes back.
-    fn bring(
-        &mut self,
-        book: Book,
-        line: &str,
-        seat: u32,
-        run: Run,
-        done: Evaluated,
-    ) -> Result<Book, Memory>
-        requires shown { IsShown book }
-        ensures shown { IfOk result (λ book. IsShown book) }
-    {
-        let (book, back) = self.complete(book, line, seat, done)?;
-        if let Some(done) = back {
-            self.hand(run).put_evaluation(done)?;
-        }
-        Ok(book)
-    }
-
-    /// A ticket that a seat gives back. It is at hand again, where it comes back.
-    fn bring_back(
-        &mut self,
-        book: Book,
-        line: &str,
-        seat: u32,
-        run: Run,
-        ticket: Ticket,
-    ) -> Result<Book, Memory>
-        requires shown { IsShown book }
-        ensures shown { IfOk result (λ book. IsShown book) }
-    {
-        let (book, back) = self.give_back(book, line, seat, ticket)?;
-        if let Some(ticket) = back {
-            self.hand(run).put_ticket(ticket)?;
-        }
-        Ok(book)
     }
 
     /// What is at hand of the claims of a run.
@@ -170,40 +132,48 @@ impl Table {
         Ok(book)
     }
 
-    /// A completion by a seat: the book after it, and the evaluation, where it comes back.
+    /// A completion by a seat. The evaluation is at hand again, where it comes back.
     fn complete(
         &mut self,
         book: Book,
         line: &str,
         seat: u32,
+        run: Run,
         done: Evaluated,
-    ) -> Result<(Book, Option<Evaluated>), Memory>
+    ) -> Result<Book, Memory>
         requires shown { IsShown book }
-        ensures shown { IfOk result (λ after. IsShown after.0) }
+        ensures shown { IfOk result (λ book. IsShown book) }
     {
         let mut book = book;
         let completed = book.complete(seat, done)?;
         let answer = completed_text(self.alloc, net_of(&book), &completed)?;
         push_row(&mut self.out, line, answer.as_str(), &book)?;
-        Ok((book, evaluation_of(completed)))
+        if let Some(back) = evaluation_of(completed) {
+            self.hand(run).put_evaluation(back)?;
+        }
+        Ok(book)
     }
 
-    /// A ticket that a seat gives back: the book after it, and the ticket, where it comes back.
+    /// A ticket that a seat gives back. It is at hand again, where it comes back.
     fn give_back(
         &mut self,
         book: Book,
         line: &str,
         seat: u32,
+        run: Run,
         ticket: Ticket,
-    ) -> Result<(Book, Option<Ticket>), Memory>
+    ) -> Result<Book, Memory>
         requires shown { IsShown book }
-        ensures shown { IfOk result (λ after. IsShown after.0) }
+        ensures shown { IfOk result (λ book. IsShown book) }
     {
         let mut book = book;
         let given_back = book.give_back(seat, ticket)?;
         let answer = given_back_text(self.alloc, net_of(&book), &given_back)?;
         push_row(&mut self.out, line, answer.as_str(), &book)?;
-        Ok((book, ticket_of(given_back)))
+        if let Some(back) = ticket_of(given_back) {
+            self.hand(run).put_ticket(back)?;
+        }
+        Ok(book)
     }
 
     /// A move of the clock.

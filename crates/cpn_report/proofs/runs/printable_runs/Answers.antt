@@ -3,4 +3,4 @@ use Rattle.cpn_report.proofs.PrintableRuns.{is_printable_in_part, is_printable}
 use Rattle.cpn_report.proofs.runs.printable_runs.Goals as goal
 
 pub returns : goal.returns
-returns c = record { texts = is_printable_in_part; printable = is_printable }
+returns c = record { in_part = is_printable_in_part; printable = is_printable }

@@ -9,6 +9,7 @@ use Rattle.cpn_core.specs.declared.nets.Net.{Net}
 use Rattle.cpn_core.specs.Nets.{net_view}
 use Rattle.std.specs.Arc.{arc_value}
 use Rattle.cpn_flat.specs.Views.{loaded_view}
+use Rattle.cpn_sim.proofs.StartedBooks.{none_for_memory}
 use Rattle.cpn_sim.proofs.answers.report_of.Goals as goal
 
 pub report-requires : goal.report-requires
@@ -21,7 +22,7 @@ report-requires c =
     let Runs : PlainSetup → Type 0 = λ s. IsRun s (finished_view run) in
     let at : setup_view run.setup ≡ _ = c.in_ok-finished.ensures.setup ∙ c.in_ok-book.ensures.setup in
     let start : Starts (setup_view run.setup) = subst Starts (sym at) (subst OfNet (sym same) (loaded.sound, loaded.named, loaded.marking)) in
-    record { printable = c.printable_runs.ensures.printable (setup_view run.setup) (finished_view run) (record { sound = start.0; named = start.1 }) start.2 (subst Runs (sym c.in_ok-finished.ensures.setup) c.in_ok-finished.ensures.run) (c.in_ok-finished.ensures.ends_otherwise c.in_ok-book.ensures.journal) }
+    record { printable = c.printable_runs.ensures.printable (setup_view run.setup) (finished_view run) (record { sound = start.0; named = start.1 }) start.2 (subst Runs (sym c.in_ok-finished.ensures.setup) c.in_ok-finished.ensures.run) (λ memory. none_for_memory c.in_ok-book.book c.in_ok-book.ensures.journal (c.in_ok-finished.ensures.ends_for_memory memory)) }
 
 pub status_after-status-requires : goal.status_after-status-requires
-status_after-status-requires c = record { told = c.in_ok-finished.ensures.ends_otherwise c.in_ok-book.ensures.journal }
+status_after-status-requires c = record { told = λ memory. none_for_memory c.in_ok-book.book c.in_ok-book.ensures.journal (c.in_ok-finished.ensures.ends_for_memory memory) }

@@ -5,7 +5,7 @@ use Rattle.cpn_test_schedules.proofs.rows.push_end.Goals as goal
 
 pub push_parts-requires-clause-parts : goal.push_parts-requires-clause-parts
 push_parts-requires-clause-parts c =
-    c.printable_runs.ensures.texts (setup_view c.args.finished.now.setup) (finished_view c.args.finished.now) (record { sound = c.requires.shown.playable.sound; named = c.requires.shown.named }) c.requires.shown.playable.marking c.requires.run
+    c.printable_runs.ensures.in_part (setup_view c.args.finished.now.setup) (finished_view c.args.finished.now) (record { sound = c.requires.shown.playable.sound; named = c.requires.shown.named }) c.requires.shown.playable.marking c.requires.run
 
 pub push_report-requires : goal.push_report-requires
 push_report-requires c = record {

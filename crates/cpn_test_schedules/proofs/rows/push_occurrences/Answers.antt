@@ -2,7 +2,7 @@
 use Rattle.cpn_core.specs.Nets.{net_view}
 use Rattle.cpn_core.specs.Occurrences.{occurrence_view}
 use Rattle.cpn_report.specs.Printable.{is_occurrence}
-use Rattle.cpn_test_schedules.proofs.SeenItems.{passes_seen}
+use Rattle.cpn_report.proofs.PrintableNets.{passes_seen}
 use Rattle.cpn_test_schedules.proofs.rows.push_occurrences.Goals as goal
 
 pub occurrence_text-requires-clause-element : goal.occurrence_text-requires-clause-element

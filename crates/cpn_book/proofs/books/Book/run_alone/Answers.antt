@@ -6,10 +6,10 @@ use Rattle.cpn_runs.specs.Run.{PlainFinished}
 use Rattle.cpn_runs.specs.Views.{end_view}
 use Rattle.cpn_runs.specs.FinishedViews.{setup_view, finished_view}
 use Rattle.cpn_book.specs.Books.{setup_in, journal_in, IsBook}
-use Rattle.cpn_book.specs.GoingAlone.{GivesNoneBack}
+use Rattle.cpn_book.specs.GoingAlone.{GivesNoneBack, GoesOnAloneTo}
 use Rattle.cpn_book.specs.declared.books.Book.{Book}
 use Rattle.cpn_book.proofs.BoundedBooks.{shown_run, run_ends_in_bounds}
-use Rattle.cpn_book.proofs.EndedAlone.{ends_otherwise_alone}
+use Rattle.cpn_book.proofs.EndedAlone.{ends_alone_for_memory}
 use Rattle.cpn_book.proofs.GoingAlone.{goes_on_by, goes_on_from, both_give_none}
 use Rattle.cpn_book.proofs.RunningBooks.{running_is_book}
 use Rattle.cpn_book.proofs.books.Book.run_alone.Goals as goal
@@ -32,7 +32,7 @@ loop-number-init c =
       running = c.in_ok-complete_open.ensures.running;
       none_open = c.in_ok-complete_open.ensures.none_open;
       setup = follows.setup;
-      events = (completed.0, completed.1, goes_on_from completed.2.0 completed.0 completed.2.1, completed.3);
+      events = record { more = completed.0; whole_is = completed.1; alone = goes_on_from completed.2.0 completed.0 completed.2.1; gives_none_back = completed.3 };
       made = λ uncut. sym c.len-number.ensures;
     }
 
@@ -46,16 +46,21 @@ loop-number-preserved c =
     let before = c.loop-number.invariant.events in
     let round = c.in_ok-play_round.ensures.rounds in
     let setups : setup_in c.take_end.new.self ≡ setup_in c.args.self = ap setup_in same ∙ ap setup_view c.loop-number.invariant.setup in
-    let journals : journal_in c.take_end.new.self ≡ journal_in c.args.self ++ c.loop-number.invariant.events.0 = ap journal_in same ∙ before.1 in
-    let gives_none : GivesNoneBack (setup_in c.args.self) (journal_in c.args.self ++ c.loop-number.invariant.events.0) c.in_ok-play_round.ensures.rounds.0 =
-    subst (λ s. GivesNoneBack s (journal_in c.args.self ++ c.loop-number.invariant.events.0) c.in_ok-play_round.ensures.rounds.0) setups
+    let journals : journal_in c.take_end.new.self ≡ journal_in c.args.self ++ c.loop-number.invariant.events.more = ap journal_in same ∙ before.whole_is in
+    let gives_none : GivesNoneBack (setup_in c.args.self) (journal_in c.args.self ++ c.loop-number.invariant.events.more) c.in_ok-play_round.ensures.rounds.0 =
+    subst (λ s. GivesNoneBack s (journal_in c.args.self ++ c.loop-number.invariant.events.more) c.in_ok-play_round.ensures.rounds.0) setups
     (subst (λ es. GivesNoneBack (setup_in c.take_end.new.self) es c.in_ok-play_round.ensures.rounds.0) journals round.3) in
     record {
       kept = running_is_book c.take_end.new.self c.play_round.new.self kept follows.setup follows.works follows.plans follows.opening c.in_ok-play_round.ensures.running;
       running = c.in_ok-play_round.ensures.running;
       none_open = c.in_ok-play_round.ensures.none_open;
       setup = follows.setup ∙ ap (λ (b : Book). b.setup) same ∙ c.loop-number.invariant.setup;
-      events = (before.0 ++ round.0, round.1 ∙ ap (λ (b : Book). journal_in b ++ round.0) same ∙ ap (λ es. es ++ round.0) before.1 ∙ append_assoc (journal_in c.args.self) before.0 round.0, goes_on_by before.0 round.0 before.2 round.2, both_give_none (setup_in c.args.self) (journal_in c.args.self) before.0 round.0 before.3 gives_none);
+      events = record {
+        more = before.more ++ round.0;
+        whole_is = round.1 ∙ ap (λ (b : Book). journal_in b ++ round.0) same ∙ ap (λ es. es ++ round.0) before.whole_is ∙ append_assoc (journal_in c.args.self) before.more round.0;
+        alone = goes_on_by before.more round.0 before.alone round.2;
+        gives_none_back = both_give_none (setup_in c.args.self) (journal_in c.args.self) before.more round.0 before.gives_none_back gives_none;
+      };
       made = λ uncut. (let one = c.in_ok-play_round.ensures.made uncut in let old = ap (λ (b : Book). claims_made (log_view b.standing.log)) same in let number = c.loop-number.invariant.made goes_on.uncut in omega (arith, one, old, number));
     }
 
@@ -65,20 +70,28 @@ returns-clause-bounds c =
     run_ends_in_bounds s (finished_view c.ended-in-Some-take_end.result) c.requires.kept.playable
     (shown_run s c.take_end-2.new.self (end_view c.in-Some-take_end.cause) (finished_view c.ended-in-Some-take_end.result) c.in-Some-take_end.ensures.end c.ended-in-Some-take_end.ensures.shown (c.take_end-2.ensures.setup ∙ ap setup_view c.loop-number.invariant.setup))
 
--- From the start it ends otherwise than for want of memory.
-pub returns-in-Some-clause-ends_otherwise : goal.returns-in-Some-clause-ends_otherwise
-returns-in-Some-clause-ends_otherwise c = λ start.
+-- The journal goes on so to the run's, which therefore ends for want of memory only where a cut for that stood before.
+pub returns-in-Some-clause-goes_on : goal.returns-in-Some-clause-goes_on
+returns-in-Some-clause-goes_on c =
+    subst (GoesOnAloneTo (setup_in c.args.self) (journal_in c.args.self)) (sym (ap (λ (shown : PlainFinished). shown.journal) c.ended.ensures.shown ∙ c.take_end.ensures.journal)) c.loop-number.invariant.events
+
+pub returns-clause-goes_on : goal.returns-clause-goes_on
+returns-clause-goes_on c =
+    subst (GoesOnAloneTo (setup_in c.args.self) (journal_in c.args.self)) (sym (ap (λ (shown : PlainFinished). shown.journal) c.ended-in-Some-take_end.ensures.shown ∙ c.take_end-2.ensures.journal)) c.loop-number.invariant.events
+
+pub returns-in-Some-clause-ends_for_memory : goal.returns-in-Some-clause-ends_for_memory
+returns-in-Some-clause-ends_for_memory c =
     let s = setup_in c.args.self in
     let f = finished_view c.ended.result in
-    let events = c.loop-number.invariant.events in
     let run = shown_run s c.take_end.new.self (end_view c.in-Some.cause) f c.in-Some.ensures.end c.ended.ensures.shown (c.take_end.ensures.setup ∙ ap setup_view c.loop-number.invariant.setup) in
-    ends_otherwise_alone s (journal_in c.args.self) f start (events.0, ap (λ (shown : PlainFinished). shown.journal) c.ended.ensures.shown ∙ c.take_end.ensures.journal ∙ events.1, events.2, events.3) run
+    ends_alone_for_memory s (journal_in c.args.self) f
+    (subst (GoesOnAloneTo s (journal_in c.args.self)) (sym (ap (λ (shown : PlainFinished). shown.journal) c.ended.ensures.shown ∙ c.take_end.ensures.journal)) c.loop-number.invariant.events) run
 
-pub returns-clause-ends_otherwise : goal.returns-clause-ends_otherwise
-returns-clause-ends_otherwise c = λ start.
+pub returns-clause-ends_for_memory : goal.returns-clause-ends_for_memory
+returns-clause-ends_for_memory c =
     let s = setup_in c.args.self in
     let f = finished_view c.ended-in-Some-take_end.result in
-    let events = c.loop-number.invariant.events in
     let run =
     shown_run s c.take_end-2.new.self (end_view c.in-Some-take_end.cause) f c.in-Some-take_end.ensures.end c.ended-in-Some-take_end.ensures.shown (c.take_end-2.ensures.setup ∙ ap setup_view c.loop-number.invariant.setup) in
-    ends_otherwise_alone s (journal_in c.args.self) f start (events.0, ap (λ (shown : PlainFinished). shown.journal) c.ended-in-Some-take_end.ensures.shown ∙ c.take_end-2.ensures.journal ∙ events.1, events.2, events.3) run
+    ends_alone_for_memory s (journal_in c.args.self) f
+    (subst (GoesOnAloneTo s (journal_in c.args.self)) (sym (ap (λ (shown : PlainFinished). shown.journal) c.ended-in-Some-take_end.ensures.shown ∙ c.take_end-2.ensures.journal)) c.loop-number.invariant.events) run

@@ -1,13 +1,12 @@
 -- Between two rounds no claim is open, the journal goes on from the one before, and while no cut stands as many claims were made as
 -- there were rounds.
-use Rattle.std.proofs.Common.{◌≡◌, ◌++◌, List, None}
+use Rattle.std.proofs.Common.{◌≡◌, None}
 use Rattle.std.specs.List.{count_by}
 use Rattle.std.specs.Option.{is_some}
 use Rattle.cpn_log.specs.Logs.{claims_made}
 use Rattle.cpn_log.specs.LogViews.{log_view}
-use Rattle.cpn_runs.specs.State.{PlainEvent}
 use Rattle.cpn_book.specs.Books.{setup_in, journal_in, IsBook, IsRunning}
-use Rattle.cpn_book.specs.GoingAlone.{GoesOnAlone, GivesNoneBack}
+use Rattle.cpn_book.specs.GoingAlone.{GoesOnAloneTo}
 use Rattle.cpn_book.proofs.books.Book.run_alone.Given as goal
 
 abbrev pub invariant-loop-number : goal.invariant-loop-number
@@ -16,6 +15,6 @@ invariant-loop-number l = record {
   running : IsRunning l.book;
   none_open : count_by is_some l.book.standing.held.items ≡ 0;
   setup : l.book.setup ≡ l.fn.self.setup;
-  events : (more : List PlainEvent) × (journal_in l.book ≡ journal_in l.fn.self ++ more) × GoesOnAlone more × GivesNoneBack (setup_in l.fn.self) (journal_in l.fn.self) more;
+  events : GoesOnAloneTo (setup_in l.fn.self) (journal_in l.fn.self) (journal_in l.book);
   made : l.book.standing.cut ≡ None → claims_made (log_view l.book.standing.log) ≡ l._number;
 }
