@@ -28,6 +28,7 @@ use Rattle.cpn_flat.specs.Placed.{StandBehind, AreOfModules, ArePlaced}
 use Rattle.cpn_flat.specs.Refusals.{read}
 use Rattle.cpn_flat.specs.Values.{AreOfColour, HaveColours}
 use Rattle.cpn_flat.specs.WellLoaded.{IsWellLoaded}
+use Rattle.cpn_flat.proofs.AcceptedFlatNets.{flat_accepted}
 use Rattle.cpn_flat.proofs.FlatMeanings.{all_meant, length-written, written_here}
 use Rattle.cpn_flat.proofs.InstanceNames.{instances_named}
 use Rattle.cpn_flat.proofs.ItemsThere.{items_there, written_meant, written_coloured}
@@ -108,4 +109,5 @@ module _ (a : PlainAccepted) (well : IsWellAccepted a) where
               in_time = start.in_time;
               named = flat_named a well is names classes compound u;
               declares = record { variables = refl; constants = refl; constructors = refl; functions = refl };
+              accepted = flat_accepted a well is names classes u;
             }

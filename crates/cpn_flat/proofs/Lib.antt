@@ -22,6 +22,7 @@ pub mod DistinctFlatNames
 mod FlatMeanings
 mod FlatConditions
 mod NetPlaces
+mod AcceptedFlatNets
 mod AddedTokens
 mod EqualGroups
 mod SharedTokens

@@ -124,6 +124,13 @@ good_accepted ds places t good its = record {
   outputs = outputs_accepted ds places t.outputs good.outputs;
 }
 
+-- those that are good, with their variables listed, are accepted
+pub completed_accepted : (ds : Declared) (places : List Coloured) (bares ts : List PlainTransition) → EachIs IsCompleted bares ts → AllByRecursion (IsGoodTransition ds places) ts → AllByRecursion (IsAcceptedTransition ds) ts
+completed_accepted ds places [] [] is all = tt
+completed_accepted ds places [] (t ∷ ts) is all = absurd is
+completed_accepted ds places (bare ∷ bares) [] is all = absurd is
+completed_accepted ds places (bare ∷ bares) (t ∷ ts) is all = (good_accepted ds places t all.0 is.0.variables, completed_accepted ds places bares ts is.1 all.1)
+
 -- the transitions of a module are good
 pub transitions_good : (ds : Declared) (places : List Coloured) (m : ℕ) (s : PlainStructure) (trees : ModuleTrees) → GoTogether places s trees → (bares : List PlainTransition) → each_from (bare_transition ds m) 0 trees.transitions ≡ read bares
     → (arcs : List Sides) → each_from (arc_of ds places m s) 0 trees.arcs ≡ read arcs → (ts : List PlainTransition) → EachIs IsCompleted (joined_from 0 bares arcs) ts → AllByRecursion (IsGoodTransition ds places) ts

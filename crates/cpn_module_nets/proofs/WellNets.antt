@@ -21,7 +21,7 @@ use Rattle.cpn_module_nets.specs.Transitions.{IsCompleted, AreBindable}
 use Rattle.cpn_module_nets.specs.Documents.{transitions_so, net_so}
 use Rattle.cpn_module_nets.specs.Fitting.{GoTogether}
 use Rattle.cpn_module_nets.proofs.AcceptedTexts.{each_from_long, initials_meant, initials_coloured}
-use Rattle.cpn_module_nets.proofs.AcceptedTransitions.{transitions_good}
+use Rattle.cpn_module_nets.proofs.AcceptedTransitions.{completed_accepted, transitions_good}
 use Rattle.cpn_module_nets.proofs.FewArcs.{transitions_few}
 use Rattle.cpn_module_nets.proofs.ModuleParts.{each_is_long}
 use Rattle.cpn_module_nets.proofs.NamedNets.{named}
@@ -85,7 +85,7 @@ net_is ds good d raw few places m s is trees are together places_read net h =
     let many_bares = each_from_long (bare_transition ds m) 0 trees.transitions its.bares its.bares_are in
     let many = each_is_long IsCompleted (joined_from 0 its.bares its.arcs) parts.ts its.completed in
     let arcs_are = ap (λ (x : PlainStructure). x.arcs) is in
-    let accepted = transitions_good ds places m s trees together its.bares its.bares_are its.arcs its.arcs_are parts.ts its.completed in
+    let good_all = transitions_good ds places m s trees together its.bares its.bares_are its.arcs its.arcs_are parts.ts its.completed in
     let few_arcs = transitions_few raw few ds places m s arcs_are trees.transitions written its.bares many_bares its.bares_are trees.arcs together.as_many_arcs its.arcs its.arcs_are parts.ts its.completed in
     let ports : places_in s ≡ length raw.places = ap places_in is ∙ length-map raw.places (λ (p : RawPlace). p.port) in
     let placed : length places ≡ places_in s = together.as_many_places ∙ each_is_long ArePlaceTrees raw.places trees.places are.places ∙ sym ports in
@@ -98,7 +98,8 @@ net_is ds good d raw few places m s is trees are together places_read net h =
         as_many = as_many;
         coloured = λ p lt. initials_coloured ds places m trees.places parts.initials parts.initials_are p (subst (λ k. p < k) together.as_many_places lt);
         meant = initials_meant ds good places m trees.places parts.initials parts.initials_are;
-        sound = transitions_sound ds good places parts.ts m its.told (joined_from 0 its.bares its.arcs) its.completed accepted few_arcs its.bindable;
+        accepted = completed_accepted ds places (joined_from 0 its.bares its.arcs) parts.ts its.completed good_all;
+        sound = transitions_sound ds good places parts.ts m its.told (joined_from 0 its.bares its.arcs) its.completed good_all few_arcs its.bindable;
         named = named ds good m trees.places places parts.ts places_read;
       };
     })

@@ -10,6 +10,7 @@ use Rattle.cpn_definitions.specs.Net.{PlainTransition, Coloured, PlainNet, nothi
 use Rattle.cpn_definitions.specs.Outcome.{HasMeaning}
 use Rattle.cpn_definitions.specs.Sound.{IsSoundTransition}
 use Rattle.cpn_definitions.specs.Terms.{terms_of}
+use Rattle.cpn_typing.specs.AcceptedTransitions.{IsAcceptedTransition}
 use Rattle.cpn_typing.specs.Names.{Name, NamedConstructor, Declared}
 use Rattle.cpn_module.specs.Hierarchy.{PlainAssignment, PlainMember, PlainHierarchy, places_in, structure_at, substitution_at, IsAcyclic}
 use Rattle.cpn_module.specs.Ranges.{HasItsNumbers}
@@ -80,11 +81,12 @@ IsOfColour colour None = Unit {0}
 IsOfColour colour (Some initial) = initial.colour ≡ colour
 
 -- A module as a net of its own: each place has its initial marking or none, for its colour set and with a meaning; the
--- transitions are sound; and the net names what a report prints.
+-- transitions are of accepted inscriptions, and sound; and the net names what a report prints.
 pub record IsWellNet (ds : Declared) (m : PlainModuleNet) : Type 0 where
   pub as_many : length m.initials ≡ length m.places
   pub coloured : (p : ℕ) → p < length m.places → IsOfColour (slice_index_or m.places p nothing).colour (slice_index_or m.initials p None)
   pub meant : AllByRecursion (IsMeant ds.functions) m.initials
+  pub accepted : AllByRecursion (IsAcceptedTransition ds) m.transitions
   pub sound : AllByRecursion (IsSoundTransition (net_of ds m)) m.transitions
   pub named : IsNamed (net_of ds m)
 
