@@ -18,3 +18,4 @@ mod written;
 
 pub use flattening::{Loaded, flatten, one_flat_net};
 pub use refusals::FlatError;
+pub use tokens::add_terms;

@@ -42,8 +42,11 @@ fn add_tokens(
     Ok(())
 }
 
-/// Adds the tokens of terms to a place.
-pub(crate) fn add_terms(
+/// Adds the tokens of terms to a place, each term's as many times as its count says, with its stamp where the place keeps time stamps and
+/// with 0 where it keeps none.
+///
+/// `Err` comes for want of memory alone.
+pub fn add_terms(
     marking: &mut Marking,
     place: u32,
     timed: bool,

@@ -1,8 +1,9 @@
 //! Checks the monitors of a document, as they are written, against its net.
 //!
 //! [`check_monitors`] goes from the monitors as `cpn_document` reads them to those that measure a run (`cpn_monitor`): each transition and
-//! place by its number, each text an inscription over the variables of its transition; or to the first refusal. The
-//! crate makes no net and no run, and reads and writes nothing outside the program.
+//! place by its number, each text an inscription over the variables of its transition; or to the first refusal. What a
+//! flattened name names ([`transition_named`], [`place_named`]), and which variable of an inscription is none of some ([`first_outside`]), is
+//! told by itself, too. The crate makes no net and no run, and reads and writes nothing outside the program.
 #![tactic(auto)]
 
 mod checking;
@@ -13,4 +14,6 @@ mod values;
 mod variables;
 
 pub use checking::{check_monitors, one_check};
+pub use names::{place_named, transition_named};
 pub use refusals::MonitorError;
+pub use variables::first_outside;

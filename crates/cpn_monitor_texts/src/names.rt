@@ -8,8 +8,8 @@ ghost use Rattle.cpn_monitor_texts.specs.Named.{transition_named as number_of_tr
 use crate::refusals::MonitorError;
 use cpn_core::Net;
 
-/// The number of the transition of a name, which the monitor of a number has.
-fn transition_named(net: &Net, name: &str) -> Option<u32>
+/// The number of the transition of a flattened name, if there is one: the first of several.
+pub fn transition_named(net: &Net, name: &str) -> Option<u32>
     requires few { length net.now.transitions.items < 2 ^ 32 }
     ensures named { result ≡ number_of_transition (net_view net.now) name.now }
 {
@@ -21,8 +21,8 @@ fn transition_named(net: &Net, name: &str) -> Option<u32>
     None
 }
 
-/// The number of the place of a name.
-fn place_named(net: &Net, name: &str) -> Option<u32>
+/// The number of the place of a flattened name, if there is one: the first of several. A compound place has one name alone.
+pub fn place_named(net: &Net, name: &str) -> Option<u32>
     requires few { length net.now.places.items < 2 ^ 32 }
     ensures named { result ≡ number_of_place (net_view net.now) name.now }
 {

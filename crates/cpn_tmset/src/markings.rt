@@ -1,5 +1,5 @@
 //! Markings: the tokens of each place of a net.
-ghost use Rattle.std.specs.Prelude.{◌≡◌, ◌<◌, [], length, replicate, ◌↔◌, IsSome, IfSome, IfOk, OnOk, OnErr};
+ghost use Rattle.std.specs.Prelude.{◌≡◌, ◌<◌, [], length, replicate, slice_set, ◌↔◌, IsSome, IfSome, IfOk, OnOk, OnErr};
 ghost use Rattle.cpn_definitions.specs.Marking.{token_at, tokens_at, on_place, add_token, without_token, AreSorted, stamps, without_latest};
 ghost use Rattle.cpn_core.specs.Views.{value_view};
 ghost use Rattle.cpn_tmset.specs.Limits.{HasRoom};
@@ -62,6 +62,15 @@ impl Marking {
         ensures tokens { IfSome result (λ held. held.now ≡ tokens_at self.now position) }
     {
         self.places.get(position)
+    }
+
+    /// Puts these tokens on a place, in the stead of those that are there. It takes no memory.
+    pub fn set(&mut self, place: u32, tokens: TMSet)
+        requires in_range { place < length self.old }
+        ensures set { self.new ≡ slice_set self.old place tokens }
+        ensures places { length self.new ≡ length self.old }
+    {
+        self.places[place as usize] = tokens;
     }
 
     /// Adds a token of the value with the time stamp to a place. After `Memory` the marking is as it was.
