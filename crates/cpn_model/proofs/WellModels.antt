@@ -13,7 +13,7 @@ use Rattle.cpn_monitor.specs.Fitting.{FitNet}
 use Rattle.cpn_monitor.specs.Monitors.{PlainMonitor}
 use Rattle.cpn_monitor_texts.specs.Checked.{measure_so, monitor_so, monitors_so}
 use Rattle.cpn_monitor_texts.specs.Reading as monitors
-use Rattle.cpn_monitor_texts.proofs.FittingMonitors.{monitors_fit}
+use Rattle.cpn_monitor_texts.proofs.FittingMonitors.{accepted_fit, monitors_accepted}
 use Rattle.cpn_readings.specs.Relations.{refused_by}
 use Rattle.cpn_readings.proofs.Readings.{same_read}
 use Rattle.cpn_readings.proofs.RelatedLists.{AreRead, each_read}
@@ -57,7 +57,7 @@ well_in bytes loaded ms is h =
     let read_so = read_well bytes loaded is in
     record {
       well = well;
-      fit = monitors_fit loaded.declared read_so.consistent loaded.net well.well.declares loaded.monitors ms h;
+      fit = accepted_fit loaded.declared loaded.net read_so.consistent well.well.declares ms (monitors_accepted loaded.declared loaded.net loaded.monitors ms h);
       spelled = keep_names loaded.declared loaded.net 0 loaded.monitors ms (each_read (monitor_so loaded.declared loaded.net) 0 loaded.monitors ms h) read_so.spelled;
     }
 

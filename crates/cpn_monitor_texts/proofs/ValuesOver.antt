@@ -3,7 +3,7 @@ use Rattle.std.proofs.Common.{◌≡◌, ◌<◌, ◌==◌, ◌||◌, ℕ, Bool,
 use Rattle.std.specs.Prelude.{not, cond}
 use Rattle.std.specs.List.{find, AllByRecursion}
 use Rattle.std.proofs.lemmas.Bool.Decides.{nat_tests}
-use Rattle.cpn_definitions.proofs.RisingLists.{IsIn}
+use Rattle.cpn_definitions.proofs.RisingLists.{IsIn, each_implied}
 use Rattle.cpn_definitions.specs.Bindable.{variables_of}
 use Rattle.cpn_definitions.specs.Inscription.{PlainExpr}
 use Rattle.cpn_definitions.specs.Meaning.{meaning}
@@ -85,18 +85,24 @@ over_is_integer ds good n of t tree e h b time bound in_time =
     let parts = over_parts ds t.vars tree e h in
     means_integer (meaning n.functions e b time) (monitor_means ds good n of tree e parts.accepted t.vars (all_among t.vars (variables_of e) parts.none_outside) b time bound)
 
--- A variable that is outside is one that is declared.
-pub outside_is_declared : (ds : Declared) → IsConsistent ds → (vars : List ℕ) (tree : PlainAst) (e : PlainExpr) (x : ℕ) → checked_value ds tree ≡ ok e → first_outside vars (variables_of e) ≡ Some x → x < length ds.variables
-outside_is_declared ds good vars tree e x is h =
+-- The variables of what is accepted are declared.
+pub variables_declared : (ds : Declared) → IsConsistent ds → (tree : PlainAst) (e : PlainExpr) → checked_value ds tree ≡ ok e → AllByRecursion (λ x. x < length ds.variables) (variables_of e)
+variables_declared ds good tree e is =
     let first = accepted_parts (typed ds in_monitor tree [] (Some int_type)) _ e is in
     let same = same_accepted first.0.expr e first.2 in
     let reads = accepted_reads (world_of ds good [] 0) in_monitor tree [] (Some int_type) first.0 first.1 in
     let all = subst (λ f. AllByRecursion (IsReadable ds in_monitor) (variables_of f)) same reads in
-    let named = (found_has (IsReadable ds in_monitor) _ (variables_of e) x all h).1 in
-    (good.numbered named.0 x named.1.0 named.1.1).is_below
+    each_implied (IsReadable ds in_monitor) (λ x. x < length ds.variables) (variables_of e) (λ x readable. let named = readable.1 in (good.numbered named.0 x named.1.0 named.1.1).is_below) all
+
+-- so is one that is outside of some
+pub outside_is_declared : (ds : Declared) (vars : List ℕ) (e : PlainExpr) (x : ℕ) → AllByRecursion (λ y. y < length ds.variables) (variables_of e) → first_outside vars (variables_of e) ≡ Some x → x < length ds.variables
+outside_is_declared ds vars e x all h = found_has (λ y. y < length ds.variables) _ (variables_of e) x all h
 
 -- ---- what is answered
 
 -- the rules accept it, and then its variables are looked at
-pub then_over : (ds : Declared) (vars : List ℕ) (tree : PlainAst) (e : PlainExpr) (o : Option ℕ) → checked_value ds tree ≡ ok e → first_outside vars (variables_of e) ≡ o → value_over ds vars tree ≡ unless_outside ds e o
-then_over ds vars tree e o is found = rw (is, found) refl
+pub then_over : (ds : Declared) (vars : List ℕ) (tree : PlainAst) (e : PlainExpr) → checked_value ds tree ≡ ok e → value_over ds vars tree ≡ over ds vars e
+then_over ds vars tree e is = rw is refl
+
+pub over_is : (ds : Declared) (vars : List ℕ) (e : PlainExpr) (o : Option ℕ) → first_outside vars (variables_of e) ≡ o → over ds vars e ≡ unless_outside ds e o
+over_is ds vars e o found = rw found refl

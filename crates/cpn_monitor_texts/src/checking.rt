@@ -14,6 +14,7 @@ ghost use Rattle.cpn_readings.specs.Relations.{HasOne};
 ghost use Rattle.cpn_typing.specs.Consistency.{IsConsistent};
 ghost use Rattle.cpn_typing.specs.DeclaresFor.{DeclaresFor};
 ghost use Rattle.cpn_typing.specs.Names.{Declared};
+ghost use Rattle.cpn_monitor_texts.specs.Accepted.{AreAcceptedMonitors};
 ghost use Rattle.cpn_monitor_texts.specs.Answers.{ChecksBy};
 ghost use Rattle.cpn_monitor_texts.specs.Checked.{monitor_so, monitors_so};
 
@@ -85,7 +86,8 @@ pub fn check_monitors(
     ensures reads { ChecksBy monitors_view result (monitors_so (decls_view decls.now) (net_view net.now) (map monitor_view written.now)) }
     // They are at most one thing.
     ensures one { HasOne (monitors_so (decls_view decls.now) (net_view net.now) (map monitor_view written.now)) }
-    // Those that are accepted fit the net.
+    // They are accepted, and fit the net.
+    ensures accepted { IfOk result (λ monitors. AreAcceptedMonitors (decls_view decls.now) (net_view net.now) (monitors_view monitors)) }
     ensures fit { IfOk result (λ monitors. FitNet (net_view net.now) (funs_view monitors.funs.value) (monitors_view monitors)) }
 {
     let monitors = each_monitor(alloc, decls, net, written)?;

@@ -2,8 +2,8 @@
 //!
 //! [`check_monitors`] goes from the monitors as `cpn_document` reads them to those that measure a run (`cpn_monitor`): each transition and
 //! place by its number, each text an inscription over the variables of its transition; or to the first refusal. What a
-//! flattened name names ([`transition_named`], [`place_named`]), and which variable of an inscription is none of some ([`first_outside`]), is
-//! told by itself, too. The crate makes no net and no run, and reads and writes nothing outside the program.
+//! flattened name names ([`transition_named`], [`place_named`]), and whether an inscription has no other variables than some ([`check_over`]),
+//! is told by itself, too. The crate makes no net and no run, and reads and writes nothing outside the program.
 #![tactic(auto)]
 
 mod checking;
@@ -16,4 +16,4 @@ mod variables;
 pub use checking::{check_monitors, one_check};
 pub use names::{place_named, transition_named};
 pub use refusals::MonitorError;
-pub use variables::first_outside;
+pub use values::check_over;

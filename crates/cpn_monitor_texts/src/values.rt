@@ -1,10 +1,12 @@
 //! The texts of monitors.
 
 ghost use Rattle.std.specs.Prelude.{◌≡◌, ◌<◌, length, map, slice_index_or, string_bytes, IfOk};
+ghost use Rattle.std.specs.List.{AllByRecursion};
 ghost use Rattle.cpn_core.specs.Inscriptions.{expr_view};
 ghost use Rattle.cpn_core.specs.Nets.{variable_view};
 ghost use Rattle.cpn_declared.specs.Answers.{Answers};
 ghost use Rattle.cpn_declared.specs.DeclsViews.{decls_view};
+ghost use Rattle.cpn_definitions.specs.Bindable.{variables_of};
 ghost use Rattle.cpn_definitions.specs.Net.{nothing};
 ghost use Rattle.cpn_module_trees.specs.TreesViews.{tree_view};
 ghost use Rattle.cpn_trees.specs.ParsedViews.{inscription_view};
@@ -12,7 +14,7 @@ ghost use Rattle.cpn_typing.specs.Consistency.{IsConsistent};
 ghost use Rattle.cpn_monitor_texts.specs.Answers.{Checks, ChecksBy};
 ghost use Rattle.cpn_monitor_texts.specs.Checked.{inscription_so};
 ghost use Rattle.cpn_monitor_texts.specs.Texts.{inscription_of as inscription_from};
-ghost use Rattle.cpn_monitor_texts.specs.Variables.{value_over as value_of_tree};
+ghost use Rattle.cpn_monitor_texts.specs.Variables.{over, value_over as value_of_tree};
 
 use crate::refusals::{MonitorError, not_accepted, not_parsed};
 use crate::variables::first_outside;
@@ -31,6 +33,22 @@ fn name_of(alloc: Global, variables: &[Variable], number: u32) -> Result<String,
     Ok(name)
 }
 
+/// Whether an inscription has no other variables than these.
+///
+/// # Errors
+///
+/// - [`TypeError::Unknown`]: the first variable, as they stand in it, that is none of these, by its name.
+/// - [`TypeError::Memory`]: memory ran out.
+pub fn check_over(alloc: Global, decls: &Decls, vars: &[u32], value: &Expr) -> Result<(), TypeError>
+    requires declared { AllByRecursion (λ x. x < length (decls_view decls.now).variables) (variables_of (expr_view value.now)) }
+    ensures exact { Answers (λ _. expr_view value.now) result (over (decls_view decls.now) vars.now (expr_view value.now)) }
+{
+    match first_outside(value, vars) {
+        None => Ok(()),
+        Some(number) => Err(TypeError::Unknown(name_of(alloc, decls.variables(), number)?)),
+    }
+}
+
 /// What a monitor measures by a tree, over the variables of a transition.
 fn value_over(
     alloc: Global,
@@ -42,10 +60,8 @@ fn value_over(
     ensures exact { Answers expr_view result (value_of_tree (decls_view decls.now) vars.now (inscription_view tree.now)) }
 {
     let value = check_value(alloc, decls, tree)?;
-    match first_outside(&value, vars) {
-        None => Ok(value),
-        Some(number) => Err(TypeError::Unknown(name_of(alloc, decls.variables(), number)?)),
-    }
+    check_over(alloc, decls, vars, &value)?;
+    Ok(value)
 }
 
 /// The inscription of the monitor of a number, by what its text is parsed as.

@@ -38,7 +38,7 @@ fn earlier(first: Option<u32>, second: Option<u32>) -> Option<u32>
 
 /// The first variable of an inscription, as they stand in it, that is none of these.
 #[cycle(first_outside)]
-pub fn first_outside(expr: &Expr, vars: &[u32]) -> Option<u32>
+pub(crate) fn first_outside(expr: &Expr, vars: &[u32]) -> Option<u32>
     ensures first { result ≡ first_of vars.now (variables_of (expr_view expr.now)) }
 {
     match expr {

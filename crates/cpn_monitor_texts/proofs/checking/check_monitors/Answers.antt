@@ -1,4 +1,4 @@
--- They are one thing, and fit the net.
+-- They are one thing, are accepted, and fit the net.
 use Rattle.std.proofs.Common.{◌≡◌, map, sym, subst, rules}
 use Rattle.cpn_core.specs.Inscriptions.{funs_view}
 use Rattle.cpn_core.specs.Nets.{net_view}
@@ -7,7 +7,7 @@ use Rattle.cpn_declared.specs.DeclsViews.{decls_view}
 use Rattle.cpn_document.specs.Views.{monitor_view}
 use Rattle.cpn_monitor.specs.Fitting.{FitNet}
 use Rattle.cpn_monitor.specs.Views.{monitor_view as measured_view}
-use Rattle.cpn_monitor_texts.proofs.FittingMonitors.{monitors_fit}
+use Rattle.cpn_monitor_texts.proofs.FittingMonitors.{accepted_fit, monitors_accepted}
 use Rattle.cpn_monitor_texts.proofs.OneReading.{monitors_one}
 use Rattle.cpn_monitor_texts.proofs.checking.check_monitors.Goals as goal
 
@@ -24,4 +24,8 @@ pub returns-clause-fit : goal.returns-clause-fit
 returns-clause-fit c =
     let same : c.in_ok-funs.funs.value ≡ c.args.net.now.funs.value = search rules in
     subst (λ (funs : Funs). FitNet (net_view c.args.net.now) (funs_view funs) (map measured_view c.in_ok-monitors.monitors.items)) (sym same)
-    (monitors_fit (decls_view c.args.decls.now) c.requires.consistent (net_view c.args.net.now) c.requires.declares (map monitor_view c.args.written.now) (map measured_view c.in_ok-monitors.monitors.items) c.in_ok-monitors.ensures.reads)
+    (accepted_fit (decls_view c.args.decls.now) (net_view c.args.net.now) c.requires.consistent c.requires.declares (map measured_view c.in_ok-monitors.monitors.items)
+    (monitors_accepted (decls_view c.args.decls.now) (net_view c.args.net.now) (map monitor_view c.args.written.now) (map measured_view c.in_ok-monitors.monitors.items) c.in_ok-monitors.ensures.reads))
+
+pub returns-clause-accepted : goal.returns-clause-accepted
+returns-clause-accepted c = monitors_accepted (decls_view c.args.decls.now) (net_view c.args.net.now) (map monitor_view c.args.written.now) (map measured_view c.in_ok-monitors.monitors.items) c.in_ok-monitors.ensures.reads
