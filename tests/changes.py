@@ -100,8 +100,21 @@ def module(name, initial=None, parts=()):
     return {"name": name, "places": places, "transitions": [], "arcs": [], "subs": subs}
 
 
+def y_in_the_guard(text):
+    """Puts a variable y into the guard of t alone, measures it, and edits that guard before a second run."""
+    phases = [{"start": "initial"}, {"start": "initial", "edits": [{"kind": "guard", "transition": "Top/t", "text": text}]}]
+    return all_of(
+        more("declarations", ["var y : INT;"]),
+        put(*TOP, "transitions", "t", "guard", "y = x"),
+        put("monitors", [{"name": "m", "kind": "value", "transition": "Top/t", "expr": "y"}]),
+        put("phases", phases),
+    )
+
+
 TOP, PROTOCOL, NETWORK = ("modules", "Top"), ("modules", "Protocol"), ("modules", "Network")
 SUB = (*PROTOCOL, "subs", 0)
+EDIT = ("phases", 2, "edits", 0)
+SECOND_TEXTS = ("``n`()``", "`2`", "``(4 div 0)`()``", "``~2`()``", "`empty`")
 AN_ARC = {"place": "A", "transition": "t", "to": "transition", "expr": "empty"}
 
 CHANGES = {
@@ -151,6 +164,8 @@ CHANGES = {
             more("declarations", ["var y : INT;"]), put(*TOP, "arcs", 1, "expr", "y"), put(*TOP, "transitions", "t", "guard", "y = x + 1")
         ),
         "the guard `x > 7`": put(*TOP, "transitions", "t", "guard", "x > 7"),
+        "the declaration `var y : INT;`, the guard `y = x`, a monitor of the value `y`, and a second phase that starts `initial` with the guard `x > 0`": y_in_the_guard("x > 0"),
+        **{f"the same, with the guard `{text}` in that phase": y_in_the_guard(text) for text in ("y > x", "y = x + 1")},
         "a further module, with a place C of the initial marking ``1`x``": more("modules", module("M", "1`x")),
         "the same, with ``1`(7 div 0)`` there": more("modules", module("M", "1`(7 div 0)")),
     },
@@ -171,6 +186,14 @@ CHANGES = {
         "the place `Cell/Press In` for `press`": put("monitors", "press", "place", "Cell/Press In"),
         "the transition `Cell/load` for `loaded`": put("monitors", "loaded", "transition", "Cell/load"),
         "the transition `Move/take` for `loaded`": put("monitors", "loaded", "transition", "Move/take"),
+    },
+    "packing_line": {
+        **{f"the transition `{name}` for the edit": put(*EDIT, "transition", name) for name in ("Line/close", "fill")},
+        **{f"the text `{text}` for the edit": put(*EDIT, "text", text) for text in ("k <", "j < 4", "k + 4", "k < spent", "true")},
+    },
+    "dispatching_rules": {
+        "the place `Shop/Desks` for the second edit": put(*EDIT, "place", "Shop/Desks"),
+        **{f"the text {code} for the second edit": put(*EDIT, "text", code.strip("` ")) for code in SECOND_TEXTS},
     },
     "simple_protocol": {
         '`"top": "Net"`': put("top", "Net"),

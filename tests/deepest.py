@@ -32,7 +32,7 @@ def document_with(declarations, first, second, initial, text):
 def report_with(tokens):
     """Returns the report of its run without a trace: t occurs once, and these tokens are on B."""
     lines = ["report 1", "run 0 initial 0 ready 1 next 0", "end dead", "occurrences 1", "clock 0"]
-    lines += ["place Top/A empty", f"place Top/B {tokens}", "ready 0", "next none", "total 1"]
+    lines += ["place Top/A empty", f"place Top/B {tokens}", "ready 0", "next none", "probe 0 moments 1", "probe 1 streak 1", "total 1"]
     return "\n".join(lines).encode() + b"\n"
 
 

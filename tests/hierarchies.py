@@ -54,10 +54,10 @@ def as_bytes(modules, fusions=()):
 
 def report(places, enabled=0):
     """Returns the report without a trace of a run that is dead at once, or ends after one step with all that was enabled."""
-    first = f"{enabled} next {0 if enabled else 'none'}"
-    end = ["end steps", "occurrences 1"] if enabled else ["end dead", "occurrences 0"]
-    lines = ["report 1", f"run 0 initial 0 ready {first}", *end, "clock 0", *(f"place {name} {tokens}" for name, tokens in places)]
-    return "\n".join([*lines, *f"ready {first}".replace(" next", "\nnext").split("\n"), f"total {1 if enabled else 0}"]).encode() + b"\n"
+    many, standing = (1 if enabled else 0), [f"ready {enabled}", f"next {0 if enabled else 'none'}"]
+    lines = ["report 1", " ".join(["run 0 initial 0", *standing]), "end steps" if enabled else "end dead", f"occurrences {many}", "clock 0"]
+    lines += [*(f"place {name} {tokens}" for name, tokens in places), *standing]
+    return "\n".join([*lines, f"probe 0 moments {many}", f"probe 1 streak {many}", f"total {many}"]).encode() + b"\n"
 
 
 # ---- two faults. Each is put into the document, into its module, and as the fault of the first part (0) or the second (1), which

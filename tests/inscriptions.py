@@ -156,5 +156,6 @@ def report_of(end, here, occurs, ways):
     lines = ["report 1", f"run 0 initial 0 ready {ways} next {0 if ways else 'none'}", f"end {end}"]
     lines += [f"occurrences {int(occurs)}", "clock 0", f"place Top/Here {here}"]
     lines += [f"place Top/{name.upper()} " + ("empty" if occurs else f"1`{value}") for name, value in TOKENS.items()]
-    lines += [f"ready {left}", f"next {0 if left else 'none'}", f"total {int(occurs)}"]
+    lines += [f"ready {left}", f"next {0 if left else 'none'}"]
+    lines += [f"probe 0 moments {int(occurs)}", f"probe 1 streak {int(occurs)}", f"total {int(occurs)}"]
     return "\n".join(lines) + "\n"

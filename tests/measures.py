@@ -1,8 +1,11 @@
-"""What monitors measure, as plainly as can be: of the occurrences of a run, for tests/random_nets and tests/random_schedules; and of what
-a report says of its run, for tests/random_hierarchies. Nothing is added up while a run is made.
+"""What monitors measure and probes tell, as plainly as can be: of the occurrences of runs, for tests/random_nets and
+tests/random_schedules; and of what a report says of its run, for tests/random_hierarchies. Nothing is added up while a run is made.
 """
 import collections
+import itertools
 import re
+
+FAULTS = "overflow divide_by_zero empty_list no_case not_in_colour bad_coefficient bad_delay too_large".split()
 
 
 class Fault(Exception):
@@ -62,20 +65,31 @@ class Monitor(collections.namedtuple("Monitor", "name kind at n op text", defaul
                 found.append(None)
         return found
 
-    def measured(self, at_start, steps, clock):
-        """Returns the numbers of its line: of how many tokens each place has at the start, the occurrences, and the last clock."""
+    def measured(self, at_start, steps, first, clock):
+        """Returns the numbers of its line: of how many tokens each place has at the start, the occurrences, the first and the last clock."""
         if self.kind in ("count", "stop_count"):
             return [len(self.of(steps))]
         if self.kind == "value":
             values = [it for it in self.values(steps) if it is not None]
             return [len(values), sum(values), min(values, default=None), max(values, default=None), len(self.of(steps)) - len(values)]
         sizes = [at_start[self.at], *(step.sizes[self.at] for step in steps)]
-        times = [0, *(step.time for step in steps), clock]
+        times = [first, *(step.time for step in steps), clock]
         stretches = [(later - time) * size for time, later, size in zip(times, times[1:], sizes)]
         return [min(sizes), max(sizes), sizes[-1], sum(stretches)] if self.kind == "size" else [sizes[-1]]
 
     def line(self, *given):
         return " ".join(["monitor", self.kind, *map(shown, self.measured(*given)), self.name])
+
+
+def stretches_of(values):
+    """Returns how long each stretch of equal values is."""
+    return [len([*stretch]) for _, stretch in itertools.groupby(values)]
+
+
+def probe_lines(steps):
+    """Returns the lines of the probes after the occurrences of all runs."""
+    moments, streaks = stretches_of(step.time for step in steps), stretches_of(step.number for step in steps)
+    return [f"probe 0 moments {len(moments)}", f"probe 1 streak {max(streaks, default=0)}"]
 
 
 def stop_after(monitors, steps):

@@ -4,8 +4,9 @@
     for state in net.replayed(report): ..
 
 Each occurrence of the report has to be enabled: its guard is true, and each input place has the tokens that it needs, with stamps
-that are not above its time. The marking that is left at the end has to be the one that the report prints. Otherwise `Wrong` is
-raised. What is not checked: that no earlier time had an enabled element, that all that was enabled was listed, and colour sets.
+that are not above its time. The marking that is left at the end of each run has to be the one that the report prints, and each run has
+to start as its phase says, with the edits that were made till then. Otherwise `Wrong` is raised. What is not checked: that no earlier
+time had an enabled element, that all that was enabled was listed, and colour sets.
 
 Values are those of Python: a product or a list is a tuple, `()` an empty one, a constant or what a constructor makes is a `Made`.
 """
@@ -384,22 +385,23 @@ def compound(document, found):
     return {name: first(name) for name in names}
 
 
+def guard_of(text, known):
+    """Returns what a guard means: one truth value, or several in brackets."""
+    parts = Reader(text.strip(), known).whole()
+    return lambda env: all(value) if isinstance(value := parts(env), tuple) else value
+
+
 class Transition:
     """A transition of an instance: what its guard, its delay and its arcs mean."""
 
     def __init__(self, it, known):
-        guard = it.get("guard", "true").strip()
-        self.guard = Reader(guard, known).whole()
+        self.guard = guard_of(it.get("guard", "true"), known)
         self.delay = Reader(it.get("delay", "0").strip().removeprefix("@+"), known).whole()
         self.inputs, self.outputs = [], []
 
-    def is_true(self, env):
-        value = self.guard(env)
-        return all(value) if isinstance(value, tuple) else value
 
-
-class State(collections.namedtuple("State", "time transition binding marking")):
-    """An occurrence, and the marking after it: of each place the values, each with the stamps of its tokens."""
+class State(collections.namedtuple("State", "time transition binding marking run", defaults=(0,))):
+    """An occurrence, and the marking after it: of each place the values, each with the stamps of its tokens; and the number of its run."""
 
     def counted(self, place):
         """Returns how many tokens of each value are on a place."""
@@ -414,13 +416,19 @@ class State(collections.namedtuple("State", "time transition binding marking")):
         return value
 
 
+def runs_of(report):
+    """Returns the lines of each run of a report."""
+    return re.split(r"^(?=run \d)", report, flags=re.M)[1:]
+
+
 class Net:
-    """The flat net of a document."""
+    """The flat net of a document, and its phases."""
 
     def __init__(self, document):
         self.known = Declared(document["declarations"])
         found = [*instances(document, document["top"], document["top"])]
         self.compound = compound(document, found)
+        self.phases = document.get("phases") or [{"start": "initial"}]
         self.timed, self.initial, self.transitions = {}, {}, {}
         for path, module in found:
             for place in module["places"]:
@@ -444,10 +452,10 @@ class Net:
             transition.inputs += [end] if arc["to"] != "place" else []
             transition.outputs += [end] if arc["to"] != "transition" else []
 
-    def start(self):
-        """Returns the initial marking."""
+    def start(self, initial):
+        """Returns the marking that is initially there."""
         marking = {place: {} for place in self.timed}
-        for place, bag in self.initial.items():
+        for place, bag in initial.items():
             self.add(marking, place, bag, 0)
         return marking
 
@@ -456,10 +464,10 @@ class Net:
             stamp = time + delay if self.timed[place] else 0
             marking[place][value] = sorted(marking[place].get(value, []) + [stamp] * count)
 
-    def occur(self, marking, time, name, binding):
+    def occur(self, marking, guard, time, name, binding):
         """Changes the marking as the occurrence does."""
         transition, env = self.transitions[name], {**binding, "time": time}
-        if not transition.is_true(env):
+        if not guard(env):
             raise Wrong(f"the guard of {name} is false with {binding}")
         for place, arc in transition.inputs:
             for value, count, _ in arc(env):
@@ -472,20 +480,37 @@ class Net:
             self.add(marking, place, arc(env), time + transition.delay(env))
 
     def replayed(self, report):
-        """Yields the state at the beginning and after each occurrence of the report. What is yielded changes with the next one."""
-        marking = self.start()
-        yield State(0, None, {}, marking)
-        for time, name, text in re.findall(r"^occ \d+ @(\d+) (.*?) \{(.*)\}$", report, re.M):
-            binding = Reader(text, self.known).binding()
-            self.occur(marking, int(time), name, binding)
-            yield State(int(time), name, binding, marking)
-        if self.printed(report) != {place: {v: s for v, s in values.items() if s} for place, values in marking.items()}:
-            raise Wrong(f"the last marking is {marking}")
+        """Yields the state at the beginning of each run and after each occurrence. What is yielded changes with the next one."""
+        initial, guards = {**self.initial}, {name: it.guard for name, it in self.transitions.items()}
+        runs = runs_of(report)
+        if len(runs) > len(self.phases) or len(runs) < len(self.phases) and "\nend fault " not in runs[-1]:
+            raise Wrong(f"it has {len(runs)} runs, and {len(self.phases)} phases")
+        for run, (text, phase) in enumerate(zip(runs, self.phases)):
+            for edit in phase.get("edits", []):
+                if edit["kind"] == "guard":
+                    guards[edit["transition"]] = guard_of(edit["text"], self.known)
+                else:
+                    initial[edit["place"]] = self.bag(edit["text"])({})
+            time, marking = (time, marking) if phase["start"] == "here" else (0, self.start(initial))
+            if not text.startswith(f"run {run} {phase['start']} {time} "):
+                raise Wrong(f"run {run} starts otherwise: {text[:60]}")
+            yield State(time, None, {}, marking, run)
+            for time, name, binding in self.occurrences(text):
+                self.occur(marking, guards[name], time, name, binding)
+                yield State(time, name, binding, marking, run)
+            if self.printed(text) != {place: {v: s for v, s in values.items() if s} for place, values in marking.items()}:
+                raise Wrong(f"the last marking of run {run} is {marking}")
+            time = int(re.search(r"^clock (\d+)$", text, re.M)[1])
 
-    def printed(self, report):
-        """Returns the marking that the report prints."""
+    def occurrences(self, text):
+        """Yields the time, the transition and the binding of each occurrence of a run."""
+        for time, name, binding in re.findall(r"^occ \d+ @(\d+) (.*?) \{(.*)\}$", text, re.M):
+            yield int(time), name, Reader(binding, self.known).binding()
+
+    def printed(self, text):
+        """Returns the marking that is printed of a run."""
         marking = {}
-        for place, text in re.findall(r"^place (.*?) (empty|\d+`.*)$", report, re.M):
+        for place, tokens in re.findall(r"^place (.*?) (empty|\d+`.*)$", text, re.M):
             marking[place] = {}
-            self.add(marking, place, self.bag(text)({}), 0)
+            self.add(marking, place, self.bag(tokens)({}), 0)
         return marking

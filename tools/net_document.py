@@ -161,15 +161,21 @@ class Net:
         """Returns the flat names of all places of instances, or of all their transitions, in order."""
         return [f"{path}/{it['name']}" for path, module in self.instances() for it in module[kind]]
 
-    def variables_of(self, name):
-        """Returns the variables of the transition of a flat name, as they are declared."""
+    def variables_of(self, name, guard=None):
+        """Returns the variables of the transition of a flat name, as they are declared; with that guard, where one is given."""
         path, _, transition = name.rpartition("/")
         module = dict(self.instances())[path]
-        texts = [it.get(key, "") for it in module["transitions"] if it["name"] == transition for key in ("guard", "delay")]
+        own = next(it for it in module["transitions"] if it["name"] == transition)
+        texts = [own.get("guard", "") if guard is None else guard, own.get("delay", "")]
         texts += [arc.get("expr", "") for arc in module["arcs"] if arc["transition"] == transition]
         declared = [re.match(r"\s*var\b([^:]*):", it) for it in self.document["declarations"]]
         names = [name.strip() for it in declared if it for name in it[1].split(",")]
         return [name for name in names if name in TOKEN.findall(" ".join(texts))]
+
+    def colour_of(self, name):
+        """Returns the colour set of the place of a flat name."""
+        path, _, place = name.rpartition("/")
+        return next(it["colour"] for it in dict(self.instances())[path]["places"] if it["name"] == place)
 
     def one_with(self, name):
         """Returns all that is joined with the place of a flat name: flat names, and the numbers of fusion sets."""

@@ -69,10 +69,11 @@ def mismatch_facts(net, parts, text, at):
     """Yields what is wanted at a character of a text, by what is beside it, and what stands there."""
     tokens, i = TOKEN.findall(text), len(TOKEN.findall(text[:at]))
     it, before, after = tokens[i], tokens[i - 1] if i else "", (*tokens, "")[i + 1]
-    if it == "empty" or it.isdigit() and after == "`":
+    root = "monitors" if parts[0] == "monitors" else net.get(parts[:-1])["kind"] if parts[0] == "phases" else parts[-1]
+    if root != "initial" and (it == "empty" or it.isdigit() and after == "`"):
         yield f"{it} begins a form for tokens, and one value is wanted here."
-    elif not i and (parts[0] == "monitors" or parts[-1] in ROOTS):
-        yield ROOTS["monitors" if parts[0] == "monitors" else parts[-1]]
+    elif not i and root in ROOTS:
+        yield ROOTS[root]
     for signs, (left, right) in rows("What stands beside a sign").items():
         yield from [f"After {before} {right} is wanted."] if right and before in signs.split() else []
         if left and after in signs.split() and not (after == "`" and it.isdigit()):
@@ -82,6 +83,9 @@ def mismatch_facts(net, parts, text, at):
         yield f"After #{before} a product with at least so many parts is wanted."
     opened = [j for j in range(1, i) if tokens[j] == "(" and tokens[j:i].count("(") > tokens[j:i].count(")")]
     yield from name_facts(net, tokens[opened[-1] - 1]) if opened else []
+    if parts[0] == "phases" and root == "initial":
+        place = net.get(parts[:-1])["place"]
+        yield f"The colour set of place {place} is {net.colour_of(place)}: {net.declaration(net.colour_of(place))}"
     if parts[-1] in ("expr", "initial") and parts[0] != "monitors":
         owner = net.get(parts[:-1])
         place = next(one for one in net.get(parts[:2])["places"] if one["name"] == owner.get("place", owner.get("name")))
@@ -113,7 +117,7 @@ def variable_facts(net, parts, name):
 def text_facts(net, parts, key, detail):
     """Returns which characters of a text a refusal means, and what is to be said."""
     text = net.get(parts)
-    if key == "type 5 not_bindable":
+    if key == "type 5 not_bindable" and parts[0] != "phases":
         return [], [*variable_facts(net, parts, detail)]
     if key in ("lex 4 too_long", "syntax 2 end_of_text"):
         return [len(text)], [f"It has {len(text.encode()):,} bytes."] if key == "lex 4 too_long" else []
@@ -131,4 +135,16 @@ def text_facts(net, parts, key, detail):
     if key == "type 1 unknown" and parts[0] == "monitors":
         transition = net.get(parts[:2])["transition"]
         said = [*said, f"The transition {transition} has {', '.join(net.variables_of(transition)) or 'no variable'}."]
+    if parts[0] == "phases" and net.get(parts[:-1])["kind"] == "guard" and re.match("type [158] ", key):
+        transition = net.get(parts[:-1])["transition"]
+        if takes_away(net, parts, key, detail):
+            values = [it for it in net.document["monitors"] if it["kind"] == "value" and it["transition"] == transition]
+            said = [*said, *(f"The monitor {it['name']} measures {it['expr']}." for it in values if detail in TOKEN.findall(it["expr"]))]
+        said = [*said, f"After the edit the transition {transition} has {', '.join(net.variables_of(transition, text)) or 'no variable'}."]
     return ats, said
+
+
+def takes_away(net, parts, key, name):
+    """Returns whether an edit is refused since a monitor measures the variable of that name, which is then gone."""
+    is_variable = re.match(r"var\b", net.declaration(name)) if re.fullmatch(r"\w+", name) else None
+    return bool(parts[0] == "phases" and key == "type 1 unknown" and is_variable and not re.search(rf"\b{name}\s*\(", net.get(parts)))

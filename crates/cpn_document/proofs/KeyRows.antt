@@ -1,11 +1,11 @@
 -- The keys of the objects of a document: an object with all of its keys is accepted, and one with any other key is refused.
-use Rattle.std.proofs.Common.{◌≡◌, ℕ, Bool, true, false, if◌then◌else◌, List, [], ◌∷◌, ◌++◌, refl, sym, subst}
+use Rattle.std.proofs.Common.{◌≡◌, ℕ, Bool, true, false, if◌then◌else◌, List, [], ◌∷◌, refl, sym, subst}
 use Rattle.std.specs.Prelude.{Option, Some, None, codes}
 use Rattle.serde_json.specs.Data.{Data, number, string, array, object, unsigned, no_items, item, Members, no_members, member}
 use Rattle.cpn_document.specs.Refusals.{FormRefusal, shape}
 use Rattle.cpn_document.specs.Rules.{first_broken, each_item}
 use Rattle.cpn_document.specs.Texts.{is_name}
-use Rattle.cpn_document.specs.Parts.{are_among, text_in, text_at, items_at, number_at, object_rules, text_in_rules, text_rules, name_rules, new_name_rules, word_rules, list_rules, where_there, each_named, limit_rules, unserved_rules}
+use Rattle.cpn_document.specs.Parts.{are_among, text_in, text_at, items_at, number_at, object_rules, text_in_rules, text_rules, name_rules, new_name_rules, word_rules, list_rules, where_there, each_named, limit_rules}
 use Rattle.cpn_document.specs.Document.{place_keys, at_place, place_rules, transition_keys, at_transition, transition_rules, arc_keys, at_arc, arc_rules, assignment_keys, at_assignment, assignment_rules, each_assignment, sub_keys, at_sub, sub_rules, module_keys, each_place, places_rules, each_transition, transitions_rules, each_arc, arcs_rules, each_sub, subs_rules, module_rules, member_keys, at_member, member_rules, each_member, fusion_keys, fusion_rules, version_rules, each_declaration, declarations_rules, each_module, modules_rules, each_fusion, fusions_rules, document_keys, document_rules}
 use Rattle.cpn_document.specs.Monitors.{monitor_keys, form_in as form_of_monitor, monitor_rules, form_of as form_of_word, form_rules as monitor_form_rules, each_monitor, monitors_rules}
 use Rattle.cpn_document.specs.Phases.{edit_keys, form_in as form_of_edit, form_of, at_edit, form_rules, edit_rules, phase_keys, phase_rules, each_phase, phases_rules}
@@ -143,7 +143,7 @@ abbrev whole_module : Data
 whole_module = object (and_text (codes "name") (codes "Top") (and_none (codes "places") (and_none (codes "transitions") (and_none (codes "arcs") (and_none (codes "subs") no_members)))))
 
 a_whole_document : first_broken (document_rules 1 (object (member (codes "version") (number (unsigned 1)) (and_none (codes "declarations") (and_text (codes "top") (codes "Top") (member (codes "modules") (array (item whole_module no_items)) (and_none (codes "fusions") (and_none (codes "monitors") (and_none (codes "phases") no_members))))))))) ≡ None
-unfolding text_in text_at items_at object_rules text_in_rules text_rules name_rules new_name_rules word_rules list_rules where_there is_name first_broken each_item each_named limit_rules each_place places_rules each_transition transitions_rules each_arc arcs_rules each_sub subs_rules module_rules version_rules each_declaration declarations_rules each_module modules_rules each_fusion fusions_rules number_at unserved_rules each_monitor monitors_rules each_phase phases_rules document_rules
+unfolding text_in text_at items_at object_rules text_in_rules text_rules name_rules new_name_rules word_rules list_rules where_there is_name first_broken each_item each_named limit_rules each_place places_rules each_transition transitions_rules each_arc arcs_rules each_sub subs_rules module_rules version_rules each_declaration declarations_rules each_module modules_rules each_fusion fusions_rules number_at each_monitor monitors_rules each_phase phases_rules document_rules
 a_whole_document = refl
 
 -- without a kind, the keys of all kinds

@@ -6,6 +6,7 @@ mod ArcCounts
 mod OneReading
 mod FewArcs
 mod WellNamed
+mod StartedPhases
 mod NamedRows
 pub mod WellFormed
 mod Rows

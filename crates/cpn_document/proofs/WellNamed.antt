@@ -51,7 +51,7 @@ not_is : (b : Bool) → not b ≡ true → b ≡ false
 not_is false h = refl
 not_is true h = cc
 
-one_kept : (kept : Bool) (refusal : FormRefusal) → first_broken (record { kept = kept; refusal = refusal } ∷ []) ≡ None → kept ≡ true
+pub one_kept : (kept : Bool) (refusal : FormRefusal) → first_broken (record { kept = kept; refusal = refusal } ∷ []) ≡ None → kept ≡ true
 unfolding first_broken
 one_kept true refusal h = refl
 one_kept false refusal h = cc

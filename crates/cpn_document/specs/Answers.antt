@@ -1,7 +1,7 @@
 -- How a call answers for what has to keep rules.
 use Rattle.std.specs.Prelude.{◌≡◌, List, Option, Some, None, Result, Ok, Err}
 pub use Rattle.cpn_readings.specs.Rules.{Breaks}
-use Rattle.cpn_document.specs.Refusals.{FormRefusal, not_json, shape, bad_number, bad_name, version, limit, not_yet}
+use Rattle.cpn_document.specs.Refusals.{FormRefusal, not_json, shape, bad_number, bad_name, version, limit}
 use Rattle.cpn_document.specs.Rules.{Rule, first_broken}
 use Rattle.cpn_document.specs.declared.refusals.Refused.{Refused}
 use Rattle.cpn_document.specs.declared.refusals.Refused.TheVariants as parts
@@ -15,7 +15,6 @@ refused_view (parts.BadNumber place) = bad_number place
 refused_view (parts.BadName place) = bad_name place
 refused_view parts.Version = version
 refused_view (parts.Limit kind) = limit kind
-refused_view (parts.NotYet place) = not_yet place
 
 -- the refusal that an error is; want of memory is none
 abbrev pub refusal_of : DocError → Option FormRefusal
@@ -26,7 +25,6 @@ refusal_of (errors.BadNumber place) = Some (bad_number place)
 refusal_of (errors.BadName place) = Some (bad_name place)
 refusal_of errors.Version = Some version
 refusal_of (errors.Limit kind) = Some (limit kind)
-refusal_of (errors.NotYet place) = Some (not_yet place)
 
 -- An answer is the value, as it is seen, where the rules are all kept; else the refusal of the first that is broken.
 abbrev pub Gives : {X Y : Type 0} → (X → Y) → Result X DocError → Y → List Rule → Type 0

@@ -1,12 +1,12 @@
 -- The parts of a JSON value, and the rules of what stands at a key. What is not there, or is of another kind, is as if it
 -- were empty: a rule says that it has to be there. Source: own choice.
-use Rattle.std.specs.Prelude.{ℕ, suc, ◌==◌, Bool, true, false, not, ◌&&◌, nat_le, List, [], ◌∷◌, ◌++◌, length, map, Option, Some, None, option_map, option_and_then, is_some, codes}
+use Rattle.std.specs.Prelude.{ℕ, suc, Bool, true, false, not, ◌&&◌, nat_le, List, [], ◌∷◌, ◌++◌, map, Option, Some, None, option_map, option_and_then, is_some, codes}
 use Rattle.std.specs.Option.{unwrap_or}
 use Rattle.std.specs.List.{list_any}
 use Rattle.std.specs.Str.{bytes_eq}
 use Rattle.serde_json.specs.Data.{Data, Items, no_items, item, Members, no_members, member}
 use Rattle.serde_json.specs.Find.{get, as_number, as_str, as_u64, as_array, as_object}
-use Rattle.cpn_document.specs.Refusals.{shape, bad_number, bad_name, limit, not_yet}
+use Rattle.cpn_document.specs.Refusals.{shape, bad_number, bad_name, limit}
 use Rattle.cpn_document.specs.Rules.{Rule}
 use Rattle.cpn_document.specs.Texts.{is_name, is_flat_name}
 use Rattle.cpn_document.specs.declared.pointers.Pointer.{Pointer}
@@ -121,7 +121,3 @@ each_named rules i earlier (d ∷ ds) = rules i earlier d ++ each_named rules (s
 -- there are not too many of something
 unfoldable pub limit_rules : Bool → Limit → List Rule
 limit_rules few kind = record { kept = few; refusal = limit kind } ∷ []
-
--- what is not run yet is an empty list
-unfoldable pub unserved_rules : Pointer → List Data → List Rule
-unserved_rules here ds = record { kept = length ds == 0; refusal = not_yet here } ∷ []

@@ -1,12 +1,12 @@
 -- The phases of a net document and their edits: their keys, what stands at them, and the rules that they have to keep, in the
 -- order in which they count. Source: own choice.
-use Rattle.std.specs.Prelude.{ℕ, ◌==◌, if◌then◌else◌, nat_le, List, [], ◌∷◌, ◌++◌, length, map, Option, Some, None, is_some, codes}
+use Rattle.std.specs.Prelude.{◌≡◌, ℕ, ◌==◌, if◌then◌else◌, nat_le, List, [], ◌∷◌, ◌++◌, length, map, Option, Some, None, is_some, codes}
 use Rattle.std.specs.Option.{unwrap_or}
 use Rattle.std.specs.Str.{bytes_eq}
 use Rattle.serde_json.specs.Data.{Data}
 use Rattle.cpn_document.specs.Refusals.{shape}
 use Rattle.cpn_document.specs.Rules.{Rule, each_item}
-use Rattle.cpn_document.specs.Parts.{text_at, items_at, object_rules, text_rules, flat_name_rules, word_rules, list_rules, where_there, limit_rules, unserved_rules}
+use Rattle.cpn_document.specs.Parts.{text_at, items_at, object_rules, text_rules, flat_name_rules, word_rules, list_rules, where_there, limit_rules}
 use Rattle.cpn_document.specs.declared.pointers.Pointer.{Pointer}
 use Rattle.cpn_document.specs.declared.pointers.Pointer.TheVariants as at
 use Rattle.cpn_document.specs.declared.pointers.PhasePart.TheVariants as of_phase
@@ -112,14 +112,18 @@ phase_rules version p d =
 abbrev pub most_phases : ℕ
 most_phases = 64
 
+-- the first of some phases starts from the initial marking
+abbrev pub StartInitially : List RawPhase → Type 0
+StartInitially [] = Unit {0}
+StartInitially (first ∷ others) = first.start ≡ starts.Initial
+
 -- each of the phases
 unfoldable pub each_phase : ℕ → List Data → List Rule
 each_phase version ds = each_item (phase_rules version) 0 ds
 
--- The phases: maybe a list of them, not too many. They are counted before they are looked at. None is run yet.
+-- The phases: maybe a list of them, not too many. They are counted before they are looked at.
 unfoldable pub phases_rules : ℕ → Data → List Rule
 phases_rules version d =
     where_there (codes "phases") d (list_rules (codes "phases") at.Root at.Phases d)
     ++ limit_rules (nat_le (length (items_at (codes "phases") d)) most_phases) limits.Phases
     ++ each_phase version (items_at (codes "phases") d)
-    ++ unserved_rules at.Phases (items_at (codes "phases") d)

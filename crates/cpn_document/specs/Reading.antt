@@ -1,5 +1,5 @@
 -- What a JSON value, and what bytes, are read as: a document, or the first refusal. Source: own choice.
-use Rattle.std.specs.Prelude.{ℕ, List, Option, None}
+use Rattle.std.specs.Prelude.{ℕ, List, None}
 use Rattle.cpn_readings.specs.Reading as readings
 pub use Rattle.cpn_readings.specs.Reading.{read, refused}
 use Rattle.serde_json.specs.Data.{Data}

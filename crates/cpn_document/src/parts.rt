@@ -4,7 +4,7 @@ ghost use Rattle.std.specs.Prelude.{◌≡◌, true, map, option_map};
 ghost use Rattle.std.specs.Option.{unwrap_or};
 ghost use Rattle.serde_json.specs.View.{view, members_view};
 ghost use Rattle.cpn_document.specs.Names.{texts_of as bytes_of};
-ghost use Rattle.cpn_document.specs.Parts.{is_one_of as is_among, are_among, text_in, text_at, optional_text_at, items_at, number_at, object_rules, text_in_rules, text_rules, name_rules, flat_name_rules, number_rules, word_rules, list_rules, where_there, limit_rules, unserved_rules};
+ghost use Rattle.cpn_document.specs.Parts.{is_one_of as is_among, are_among, text_in, text_at, optional_text_at, items_at, number_at, object_rules, text_in_rules, text_rules, name_rules, flat_name_rules, number_rules, word_rules, list_rules, where_there, limit_rules};
 ghost use Rattle.cpn_document.specs.Answers.{Finds};
 
 use crate::pointers::Pointer;
@@ -58,18 +58,6 @@ pub(crate) fn check_limit(few: bool, kind: Limit) -> Result<(), Refused>
         Ok(())
     } else {
         Err(Refused::Limit(kind))
-    }
-}
-
-/// That the list of what is not run yet is empty.
-#[tactic(auto, using(crate::proofs::SeenValues::length_seen), unfolding(crate::specs::Parts::unserved_rules, crate::specs::Rules::first_broken))]
-pub(crate) fn check_unserved(list: &[Value], here: Pointer) -> Result<(), Refused>
-    ensures finds { Finds (λ _. true) result true (unserved_rules here (map view list.now)) }
-{
-    if list.is_empty() {
-        Ok(())
-    } else {
-        Err(Refused::NotYet(here))
     }
 }
 

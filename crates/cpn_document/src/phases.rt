@@ -10,7 +10,7 @@ ghost use Rattle.cpn_document.specs.Answers.{Gives};
 
 use crate::document::{Phase, Start};
 use crate::edits::edits_of;
-use crate::parts::{check_keys, check_limit, check_unserved, optional_list_at_key, word_at_key};
+use crate::parts::{check_keys, check_limit, optional_list_at_key, word_at_key};
 use crate::pointers::{PhasePart, Pointer};
 use crate::refusals::{DocError, Limit};
 use serde_json::Value;
@@ -79,14 +79,12 @@ fn phases_of(alloc: Global, version: u64, list: &[Value]) -> Result<Vec<Phase>, 
     Ok(phases)
 }
 
-/// The phases of a document, not too many. None is run yet.
+/// The phases of a document, not too many.
 #[tactic(auto, using(crate::proofs::BrokenRules::broken_append, crate::proofs::SeenValues::length_seen), unfolding(crate::specs::Phases::phases_rules))]
 pub(crate) fn phases_in(alloc: Global, version: u64, value: &Value) -> Result<Vec<Phase>, DocError>
     ensures gives { Gives (λ phases. map phase_view phases.items) result (map phase_in (items_at (codes "phases") (view value.now))) (phases_rules version (view value.now)) }
 {
     let list = optional_list_at_key(value, "phases", Pointer::Root, Pointer::Phases)?;
     check_limit(list.len() <= MOST_PHASES, Limit::Phases)?;
-    let phases = phases_of(alloc, version, list)?;
-    check_unserved(list, Pointer::Phases)?;
-    Ok(phases)
+    phases_of(alloc, version, list)
 }

@@ -34,8 +34,6 @@ pub(crate) enum Refused {
     Version,
     /// There are too many of something.
     Limit(Limit),
-    /// Something is not served yet.
-    NotYet(Pointer),
 }
 
 /// Why the bytes are no net document.
@@ -63,9 +61,6 @@ pub enum DocError {
     /// There are too many of something.
     #[error("too many of something")]
     Limit(Limit),
-    /// What stands at this pointer is not served yet.
-    #[error("not served yet")]
-    NotYet(Pointer),
 }
 
 impl From<Refused> for DocError {
@@ -78,7 +73,6 @@ impl From<Refused> for DocError {
             Refused::BadName(place) => DocError::BadName(place),
             Refused::Version => DocError::Version,
             Refused::Limit(kind) => DocError::Limit(kind),
-            Refused::NotYet(place) => DocError::NotYet(place),
         }
     }
 }

@@ -1,3 +1,4 @@
 mod LoadedDocuments
 mod ReadBytes
+pub mod LoadedParts
 pub mod WellRead

@@ -2,7 +2,7 @@
 use Rattle.std.specs.Prelude.{ℕ, List, [], ◌++◌, codes}
 use Rattle.std.specs.Fmt.{decimal}
 use Rattle.cpn_definitions.specs.Outcome.{Fault, overflow, divide_by_zero, empty_list, no_case, not_in_colour, bad_coefficient, bad_delay, too_large}
-use Rattle.cpn_document.specs.Refusals.{FormRefusal, not_json, shape, bad_number, bad_name, version, limit, not_yet}
+use Rattle.cpn_document.specs.Refusals.{FormRefusal, not_json, shape, bad_number, bad_name, version, limit}
 use Rattle.cpn_document.specs.declared.refusals.Limit.{Limit as DocumentLimit}
 use Rattle.cpn_document.specs.declared.refusals.Limit.TheVariants as counts
 use Rattle.cpn_module.specs.Refusals.{ModuleRefusal, unknown_module, unknown_place, unknown_transition, cycle, socket_type, colour_differs, port_twice, port_in_fusion, two_fusions}
@@ -35,7 +35,6 @@ form_line (bad_number pointer) = numbered_line (codes "document") 3 (codes "bad_
 form_line (bad_name pointer) = numbered_line (codes "document") 4 (codes "bad_name") (pointer_text pointer)
 form_line version = numbered_line (codes "document") 5 (codes "version") []
 form_line (limit kind) = numbered_line (codes "document") 6 (codes "limit") (counted_name kind)
-form_line (not_yet pointer) = numbered_line (codes "document") 7 (codes "not_yet") (pointer_text pointer)
 
 -- ---- its modules
 

@@ -5,6 +5,7 @@
 //! refusal has its error line. The crate runs no net, and reads and writes nothing outside the program.
 #![tactic(auto)]
 
+mod fault_lines;
 mod lines;
 mod pointer_texts;
 mod reading;
@@ -14,6 +15,8 @@ mod text_lines;
 
 pub use cpn_document::{DocError, Pointer};
 pub use cpn_flat::Loaded;
+pub use fault_lines::fault_line_of;
 pub use lines::pointer_line;
 pub use reading::load;
 pub use refusals::LoadError;
+pub use text_lines::{inscription_line_of, typing_line_of};

@@ -78,7 +78,6 @@ fn form_line_of(alloc: Global, error: &DocError) -> Result<String, Memory>
         DocError::BadName(pointer) => pointer_line(alloc, what, 4, "bad_name", *pointer),
         DocError::Version => numbered_line(alloc, what, 5, "version", ""),
         DocError::Limit(kind) => numbered_line(alloc, what, 6, "limit", counted_name(*kind)),
-        DocError::NotYet(pointer) => pointer_line(alloc, what, 7, "not_yet", *pointer),
     }
 }
 
@@ -127,7 +126,8 @@ fn module_line_of(alloc: Global, error: &ModuleError) -> Result<String, Memory>
     }
 }
 
-fn fault_name(fault: EvalFault) -> &'static str
+/// The name of a fault.
+pub(crate) fn fault_name(fault: EvalFault) -> &'static str
     ensures name { result.now ≡ name_of_fault (fault_view fault) }
 {
     match fault {

@@ -1,6 +1,7 @@
 //! From the bytes of a document to its net.
 
 ghost use Rattle.std.specs.Prelude.{◌≡◌, ℕ, List, IfOk, IfErr, IfSome};
+ghost use Rattle.cpn_declared.specs.DeclsViews.{decls_view};
 ghost use Rattle.cpn_definitions.specs.DistinctNames.{HasDistinctNames, HasWellSpelledNames};
 ghost use Rattle.cpn_definitions.specs.Integers.{HasShortIntegers};
 ghost use Rattle.cpn_document.specs.FewArcs.{HaveFewArcs};
@@ -10,6 +11,7 @@ ghost use Rattle.cpn_flat.specs.Flat.{PlainLoaded};
 ghost use Rattle.cpn_flat.specs.FlatNames.{HasFlatNames};
 ghost use Rattle.cpn_flat.specs.Views.{loaded_view};
 ghost use Rattle.cpn_flat.specs.WellLoaded.{IsWellLoaded};
+ghost use Rattle.cpn_typing.specs.Consistency.{IsConsistent};
 ghost use Rattle.cpn_file.specs.Reading.{Reading, read, refused};
 ghost use Rattle.cpn_file.specs.Reads.{loaded_in, IsReadAs};
 ghost use Rattle.cpn_file.specs.Answers.{Loads, LoadsBy, load_refusal_of};
@@ -26,6 +28,7 @@ fn loaded_of(alloc: Global, document: Document) -> Result<Loaded, LoadError>
     requires well_named { AreWellNamed (document_view document) }
     requires few_declarations { HasFewDeclarations (document_view document) }
     ensures reads { LoadsBy loaded_view result (loaded_in (document_view document)) }
+    ensures consistent { IfOk result (λ loaded. IsConsistent (decls_view loaded.decls)) }
     ensures well_loaded { IfOk result (λ loaded. IsWellLoaded (loaded_view loaded)) }
     ensures distinct { IfOk result (λ loaded. HasDistinctNames (loaded_view loaded).net) }
     ensures well_spelled { IfOk result (λ loaded. HasWellSpelledNames (loaded_view loaded).net) }
@@ -46,13 +49,15 @@ fn loaded_of(alloc: Global, document: Document) -> Result<Loaded, LoadError>
 ///
 /// # Errors
 ///
-/// - [`LoadError::Document`]: the bytes are no document, or one with phases, which are not served yet.
+/// - [`LoadError::Document`]: the bytes are no document.
 /// - [`LoadError::Inscription`]: a text, or the variables of a transition, are not accepted.
 /// - [`LoadError::Module`]: the modules make no hierarchy.
 /// - [`LoadError::Flat`]: there are too many instances, or an initial marking has a fault or differs from another.
 /// - [`LoadError::Memory`]: memory ran out.
 pub fn load(alloc: Global, bytes: &[u8]) -> Result<Loaded, LoadError>
     ensures reads { IfOk result (λ loaded. IsReadAs bytes.now (read (loaded_view loaded))) }
+    // What it declares is consistent.
+    ensures consistent { IfOk result (λ loaded. IsConsistent (decls_view loaded.decls)) }
     ensures well_loaded { IfOk result (λ loaded. IsWellLoaded (loaded_view loaded)) }
     // No two places, transitions or variables of the net have one name, nor two constants or constructors of a colour set.
     ensures distinct { IfOk result (λ loaded. HasDistinctNames (loaded_view loaded).net) }

@@ -23,7 +23,7 @@ pub enum LoadError {
     /// Memory ran out. The one variant that is no refusal.
     #[error("out of memory")]
     Memory,
-    /// The bytes are no document, or none that is served.
+    /// The bytes are no document.
     #[error("{0}")]
     Document(DocError),
     /// The text at this pointer, or the variables of the transition there, are not accepted.

@@ -4,6 +4,7 @@ ghost use Rattle.std.specs.Prelude.{◌≡◌, IfOk, IfSome, codes, string_bytes
 ghost use Rattle.std.specs.Fmt.{decimal};
 ghost use Rattle.cpn_declared.specs.Answers.{refusal_of as type_refusal_of, limit_view};
 ghost use Rattle.cpn_module_nets.specs.Answers.{text_refusal_of};
+ghost use Rattle.cpn_module_nets.specs.Reading.{typing};
 ghost use Rattle.cpn_file.specs.TextLines.{lexical_number as number_of_lexical, lexical_name as name_of_lexical, lexical_detail as detail_of_lexical, syntactic_number as number_of_syntactic, syntactic_name as name_of_syntactic, syntactic_detail as detail_of_syntactic, typing_number as number_of_typing, typing_name as name_of_typing, typing_detail as detail_of_typing, limit_name as name_of_limit, inscription_line, line_with};
 
 use crate::pointer_texts::pointer_text;
@@ -155,7 +156,7 @@ fn typing_detail(alloc: Global, error: &TypeError) -> Result<String, Memory>
 }
 
 /// The line of a text that is refused, with its line feed.
-fn text_line(
+pub(crate) fn text_line(
     alloc: Global,
     pointer: &str,
     part: &str,
@@ -204,8 +205,24 @@ fn typing_line(alloc: Global, pointer: &str, error: &TypeError) -> Result<String
     Ok(line)
 }
 
-/// The line of the text, or the transition, at a pointer, that is refused.
-pub(crate) fn inscription_line_of(
+/// The line of the text, or the transition, at a pointer, that a rule of typing refuses, with its line feed.
+///
+/// # Errors
+///
+/// [`Memory`]: memory ran out.
+pub fn typing_line_of(alloc: Global, pointer: Pointer, error: &TypeError) -> Result<String, Memory>
+    ensures line { IfOk result (λ line. IfSome (type_refusal_of error.now) (λ r. string_bytes line ≡ inscription_line pointer (typing r))) }
+{
+    let pointer = pointer_text(alloc, pointer)?;
+    typing_line(alloc, pointer.as_str(), error)
+}
+
+/// The line of the text, or the transition, at a pointer, that is refused, with its line feed.
+///
+/// # Errors
+///
+/// [`Memory`]: memory ran out, or the error is that it did.
+pub fn inscription_line_of(
     alloc: Global,
     pointer: Pointer,
     error: &InscriptionError,

@@ -12,7 +12,7 @@ mod JoinedColours
 mod SoundFlatNets
 mod ItemsThere
 mod CompoundColours
-mod NamedFlatNets
+pub mod NamedFlatNets
 mod ShortFlatNets
 mod ApartInstances
 pub mod JoinedNames
@@ -28,5 +28,5 @@ mod EqualGroups
 mod SharedTokens
 mod SharedMarkings
 mod StartedMarkings
-mod StartedWell
+pub mod StartedWell
 pub mod WellFlat

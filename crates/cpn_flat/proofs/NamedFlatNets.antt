@@ -44,7 +44,7 @@ module _ (ds : Declared) (ps qs : List Coloured) (ts us : List PlainTransition) 
   named_there : (c : Coloured) → is_named (net_from ds ps ts) c ≡ true → is_named (net_from ds qs us) c ≡ true
   named_there c is = sym (shape_alike c.colour.shape) ∙ is
 
-  all_named_there : (cs : List Coloured) → list_all (is_named (net_from ds ps ts)) cs ≡ true → list_all (is_named (net_from ds qs us)) cs ≡ true
+  pub all_named_there : (cs : List Coloured) → list_all (is_named (net_from ds ps ts)) cs ≡ true → list_all (is_named (net_from ds qs us)) cs ≡ true
   all_named_there cs all = all_pass (is_named (net_from ds qs us)) cs (λ c c_in. named_there c (passes_at (is_named (net_from ds ps ts)) cs c all c_in))
 
 -- ---- the flat net

@@ -90,7 +90,7 @@ module _ (colour : PlainColour) where
       let parts = and_parts (nat_le term.delay last_time) (list_all (λ (t : PlainTerm). nat_le t.delay last_time) terms) h in
       all_append is_stamped (replicate term.count (token_of colour.timed term)) _ (all_replicate is_stamped term.count (token_of colour.timed term) (token_stamped colour.timed term parts.0)) (terms_stamped terms parts.1)
 
-  terms_start : (terms : List PlainTerm) → AreTermsOf colour terms → counts.tokens_in terms ≤ most_tokens → AreInRange terms → IsStart colour (tokens_of colour.timed terms)
+  pub terms_start : (terms : List PlainTerm) → AreTermsOf colour terms → counts.tokens_in terms ≤ most_tokens → AreInRange terms → IsStart colour (tokens_of colour.timed terms)
   terms_start terms are few in_range =
       let tokens = flat_map (λ (term : PlainTerm). replicate term.count (token_of colour.timed term)) terms in
       let many = length-in_order token_cmp tokens in

@@ -1,3 +1,5 @@
+pub mod AcceptedModels
 mod LoadedDocuments
-mod Models
+mod ReadModels
+mod ReadyModels
 pub mod WellModels

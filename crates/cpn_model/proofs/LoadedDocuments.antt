@@ -1,72 +1,21 @@
--- What is loaded of a document: what it declares is consistent, and its monitors are those that are written, under well spelled names.
-use Rattle.std.proofs.Common.{◌≡◌, ℕ, Bool, true, List, [], ◌∷◌, map, refl, sym, subst}
+-- What is loaded of bytes: its monitors have well spelled names, and the first of its phases starts from the initial marking.
+use Rattle.std.proofs.Common.{◌≡◌, ℕ, true, List, [], ◌∷◌, map, refl, sym, subst}
 use Rattle.std.specs.List.{list_all}
 use Rattle.std.proofs.lemmas.Bool.{and_parts, and_from}
 use Rattle.cpn_definitions.specs.DistinctNames.{is_path}
 use Rattle.cpn_document.specs.Document.{RawDocument}
 use Rattle.cpn_document.specs.Monitors.{RawMonitor}
+use Rattle.cpn_document.specs.Phases.{StartInitially}
 use Rattle.cpn_document.specs.Reading as form
 use Rattle.cpn_document.specs.Reading.{IsDocument}
 use Rattle.cpn_document.specs.Texts.{is_name}
 use Rattle.cpn_document.proofs.WellFormed.{documents_are_well_formed}
-use Rattle.cpn_file.specs.Reading.{of_net, of_flat, read}
-use Rattle.cpn_file.specs.Reads.{loaded_in, IsReadingOf, IsReadAs}
-use Rattle.cpn_flat.specs.Flat.{PlainLoaded, IsUnfoldedAs, all_written, flat_in}
-use Rattle.cpn_flat.specs.FlatNet.{flat_net}
-use Rattle.cpn_flat.specs.InitialMarking.{started}
-use Rattle.cpn_flat.specs.Names.{AreNames}
+use Rattle.cpn_file.specs.Reading.{read}
+use Rattle.cpn_file.specs.Reads.{IsReadingOf, IsReadAs}
+use Rattle.cpn_file.proofs.LoadedParts.{loaded_of}
+use Rattle.cpn_flat.specs.Flat.{PlainLoaded}
 use Rattle.cpn_flat.proofs.JoinedNames.{spelled_from_name}
-use Rattle.cpn_fuse.specs.Compound.{AreCompound}
-use Rattle.cpn_module.specs.Checked.{IsChecked}
-use Rattle.cpn_module_nets.specs.Accepted.{declared_from, places_of}
-use Rattle.cpn_module_nets.specs.Documents.{nets_so, accepted_in}
-use Rattle.cpn_module_nets.specs.Nets.{PlainAccepted}
-use Rattle.cpn_module_nets.specs.Reading.{of_modules, each_from}
-use Rattle.cpn_module_nets.proofs.AcceptedTexts.{declared_good}
-use Rattle.cpn_module_nets.proofs.WellAccepted.{checked_read}
-use Rattle.cpn_module_trees.specs.Trees.{AreTrees}
-use Rattle.cpn_readings.specs.Reading as readings
-use Rattle.cpn_readings.specs.Relations.{just, such_that, refused_by}
-use Rattle.cpn_readings.proofs.Readings.{same_read}
-use Rattle.cpn_readings.proofs.RelatedReadings.{step_parts}
 use Rattle.cpn_typing.specs.Consistency.{IsConsistent}
-use Rattle.cpn_typing.specs.Names.{nothing_declared}
-
--- what is accepted of a document
-accepted_consistent : (d : RawDocument) (a : PlainAccepted) → accepted_in d (readings.read a) → IsConsistent a.declared
-unfolding accepted_in
-accepted_consistent d a h =
-    let trees = step_parts (such_that (AreTrees d)) _ a h in
-    let ds = step_parts (just (declared_from 0 nothing_declared trees.0.declarations)) _ a trees.2 in
-    let places = step_parts (just (each_from (places_of ds.0) 0 trees.0.modules)) _ a ds.2 in
-    let hierarchy = step_parts (refused_by of_modules (IsChecked ds.0 d)) _ a places.2 in
-    let modules = step_parts (nets_so ds.0 places.0 hierarchy.0 trees.0.modules) _ a hierarchy.2 in
-    let same = same_read a (record { declared = ds.0; hierarchy = hierarchy.0; modules = modules.0 }) modules.2 in
-    subst (λ (x : PlainAccepted). IsConsistent x.declared) (sym same) (declared_good trees.0.declarations ds.0 (sym ds.1))
-
--- What is loaded of a document: its declarations are consistent, and its monitors are those that are written.
-pub record IsLoadedOf (d : RawDocument) (loaded : PlainLoaded) : Type 0 where
-  pub consistent : IsConsistent loaded.declared
-  pub monitors_are : loaded.monitors ≡ d.monitors
-
--- the flat net of it has the same declarations
-flat_of : (d : RawDocument) (a : PlainAccepted) (l : PlainLoaded) → IsConsistent a.declared → flat_in d a (readings.read l) → IsLoadedOf d l
-unfolding flat_in
-flat_of d a l good h =
-    let is = step_parts (IsUnfoldedAs a.hierarchy) _ l h in
-    let names = step_parts (such_that (AreNames d is.0)) _ l is.2 in
-    let classes = step_parts (such_that (AreCompound a.hierarchy is.0)) _ l names.2 in
-    let marking = step_parts (started (flat_net a is.0 names.0 classes.0) (all_written a.modules is.0 classes.0)) _ l classes.2 in
-    let same = same_read l (record { net = flat_net a is.0 names.0 classes.0; initial = marking.0; declared = a.declared; monitors = d.monitors; phases = d.phases }) marking.2 in
-    subst (IsLoadedOf d) (sym same) (record { consistent = good; monitors_are = refl })
-
-loaded_of : (d : RawDocument) (loaded : PlainLoaded) → loaded_in d (read loaded) → IsLoadedOf d loaded
-unfolding loaded_in
-loaded_of d loaded h =
-    let accepted = step_parts (refused_by of_net (accepted_in d)) _ loaded h in
-    let is = checked_read of_net (accepted_in d) accepted.0 accepted.1 in
-    let flat = checked_read of_flat (flat_in d accepted.0) loaded accepted.2 in
-    flat_of d accepted.0 loaded (accepted_consistent d accepted.0 is) flat
 
 -- names are well spelled
 all_spelled : (monitors : List RawMonitor) → list_all is_name (map (λ monitor. monitor.name) monitors) ≡ true → list_all (λ (monitor : RawMonitor). is_path monitor.name) monitors ≡ true
@@ -75,18 +24,22 @@ all_spelled (monitor ∷ monitors) h =
     let parts = and_parts (is_name monitor.name) (list_all is_name (map (λ m. m.name) monitors)) h in
     and_from (is_path monitor.name) (list_all (λ (m : RawMonitor). is_path m.name) monitors) (spelled_from_name monitor.name parts.0) (all_spelled monitors parts.1)
 
--- What is read of bytes: consistent declarations, and monitors with well spelled names.
+-- What is read of bytes: consistent declarations, monitors with well spelled names, and phases the first of which starts from the initial
+-- marking.
 pub record IsReadWell (loaded : PlainLoaded) : Type 0 where
   pub consistent : IsConsistent loaded.declared
   pub spelled : list_all (λ (monitor : RawMonitor). is_path monitor.name) loaded.monitors ≡ true
+  pub starts : StartInitially loaded.phases
 
 of_reading : (bytes : List ℕ) (document : form.Reading RawDocument) (loaded : PlainLoaded) → IsDocument bytes document → IsReadingOf document (read loaded) → IsReadWell loaded
 of_reading bytes (form.read d) loaded formed h =
     let is = loaded_of d loaded h in
-    let named = all_spelled d.monitors (documents_are_well_formed bytes d formed).well_named.monitors.formed in
+    let well = documents_are_well_formed bytes d formed in
+    let named = all_spelled d.monitors well.well_named.monitors.formed in
     record {
       consistent = is.consistent;
       spelled = subst (λ (monitors : List RawMonitor). list_all (λ (monitor : RawMonitor). is_path monitor.name) monitors ≡ true) (sym is.monitors_are) named;
+      starts = subst StartInitially (sym is.phases_are) well.starts;
     }
 of_reading bytes (form.refused refusal) loaded formed h = cc
 

@@ -1,28 +1,27 @@
 //! Why the bytes of a document are no model.
 
-ghost use Rattle.std.specs.Prelude.{◌≡◌, IfOk, IfSome, not, is_some, option_map, string_bytes};
+ghost use Rattle.std.specs.Prelude.{◌≡◌, option_map, not, is_some};
+ghost use Rattle.cpn_edit_texts.specs.Answers.{edit_refusal_of};
+ghost use Rattle.cpn_file.specs.Answers.{load_refusal_of};
 ghost use Rattle.cpn_model.specs.Answers.{model_refusal_of};
-ghost use Rattle.cpn_model.specs.Lines.{model_line};
-ghost use Rattle.cpn_model.specs.Reading.{of_monitor};
-ghost use Rattle.cpn_model.specs.declared.refusals.ModelError.TheVariants.{Document as IsOfDocument};
-ghost use Rattle.cpn_monitor_texts.specs.Answers.{monitor_refusal_of};
+ghost use Rattle.cpn_model.specs.Reading.{of_document, of_edits};
 
-use cpn_core::Memory;
-use cpn_document::{MonitorPart, Pointer};
-use cpn_file::{LoadError, pointer_line};
-use cpn_monitor_texts::MonitorError;
-use std::alloc::Global;
+use cpn_edit_texts::EditError;
+use cpn_file::LoadError;
 use thiserror::Error;
 
 /// Why the bytes of a document are no model.
 #[derive(Debug, Drop, Error)]
 pub enum ModelError {
-    /// The document is not loaded, or the text of a monitor is not accepted; or memory ran out.
+    /// Memory ran out. The one variant that is no refusal.
+    #[error("out of memory")]
+    Memory,
+    /// The document is not loaded.
     #[error("{0}")]
     Document(LoadError),
-    /// The monitor of this number names a transition, or a place, that is not in the net.
-    #[error("monitor {0}: unknown name")]
-    UnknownName(usize),
+    /// A monitor, or an edit, is not accepted.
+    #[error("{0}")]
+    Edit(EditError),
 }
 
 impl ModelError {
@@ -31,51 +30,31 @@ impl ModelError {
         ensures tells { result ≡ not (is_some (model_refusal_of self.now)) }
     {
         match self {
+            ModelError::Memory => true,
             ModelError::Document(error) => error.is_memory(),
-            ModelError::UnknownName(_) => false,
-        }
-    }
-
-    /// The error line of the refusal, with its line feed. Want of memory has none, and is answered as itself.
-    ///
-    /// # Errors
-    ///
-    /// `Memory` where memory is wanted, or the error is that it was.
-    pub fn line(&self, alloc: Global) -> Result<String, Memory>
-        ensures line { IfOk result (λ line. IfSome (model_refusal_of self.now) (λ r. string_bytes line ≡ model_line r)) }
-    {
-        match self {
-            ModelError::Document(error) => error.line(alloc),
-            ModelError::UnknownName(number) => pointer_line(
-                alloc,
-                "net monitor",
-                1,
-                "unknown_name",
-                Pointer::Monitor(*number, MonitorPart::Whole),
-            ),
+            ModelError::Edit(error) => error.is_memory(),
         }
     }
 }
 
 impl From<LoadError> for ModelError {
-    ghost from_gives = { λ error e. e ≡ IsOfDocument error };
+    ghost from_gives = { λ error e. model_refusal_of e ≡ option_map of_document (load_refusal_of error) };
 
     fn from(error: LoadError) -> ModelError {
-        ModelError::Document(error)
+        match error {
+            LoadError::Memory => ModelError::Memory,
+            error => ModelError::Document(error),
+        }
     }
 }
 
-impl From<MonitorError> for ModelError {
-    ghost from_gives = { λ error e. model_refusal_of e ≡ option_map of_monitor (monitor_refusal_of error) };
+impl From<EditError> for ModelError {
+    ghost from_gives = { λ error e. model_refusal_of e ≡ option_map of_edits (edit_refusal_of error) };
 
-    fn from(error: MonitorError) -> ModelError {
+    fn from(error: EditError) -> ModelError {
         match error {
-            MonitorError::Memory => ModelError::Document(LoadError::Memory),
-            MonitorError::UnknownName(number) => ModelError::UnknownName(number),
-            MonitorError::Bad(number, error) => ModelError::Document(LoadError::Inscription(
-                Pointer::Monitor(number, MonitorPart::Expr),
-                error,
-            )),
+            EditError::Memory => ModelError::Memory,
+            error => ModelError::Edit(error),
         }
     }
 }

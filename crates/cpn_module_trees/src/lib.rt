@@ -8,5 +8,5 @@
 mod parsing;
 mod trees;
 
-pub use parsing::{Parsing, Unparsed, inscription_in};
+pub use parsing::{Parsing, Unparsed, guard_in, inscription_in};
 pub use trees::{DocumentTrees, ModuleTrees, PlaceTrees, TransitionTrees, document_trees};

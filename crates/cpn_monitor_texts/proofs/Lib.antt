@@ -1,8 +1,8 @@
 mod CheckedSteps
 mod FirstOutside
 pub mod FittingMonitors
-mod NamedItems
+pub mod NamedItems
 mod NetTransitions
 mod OneReading
 mod Rows
-mod ValuesOver
+pub mod ValuesOver

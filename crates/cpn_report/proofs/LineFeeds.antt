@@ -4,7 +4,7 @@ use Rattle.std.specs.Prelude.{codes}
 use Rattle.std.specs.List.{list_all, flat_map, filter}
 use Rattle.std.specs.Fmt.{decimal}
 use Rattle.std.proofs.lemmas.Bool.{and_parts, and_from, ltb-true, eqb-true}
-use Rattle.std.proofs.lemmas.List.{get_or-map, length-map}
+use Rattle.std.proofs.lemmas.List.{get_or-map, length-map, map-append}
 use Rattle.std.proofs.lemmas.List.Folds.{list_all-append}
 use Rattle.cpn_definitions.specs.Value.{PlainValue, PlainValues, unit, boolean, int, constant, text, tuple, bare, applied, list, none, more}
 use Rattle.cpn_definitions.specs.Colour.{PlainShape, PlainShapes, PlainColour, text_shape, constant_shape, tuple_shape, union_shape, list_shape, more_shapes, no_shapes, Constructors, no_constructors, without, taking, constructor_at, is_bare, takes, is_printable, has_shape, have_shapes, all_have_shape, admits}
@@ -21,18 +21,23 @@ use Rattle.cpn_definitions.specs.Legal.{PlainOccurrence}
 use Rattle.cpn_monitor.specs.MonitorValues.{PlainMeasured, counted, sized, valued, counted_to_stop, sized_to_stop, PlainMonitorValue}
 use Rattle.cpn_runs.specs.State.{PlainSetup, PlainEvent, claim_made, claim_completed, clock_moved, cut_made, PlainEnd, dead, steps_made, until_passed, fault_end, stopped_by, wants_memory}
 use Rattle.cpn_tmset.specs.Listed.{Group, groups}
-use Rattle.cpn_report.specs.Lines.{Line, report_line, run_line, occurrence_line, schedule_line, end_line, occurrences_line, clock_line, ready_line, next_line, monitor_line, total_line, pair_text, binding_text, element_text, time_text, event_text, fault_text, start_text, group_text, tokens_text, opening_text, occurrence_text, schedule_text, end_text, occurrences_text, clock_text, place_text, ready_text, next_text, total_text, line_text}
+use Rattle.cpn_report.specs.Lines.{Line, run_line, occurrence_line, schedule_line, end_line, occurrences_line, clock_line, ready_line, next_line, monitor_line, pair_text, binding_text, element_text, time_text, event_text, fault_text, start_text, group_text, tokens_text, opening_text, occurrence_text, schedule_text, end_text, occurrences_text, clock_text, place_text, ready_text, next_text, line_text, first_text, shown_byte, probe_text, total_text}
 use Rattle.cpn_report.specs.MonitorText.{value_at, bound_text, measured_text, monitor_text}
 use Rattle.cpn_report.specs.Printable.{is_bound, is_binding_element, is_occurrence, IsCause, IsPrintableNet, IsPrintable}
-use Rattle.cpn_report.specs.Report.{trace_lines, place_lines_from, place_lines, last_lines, whole_run, is_told, run_lines, report_lines}
-use Rattle.cpn_report.specs.Told.{is_one_line, are_lines, HaveSpelledNames, LinesEndOnce}
+use Rattle.cpn_report.specs.Report.{trace_lines, place_lines_from, place_lines, last_lines, whole_run, is_told, run_lines, ToldRun, run_texts, runs_texts, probes_texts, occurrences_told, report_texts}
+use Rattle.cpn_report.specs.Told.{is_one_line, HaveSpelledNames, IsSpelledRun, AreSpelledRuns, LinesEndOnce}
 use Rattle.cpn_report.specs.ValueText.{joined, byte_text, int_text, constant_name, constructor_name, argument_text, shaped_text, tuple_texts, list_texts, value_text}
 use Rattle.cpn_report.specs.declared.starts.Start.{Start}
 use Rattle.cpn_report.specs.declared.starts.Start.TheVariants as starts
+use Rattle.cpn_report.specs.declared.traces.Trace.{Trace}
 use Rattle.cpn_report.proofs.BytesApart.{all_weaker, word_bytes, path_bytes, decimal_bytes}
 use Rattle.cpn_report.proofs.GroupedTokens.{groups_pass}
 use Rattle.cpn_report.proofs.NamesApart.{passes_at, counted_at, constant_is_word, constructor_is_word, transition_is_path}
 use Rattle.cpn_report.proofs.PrintableNets.{element_bound, held_at}
+
+-- whether the text of each of the lines has no line feed
+abbrev are_lines : PlainNet → List Line → Bool
+are_lines n lines = list_all is_one_line (map (line_text n) lines)
 
 -- a byte of a line
 abbrev in_line : ℕ → Bool
@@ -366,7 +371,7 @@ module _ (n : PlainNet) (spelled : HasWellSpelledNames n) (net : IsPrintableNet 
   cause_line values wants_memory names is = absurd is
   cause_line values (fault_end e fault) names is = three (fault_text fault) (codes " ") (element_text n e) (fault_line fault) refl (element_line n spelled net e is)
 
--- ---- the lines of a report
+-- ---- the lines of a run
 
 kept_lines : (n : PlainNet) (test : Line → Bool) (lines : List Line) → are_lines n lines ≡ true → are_lines n (filter test lines) ≡ true
 kept_lines n test [] all = refl
@@ -379,7 +384,8 @@ kept_lines n test (line ∷ lines) all =
     by false first rest = rest
 
 joined_lines : (n : PlainNet) (lines others : List Line) → are_lines n lines ≡ true → are_lines n others ≡ true → are_lines n (lines ++ others) ≡ true
-joined_lines n lines others first second = list_all-append (λ line. is_one_line (line_text n line)) lines others ∙ and_from (are_lines n lines) (are_lines n others) first second
+joined_lines n lines others first second =
+    ap (list_all is_one_line) (map-append (line_text n) lines others) ∙ list_all-append is_one_line (map (line_text n) lines) (map (line_text n) others) ∙ and_from (are_lines n lines) (are_lines n others) first second
 
 one_more : (n : PlainNet) (line : Line) (lines : List Line) → is_one_line (line_text n line) ≡ true → are_lines n lines ≡ true → are_lines n (line ∷ lines) ≡ true
 one_more n line lines first rest = and_from (is_one_line (line_text n line)) (are_lines n lines) first rest
@@ -409,10 +415,44 @@ module _ (setup : PlainSetup) (run : PlainFinished) (spelled : HasWellSpelledNam
       (one_more n (occurrences_line (length run.occurrences)) (clock_line run.clock ∷ rest) (counted_line (length run.occurrences))
       (one_more n (clock_line run.clock) rest (last_clock_line run.clock) (joined_lines n (place_lines n.places run.marking) last placed_lines closing_lines)))))
 
+-- ---- the lines of a report
+
+two_lists : (texts others : List (List ℕ)) → list_all is_one_line texts ≡ true → list_all is_one_line others ≡ true → list_all is_one_line (texts ++ others) ≡ true
+two_lists texts others first second = list_all-append is_one_line texts others ∙ and_from (list_all is_one_line texts) (list_all is_one_line others) first second
+
+told_lines : (trace : Trace) (k : ℕ) (told : ToldRun) → IsSpelledRun told → list_all is_one_line (run_texts trace k told) ≡ true
+unfolding run_lines
+told_lines trace k told is =
+    kept_lines told.setup.net (is_told trace) (whole_run told.setup k told.start told.run) (whole_lines told.setup told.run is.spelled is.values_spelled is.printable k told.start)
+
+runs_lines : (trace : Trace) (k : ℕ) (tolds : List ToldRun) → AreSpelledRuns tolds → list_all is_one_line (runs_texts trace k tolds) ≡ true
+runs_lines trace k [] are = refl
+runs_lines trace k (told ∷ tolds) are = two_lists (run_texts trace k told) (runs_texts trace (k + 1) tolds) (told_lines trace k told are.0) (runs_lines trace (k + 1) tolds are.1)
+
+-- what a probe said is shown in printable bytes
+shown_in_line : (byte : ℕ) → in_line (shown_byte byte) ≡ true
+shown_in_line byte = by (is_printable byte) refl
+  where
+    by : (b : Bool) → is_printable byte ≡ b → in_line (if b then byte else 0x3F) ≡ true
+    by true e = passes_in_line is_printable refl byte e
+    by false e = refl
+
+shown_line : (bytes : List ℕ) → is_one_line (map shown_byte bytes) ≡ true
+shown_line [] = refl
+shown_line (b ∷ bytes) = and_from (in_line (shown_byte b)) (is_one_line (map shown_byte bytes)) (shown_in_line b) (shown_line bytes)
+
+probe_is_line : (k : ℕ) (bytes : List ℕ) → is_one_line (probe_text k bytes) ≡ true
+unfolding probe_text
+probe_is_line k bytes = three (decimal k) (codes " ") (map shown_byte bytes) (number_line k) refl (shown_line bytes)
+
+probes_lines : (k : ℕ) (said : List (List ℕ)) → list_all is_one_line (probes_texts k said) ≡ true
+probes_lines k [] = refl
+probes_lines k (bytes ∷ said) = and_from (is_one_line (probe_text k bytes)) (list_all is_one_line (probes_texts (k + 1) said)) (probe_is_line k bytes) (probes_lines (k + 1) said)
+
 pub lines_end_once : LinesEndOnce
-unfolding report_lines run_lines
-lines_end_once trace setup run spelled names printable =
-    let lines = filter (is_told trace) (whole_run setup 0 starts.Initial run) in
-    let total = total_line (length run.occurrences) ∷ [] in
-    one_more setup.net report_line (lines ++ total) refl
-    (joined_lines setup.net lines total (kept_lines setup.net (is_told trace) (whole_run setup 0 starts.Initial run) (whole_lines setup run spelled names printable 0 starts.Initial)) (one_more setup.net (total_line (length run.occurrences)) [] (in_all_line (length run.occurrences)) refl))
+unfolding report_texts
+lines_end_once trace tolds said are =
+    let runs = runs_texts trace 0 tolds in
+    let probes = probes_texts 0 said in
+    let total = total_text (occurrences_told tolds) in
+    two_lists (first_text ∷ runs ++ probes) (total ∷ []) (two_lists (first_text ∷ runs) probes (runs_lines trace 0 tolds are) (probes_lines 0 said)) (and_from (is_one_line total) true (in_all_line (occurrences_told tolds)) refl)

@@ -1,20 +1,19 @@
--- The text of a report is that of its parts, one after another: what is not told are the lines of the trace, and no others.
-use Rattle.std.proofs.Common.{◌≡◌, ◌∙◌, refl, sym, ap, ap₂, ℕ, ◌+◌, List, [], ◌∷◌, ◌++◌, length, map, append_assoc, append-nil}
-use Rattle.std.specs.Prelude.{codes}
+-- The text of a report is that of its parts, one after another: of a run what is not told are the lines of the trace, and no others.
+use Rattle.std.proofs.Common.{◌≡◌, ◌∙◌, refl, sym, ap, ap₂, ℕ, suc, ◌+◌, List, [], ◌∷◌, ◌++◌, length, map, append_assoc, append-nil, arith}
 use Rattle.std.specs.List.{filter, flat_map}
 use Rattle.std.proofs.lemmas.Grind.{flat_map-append}
 use Rattle.std.proofs.lemmas.List.Elements.{filter-append}
+use Rattle.std.proofs.lemmas.List.Sums.{sum_by_push}
 use Rattle.cpn_definitions.specs.Marking.{Marking, tokens_at}
 use Rattle.cpn_definitions.specs.Net.{Coloured, PlainNet}
 use Rattle.cpn_definitions.specs.Legal.{PlainOccurrence}
 use Rattle.cpn_monitor.specs.MonitorValues.{PlainMonitorValue}
 use Rattle.cpn_runs.specs.State.{PlainSetup}
 use Rattle.cpn_runs.specs.Run.{PlainFinished}
-use Rattle.cpn_report.specs.Lines.{Line, run_line, occurrence_line, schedule_line, end_line, occurrences_line, clock_line, place_line, ready_line, next_line, monitor_line, total_line, opening_text, schedule_text, end_text, occurrences_text, clock_text, ready_text, next_text, total_text, line_text, ended, lines_text}
+use Rattle.cpn_report.specs.Lines.{Line, run_line, occurrence_line, schedule_line, end_line, occurrences_line, clock_line, place_line, ready_line, next_line, monitor_line, opening_text, schedule_text, end_text, occurrences_text, clock_text, ready_text, next_text, line_text, first_text, total_text, ended, lines_text}
 use Rattle.cpn_report.specs.MonitorText.{monitor_text}
-use Rattle.cpn_report.specs.Report.{trace_lines, place_lines_from, place_lines, last_lines, whole_run, is_told, run_lines, report_lines, run_text, report_text}
+use Rattle.cpn_report.specs.Report.{trace_lines, place_lines_from, place_lines, last_lines, whole_run, is_told, run_lines, run_text, ToldRun, run_texts, runs_texts, probes_texts, occurrences_told, report_texts, report_text}
 use Rattle.cpn_report.specs.declared.starts.Start.{Start}
-use Rattle.cpn_report.specs.declared.starts.Start.TheVariants as starts
 use Rattle.cpn_report.specs.declared.traces.Trace.{Trace}
 use Rattle.cpn_report.specs.declared.traces.Trace.TheVariants as traces
 
@@ -70,10 +69,12 @@ trace_on before n run =
     let text = ap (lines_text n) (all_told (trace_lines run)) ∙ lines_joined n (map occurrence_line run.occurrences) (schedule_line run.journal ∷ []) in
     ap (λ rest. before ++ rest) text ∙ simp (append_assoc, append-nil)
 
+-- without the trace nothing of it is told
+pub no_trace : (run : PlainFinished) → filter (is_told traces.Off) (trace_lines run) ≡ []
+no_trace run = filter-append (is_told traces.Off) (map occurrence_line run.occurrences) (schedule_line run.journal ∷ []) ∙ ap (λ lines. lines ++ []) (none_told run.occurrences)
+
 pub trace_off : (before : List ℕ) (n : PlainNet) (run : PlainFinished) → before ++ lines_text n (filter (is_told traces.Off) (trace_lines run)) ≡ before
-trace_off before n run =
-    let none = filter-append (is_told traces.Off) (map occurrence_line run.occurrences) (schedule_line run.journal ∷ []) ∙ ap (λ lines. lines ++ []) (none_told run.occurrences) in
-    ap (λ lines. before ++ lines_text n lines) none ∙ append-nil before
+trace_off before n run = ap (λ lines. before ++ lines_text n lines) (no_trace run) ∙ append-nil before
 
 -- the lines of monitors
 monitors_text : (n : PlainNet) (values : List PlainMonitorValue) → lines_text n (map monitor_line values) ≡ flat_map (λ value. ended (monitor_text value)) values
@@ -105,10 +106,58 @@ run_parts before trace setup number start run =
     ∙ ap opened (lines_joined n places closing ∙ ap (λ rest. lines_text n places ++ closed rest) (monitors_text n run.values)) in
     ap (λ rest. before ++ rest) text ∙ simp append_assoc
 
--- A report, written after a text: its first line, its run, and the total.
-pub report_parts : (before : List ℕ) (trace : Trace) (setup : PlainSetup) (run : PlainFinished) → before ++ report_text trace setup run ≡ before ++ ended (codes "report 1") ++ run_text trace setup 0 starts.Initial run ++ ended (total_text (length run.occurrences))
-unfolding report_text report_lines run_text
-report_parts before trace setup run =
-    let lines = run_lines trace setup 0 starts.Initial run in
-    let text = ap (λ rest. ended (codes "report 1") ++ rest) (lines_joined setup.net lines (total_line (length run.occurrences) ∷ [])) in
-    ap (λ rest. before ++ rest) text ∙ simp (append_assoc, append-nil)
+-- ---- reports
+
+-- the texts of lines, each ended, are the text of the lines
+ended_texts : (n : PlainNet) (lines : List Line) → flat_map ended (map (line_text n) lines) ≡ lines_text n lines
+ended_texts n [] = refl
+ended_texts n (line ∷ lines) = ap (λ rest. ended (line_text n line) ++ rest) (ended_texts n lines)
+
+-- the next run is told after the others
+runs_more : (trace : Trace) (k : ℕ) (tolds : List ToldRun) (told : ToldRun) → runs_texts trace k (tolds ++ told ∷ []) ≡ runs_texts trace k tolds ++ run_texts trace (k + length tolds) told
+runs_more trace k [] told = let at : k ≡ k + 0 = omega arith in append-nil (run_texts trace k told) ∙ ap (λ j. run_texts trace j told) at
+runs_more trace k (first ∷ tolds) told =
+    let at : k + 1 + length tolds ≡ k + suc (length tolds) = omega arith in
+    let own = run_texts trace k first in
+    ap (λ texts. own ++ texts) (runs_more trace (k + 1) tolds told ∙ ap (λ j. runs_texts trace (k + 1) tolds ++ run_texts trace j told) at)
+    ∙ sym (append_assoc own (runs_texts trace (k + 1) tolds) (run_texts trace (k + suc (length tolds)) told))
+
+-- what a report has told of runs, as text
+abbrev pub text_so_far : Trace → List ToldRun → List ℕ
+text_so_far trace tolds = flat_map ended (first_text ∷ runs_texts trace 0 tolds)
+
+-- the text of a run is written after that of the runs before it
+tell_text : (trace : Trace) (tolds : List ToldRun) (told : ToldRun) → text_so_far trace (tolds ++ told ∷ []) ≡ text_so_far trace tolds ++ run_text trace told.setup (length tolds) told.start told.run
+unfolding run_text
+tell_text trace tolds told =
+    let runs = runs_texts trace 0 tolds in
+    let own = run_texts trace (length tolds) told in
+    let at : 0 + length tolds ≡ length tolds = omega arith in
+    ap (λ texts. flat_map ended (first_text ∷ texts)) (runs_more trace 0 tolds told ∙ ap (λ j. runs ++ run_texts trace j told) at)
+    ∙ flat_map-append ended (first_text ∷ runs) own
+    ∙ ap (λ text. text_so_far trace tolds ++ text) (ended_texts told.setup.net (run_lines trace told.setup (length tolds) told.start told.run))
+
+-- A run is told after those that were told.
+pub told_more : (trace its : Trace) (tolds : List ToldRun) (told : ToldRun) (k : ℕ) (before after : List ℕ) → its ≡ trace → k ≡ length tolds → before ≡ text_so_far trace tolds
+    → after ≡ before ++ run_text its told.setup k told.start told.run → after ≡ text_so_far trace (tolds ++ told ∷ [])
+told_more trace its tolds told k before after trace_is number_is before_is written =
+    written ∙ ap₂ (λ text own. text ++ own) before_is (ap₂ (λ t j. run_text t told.setup j told.start told.run) trace_is number_is) ∙ sym (tell_text trace tolds told)
+
+-- its occurrences are added to theirs
+pub tell_total : (tolds : List ToldRun) (told : ToldRun) → occurrences_told (tolds ++ told ∷ []) ≡ occurrences_told tolds + length told.run.occurrences
+tell_total tolds told = sum_by_push (λ (its : ToldRun). length its.run.occurrences) tolds told
+
+-- a report: what it told of runs, the lines of probes, and the total
+report_parts : (trace : Trace) (tolds : List ToldRun) (said : List (List ℕ)) → report_text trace tolds said ≡ text_so_far trace tolds ++ flat_map ended (probes_texts 0 said) ++ ended (total_text (occurrences_told tolds))
+unfolding report_text report_texts
+report_parts trace tolds said =
+    let runs = first_text ∷ runs_texts trace 0 tolds in
+    let probes = probes_texts 0 said in
+    let total = total_text (occurrences_told tolds) in
+    flat_map-append ended (runs ++ probes) (total ∷ []) ∙ ap₂ (λ text last. text ++ last) (flat_map-append ended runs probes) (append-nil (ended total))
+
+-- A report is whole when the lines of probes and the total are written after the runs.
+pub all_written : (trace : Trace) (tolds : List ToldRun) (said : List (List ℕ)) (count : ℕ) (before probes after : List ℕ) → before ≡ text_so_far trace tolds → count ≡ occurrences_told tolds
+    → probes ≡ before ++ flat_map ended (probes_texts 0 said) → after ≡ probes ++ ended (total_text count) → after ≡ report_text trace tolds said
+all_written trace tolds said count before probes after before_is count_is probes_written total_written =
+    total_written ∙ ap₂ (λ text n. text ++ ended (total_text n)) (probes_written ∙ ap (λ text. text ++ flat_map ended (probes_texts 0 said)) before_is) count_is ∙ sym (report_parts trace tolds said)

@@ -1,6 +1,7 @@
 -- Worked runs, whole: the report of one that makes one occurrence, with its trace and without; a run that has another number in
--- each of its places, with a place that its marking has no entry for; and one that a monitor stops. And what the laws of texts ask for, of a small net.
-use Rattle.std.proofs.Common.{◌≡◌, pos, true, false, [], ◌∷◌, Some, None, refl, arith}
+-- each of its places, with a place that its marking has no entry for; one that a monitor stops; and the report of two runs, with what probes said. And what the
+-- laws of texts ask for, of a small net.
+use Rattle.std.proofs.Common.{◌≡◌, pos, true, false, [], ◌∷◌, ◌++◌, Some, None, refl, arith}
 use Rattle.std.proofs.lemmas.Fmt.{decimal_digit}
 use Rattle.std.specs.Prelude.{codes}
 use Rattle.std.specs.List.{IsDistinct}
@@ -13,9 +14,9 @@ use Rattle.cpn_definitions.specs.Net.{PlainNet}
 use Rattle.cpn_definitions.specs.Occurrence.{PlainElement}
 use Rattle.cpn_monitor.specs.MonitorValues.{counted, counted_to_stop}
 use Rattle.cpn_runs.specs.Run.{PlainFinished}
-use Rattle.cpn_runs.specs.State.{PlainSetup, claim_made, claim_completed, dead, steps_made, stopped_by}
-use Rattle.cpn_report.specs.Lines.{binding_text, element_text, opening_text, occurrence_text, schedule_text, end_text, occurrences_text, clock_text, place_text, ready_text, next_text, total_text}
-use Rattle.cpn_report.specs.Report.{whole_run, run_lines, report_lines, run_text, report_text}
+use Rattle.cpn_runs.specs.State.{PlainSetup, claim_made, claim_completed, clock_moved, dead, steps_made, stopped_by}
+use Rattle.cpn_report.specs.Lines.{binding_text, element_text, opening_text, occurrence_text, schedule_text, end_text, occurrences_text, clock_text, place_text, ready_text, next_text, probe_text, total_text}
+use Rattle.cpn_report.specs.Report.{whole_run, run_lines, run_text, ToldRun, report_texts, report_text}
 use Rattle.cpn_report.specs.MonitorText.{monitor_text}
 use Rattle.cpn_report.specs.Told.{HaveShortNumbers, HaveSpelledNames, is_one_line}
 use Rattle.cpn_report.specs.declared.starts.Start.TheVariants as starts
@@ -57,12 +58,15 @@ one_occurrence = record {
   values = [];
 }
 
-with_its_trace : report_text traces.On one_step one_occurrence ≡ codes "report 1\nrun 0 initial 0 ready 1 next 0\nocc 0 @0 Top/t {x=7}\nschedule c0 d0\nend steps\noccurrences 1\nclock 0\nplace Top/A 1`7\nready 1\nnext 0\ntotal 1\n"
-unfolding report_text report_lines run_lines whole_run opening_text occurrence_text element_text binding_text schedule_text end_text occurrences_text clock_text place_text ready_text next_text total_text
+abbrev from_the_start : PlainFinished → ToldRun
+from_the_start run = record { start = starts.Initial; setup = one_step; run = run }
+
+with_its_trace : report_text traces.On (from_the_start one_occurrence ∷ []) [] ≡ codes "report 1\nrun 0 initial 0 ready 1 next 0\nocc 0 @0 Top/t {x=7}\nschedule c0 d0\nend steps\noccurrences 1\nclock 0\nplace Top/A 1`7\nready 1\nnext 0\ntotal 1\n"
+unfolding report_text report_texts run_lines whole_run opening_text occurrence_text element_text binding_text schedule_text end_text occurrences_text clock_text place_text ready_text next_text total_text
 with_its_trace = rw (decimal_digit 0 (omega arith), decimal_digit 1 (omega arith), decimal_digit 7 (omega arith)) refl
 
-without_its_trace : report_text traces.Off one_step one_occurrence ≡ codes "report 1\nrun 0 initial 0 ready 1 next 0\nend steps\noccurrences 1\nclock 0\nplace Top/A 1`7\nready 1\nnext 0\ntotal 1\n"
-unfolding report_text report_lines run_lines whole_run opening_text end_text occurrences_text clock_text place_text ready_text next_text total_text
+without_its_trace : report_text traces.Off (from_the_start one_occurrence ∷ []) [] ≡ codes "report 1\nrun 0 initial 0 ready 1 next 0\nend steps\noccurrences 1\nclock 0\nplace Top/A 1`7\nready 1\nnext 0\ntotal 1\n"
+unfolding report_text report_texts run_lines whole_run opening_text end_text occurrences_text clock_text place_text ready_text next_text total_text
 without_its_trace = rw (decimal_digit 0 (omega arith), decimal_digit 1 (omega arith), decimal_digit 7 (omega arith)) refl
 
 -- ---- two places, and another number everywhere
@@ -103,14 +107,45 @@ stopped_run = record one_occurrence {
   values = record { name = codes "fired"; measured = counted 1 } ∷ record { name = codes "once"; measured = counted_to_stop 1 } ∷ [];
 }
 
-with_its_monitors : report_text traces.Off one_step stopped_run ≡ codes "report 1\nrun 0 initial 0 ready 1 next 0\nend stop once\noccurrences 1\nclock 0\nplace Top/A 1`7\nready 1\nnext 0\nmonitor count 1 fired\nmonitor stop_count 1 once\ntotal 1\n"
-unfolding report_text report_lines run_lines whole_run opening_text end_text occurrences_text clock_text place_text ready_text next_text monitor_text total_text
+with_its_monitors : report_text traces.Off (from_the_start stopped_run ∷ []) [] ≡ codes "report 1\nrun 0 initial 0 ready 1 next 0\nend stop once\noccurrences 1\nclock 0\nplace Top/A 1`7\nready 1\nnext 0\nmonitor count 1 fired\nmonitor stop_count 1 once\ntotal 1\n"
+unfolding report_text report_texts run_lines whole_run opening_text end_text occurrences_text clock_text place_text ready_text next_text monitor_text total_text
 with_its_monitors = rw (decimal_digit 0 (omega arith), decimal_digit 1 (omega arith), decimal_digit 7 (omega arith)) refl
 
 -- another run goes on from the marking where the one before it ended
 from_here : run_text traces.Off one_step 1 starts.Here stopped_run ≡ codes "run 1 here 0 ready 1 next 0\nend stop once\noccurrences 1\nclock 0\nplace Top/A 1`7\nready 1\nnext 0\nmonitor count 1 fired\nmonitor stop_count 1 once\n"
 unfolding run_text run_lines whole_run opening_text end_text occurrences_text clock_text place_text ready_text next_text monitor_text
 from_here = rw (decimal_digit 0 (omega arith), decimal_digit 1 (omega arith), decimal_digit 7 (omega arith)) refl
+
+-- ---- two runs, one after the other, and what two probes said: a byte that is no character is shown, and so are the first and the last that
+-- are characters, and those next to them
+
+abbrev from_its_end : ToldRun
+from_its_end = record {
+  start = starts.Here;
+  setup = record one_step { clock = 2; start = (seven ∷ token_at (int (pos 8)) 0 ∷ []) ∷ [] };
+  run = record {
+    opening = record { ready_count = 2; next = Some 3 };
+    journal = claim_made 0 0 ∷ claim_completed 0 0 ∷ clock_moved 5 ∷ claim_made 0 1 ∷ claim_completed 0 1 ∷ [];
+    occurrences = record { number = 0; time = 2; element = x_is_seven } ∷ record { number = 1; time = 5; element = record { transition = 0; binding = (0, int (pos 8)) ∷ [] } } ∷ [];
+    marking = (token_at (int (pos 9)) 0 ∷ token_at (int (pos 9)) 0 ∷ []) ∷ [];
+    clock = 5;
+    cause = dead;
+    closing = record { ready_count = 0; next = None };
+    values = record { name = codes "fired"; measured = counted 2 } ∷ [];
+  };
+}
+
+two_runs
+    : report_text traces.On (from_the_start one_occurrence ∷ from_its_end ∷ []) ((codes "a" ++ 0x07 ∷ codes "b") ∷ (0x1F ∷ 0x20 ∷ 0x7E ∷ 0x7F ∷ []) ∷ [])
+    ≡ codes "report 1\nrun 0 initial 0 ready 1 next 0\nocc 0 @0 Top/t {x=7}\nschedule c0 d0\nend steps\noccurrences 1\nclock 0\nplace Top/A 1`7\nready 1\nnext 0\nrun 1 here 2 ready 2 next 3\nocc 0 @2 Top/t {x=7}\nocc 1 @5 Top/t {x=8}\nschedule c0 d0 m5 c1 d1\nend dead\noccurrences 2\nclock 5\nplace Top/A 2`9\nready 0\nnext none\nmonitor count 2 fired\nprobe 0 a?b\nprobe 1 ? ~?\ntotal 3\n"
+unfolding report_text report_texts run_lines whole_run opening_text occurrence_text element_text binding_text schedule_text end_text occurrences_text clock_text place_text ready_text next_text monitor_text probe_text total_text
+two_runs =
+    rw (decimal_digit 0 (omega arith), decimal_digit 1 (omega arith), decimal_digit 2 (omega arith), decimal_digit 3 (omega arith), decimal_digit 5 (omega arith), decimal_digit 7 (omega arith), decimal_digit 8 (omega arith), decimal_digit 9 (omega arith)) refl
+
+-- a report without a run
+no_run : report_text traces.Off [] [] ≡ codes "report 1\ntotal 0\n"
+unfolding report_text report_texts total_text
+no_run = rw (decimal_digit 0 (omega arith)) refl
 
 -- ---- what the laws of texts ask of a net's names and integers holds of it, and of its monitors
 

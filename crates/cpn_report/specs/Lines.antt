@@ -3,7 +3,7 @@ use Rattle.std.specs.Prelude.{ℕ, if◌then◌else◌, List, [], ◌∷◌, ◌
 use Rattle.std.specs.List.{flat_map}
 use Rattle.std.specs.Fmt.{decimal}
 use Rattle.cpn_definitions.specs.Value.{PlainValue}
-use Rattle.cpn_definitions.specs.Colour.{PlainColour}
+use Rattle.cpn_definitions.specs.Colour.{PlainColour, is_printable}
 use Rattle.cpn_definitions.specs.Marking.{Tokens}
 use Rattle.cpn_definitions.specs.Net.{Coloured, PlainNet, variable_at, transition_at}
 use Rattle.cpn_definitions.specs.Outcome.{Fault, overflow, divide_by_zero, empty_list, no_case, not_in_colour, bad_coefficient, bad_delay, too_large}
@@ -19,11 +19,10 @@ use Rattle.cpn_report.specs.ValueText.{joined, value_text}
 use Rattle.cpn_report.specs.declared.starts.Start.{Start}
 use Rattle.cpn_report.specs.declared.starts.Start.TheVariants as starts
 
--- A line: the first one of each report; the opening of a run, with its number, what it starts from, its clock and its outlook; an
--- occurrence; the journal; the cause of the run's end, which may be one of its monitors; how many occurrences there were; the last clock;
--- a place with its tokens; how many elements are ready; the next time; what a monitor measured; how many occurrences there were in all runs.
+-- A line of a run: its opening, with its number, what it starts from, its clock and its outlook; an occurrence; the journal; the cause of
+-- the run's end, which may be one of its monitors; how many occurrences there were; the last clock; a place with its tokens; how many
+-- elements are ready; the next time; what a monitor measured.
 pub data Line : Type 0 where
-  report_line : Line
   run_line : ℕ → Start → ℕ → Outlook → Line
   occurrence_line : PlainOccurrence → Line
   schedule_line : List PlainEvent → Line
@@ -34,7 +33,6 @@ pub data Line : Type 0 where
   ready_line : ℕ → Line
   next_line : Option ℕ → Line
   monitor_line : PlainMonitorValue → Line
-  total_line : ℕ → Line
 
 -- ---- what lines tell
 
@@ -130,13 +128,8 @@ ready_text count = codes "ready " ++ decimal count
 unfoldable pub next_text : Option ℕ → List ℕ
 next_text time = codes "next " ++ time_text time
 
-unfoldable pub total_text : ℕ → List ℕ
-total_text count = codes "total " ++ decimal count
-
--- Text of a line, without its line feed. A line tells what it is by its first word, which no other kind has; `report 1` is the
--- first line of each report.
+-- Text of a line, without its line feed. A line tells what it is by its first word, which no other kind has.
 abbrev pub line_text : PlainNet → Line → List ℕ
-line_text n report_line = codes "report 1"
 line_text n (run_line number start clock outlook) = opening_text number start clock outlook
 line_text n (occurrence_line o) = occurrence_text n o
 line_text n (schedule_line journal) = schedule_text journal
@@ -147,7 +140,24 @@ line_text n (place_line place tokens) = place_text n place tokens
 line_text n (ready_line count) = ready_text count
 line_text n (next_line time) = next_text time
 line_text n (monitor_line value) = monitor_text value
-line_text n (total_line count) = total_text count
+
+-- ---- the lines of a report that are of no run, each with a first word of its own
+
+-- the first line
+abbrev pub first_text : List ℕ
+first_text = codes "report 1"
+
+-- a byte of a probe's text as it is shown: `?` for one that is outside 0x20 to 0x7E
+abbrev pub shown_byte : ℕ → ℕ
+shown_byte byte = if is_printable byte then byte else 0x3F
+
+-- the line of a probe: its number, and its text
+unfoldable pub probe_text : ℕ → List ℕ → List ℕ
+probe_text number text = codes "probe " ++ decimal number ++ codes " " ++ map shown_byte text
+
+-- the last line: how many occurrences there were in all runs
+unfoldable pub total_text : ℕ → List ℕ
+total_text count = codes "total " ++ decimal count
 
 -- ---- the text of lines
 

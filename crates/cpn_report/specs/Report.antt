@@ -1,13 +1,12 @@
--- The report of a run, as a list of lines. Source: own choice.
-use Rattle.std.specs.Prelude.{ℕ, ◌+◌, Bool, true, false, List, [], ◌∷◌, ◌++◌, length, map}
-use Rattle.std.specs.List.{filter}
+-- The report of runs, as a list of lines. Source: own choice.
+use Rattle.std.specs.Prelude.{ℕ, ◌+◌, Bool, true, false, List, [], ◌∷◌, ◌++◌, length, map, sum_by}
+use Rattle.std.specs.List.{filter, flat_map}
 use Rattle.cpn_definitions.specs.Marking.{Marking, tokens_at}
 use Rattle.cpn_definitions.specs.Net.{Coloured}
 use Rattle.cpn_runs.specs.State.{PlainSetup}
 use Rattle.cpn_runs.specs.Run.{PlainFinished}
-use Rattle.cpn_report.specs.Lines.{Line, report_line, run_line, occurrence_line, schedule_line, end_line, occurrences_line, clock_line, place_line, ready_line, next_line, monitor_line, total_line, lines_text}
+use Rattle.cpn_report.specs.Lines.{Line, run_line, occurrence_line, schedule_line, end_line, occurrences_line, clock_line, place_line, ready_line, next_line, monitor_line, line_text, first_text, probe_text, total_text, ended, lines_text}
 use Rattle.cpn_report.specs.declared.starts.Start.{Start}
-use Rattle.cpn_report.specs.declared.starts.Start.TheVariants as starts
 use Rattle.cpn_report.specs.declared.traces.Trace.{Trace}
 use Rattle.cpn_report.specs.declared.traces.Trace.TheVariants as traces
 
@@ -52,14 +51,40 @@ is_told trace line = true
 unfoldable pub run_lines : Trace → PlainSetup → ℕ → Start → PlainFinished → List Line
 run_lines trace setup number start run = filter (is_told trace) (whole_run setup number start run)
 
--- The lines of the report of one run of a setup, from the initial marking.
-unfoldable pub report_lines : Trace → PlainSetup → PlainFinished → List Line
-report_lines trace setup run = report_line ∷ run_lines trace setup 0 starts.Initial run ++ total_line (length run.occurrences) ∷ []
-
 -- the text of a run
 unfoldable pub run_text : Trace → PlainSetup → ℕ → Start → PlainFinished → List ℕ
 run_text trace setup number start run = lines_text setup.net (run_lines trace setup number start run)
 
--- Text: the report of one run of a setup.
-unfoldable pub report_text : Trace → PlainSetup → PlainFinished → List ℕ
-report_text trace setup run = lines_text setup.net (report_lines trace setup run)
+-- ---- a report, of several runs one after another and what probes said
+
+-- A run that is told: what it starts from, its setup, and what it shows.
+pub record ToldRun : Type 0 where
+  pub start : Start
+  pub setup : PlainSetup
+  pub run : PlainFinished
+
+-- the texts of the lines of the run of a number
+abbrev pub run_texts : Trace → ℕ → ToldRun → List (List ℕ)
+run_texts trace k told = map (line_text told.setup.net) (run_lines trace told.setup k told.start told.run)
+
+-- the texts of the lines of runs, in order, the first of which has the number k
+abbrev pub runs_texts : Trace → ℕ → List ToldRun → List (List ℕ)
+runs_texts trace k [] = []
+runs_texts trace k (told ∷ tolds) = run_texts trace k told ++ runs_texts trace (k + 1) tolds
+
+-- the texts of the lines of probes, in order, the first of which has the number k
+abbrev pub probes_texts : ℕ → List (List ℕ) → List (List ℕ)
+probes_texts k [] = []
+probes_texts k (text ∷ texts) = probe_text k text ∷ probes_texts (k + 1) texts
+
+-- how many occurrences runs had together
+abbrev pub occurrences_told : List ToldRun → ℕ
+occurrences_told tolds = sum_by (λ told. length told.run.occurrences) tolds
+
+-- The texts of the lines of a report: the first line; those of the runs, and of what probes said, each numbered from 0; and the total.
+unfoldable pub report_texts : Trace → List ToldRun → List (List ℕ) → List (List ℕ)
+report_texts trace tolds said = first_text ∷ runs_texts trace 0 tolds ++ probes_texts 0 said ++ total_text (occurrences_told tolds) ∷ []
+
+-- Text: a report of runs and of what probes said, each line ended by a line feed.
+unfoldable pub report_text : Trace → List ToldRun → List (List ℕ) → List ℕ
+report_text trace tolds said = flat_map ended (report_texts trace tolds said)

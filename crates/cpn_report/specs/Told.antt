@@ -1,6 +1,6 @@
 -- What the texts of a report tell apart: two of them are the same only where what they tell is. Source: own choice.
 use Rattle.std.specs.Prelude.{◌≡◌, ℕ, ◌==◌, ◌<◌, ◌^◌, ℤ, unsigned_abs, Bool, true, not, List, map, IfSome}
-use Rattle.std.specs.List.{AllByRecursion, list_all}
+use Rattle.std.specs.List.{AllByRecursion, list_all, flat_map}
 use Rattle.cpn_definitions.specs.Value.{PlainValue}
 use Rattle.cpn_definitions.specs.Colour.{PlainColour, admits}
 use Rattle.cpn_definitions.specs.DistinctNames.{is_path, HasDistinctNames, HasWellSpelledNames}
@@ -11,13 +11,12 @@ use Rattle.cpn_definitions.specs.Occurrence.{PlainElement}
 use Rattle.cpn_monitor.specs.MonitorValues.{PlainMeasured, counted, sized, valued, counted_to_stop, sized_to_stop, PlainMonitorValue}
 use Rattle.cpn_monitor.specs.Monitors.{PlainMonitor}
 use Rattle.cpn_runs.specs.Playable.{IsPlayable}
-use Rattle.cpn_runs.specs.Run.{PlainFinished, IsRun}
-use Rattle.cpn_runs.specs.State.{PlainSetup}
-use Rattle.cpn_runs.specs.WithoutSeats.{without_seats}
-use Rattle.cpn_report.specs.Lines.{Line, element_text, line_text, lines_text}
+use Rattle.cpn_runs.specs.Run.{IsRun}
+use Rattle.cpn_runs.specs.WithoutSeats.{Kind, without_seats}
+use Rattle.cpn_report.specs.Lines.{element_text, ended}
 use Rattle.cpn_report.specs.MonitorText.{monitor_text}
 use Rattle.cpn_report.specs.Printable.{IsPrintableNet, is_binding_element, IsPrintable}
-use Rattle.cpn_report.specs.Report.{report_lines, report_text}
+use Rattle.cpn_report.specs.Report.{ToldRun, report_texts, report_text}
 use Rattle.cpn_report.specs.ValueText.{value_text}
 use Rattle.cpn_report.specs.declared.traces.Trace.{Trace}
 use Rattle.cpn_report.specs.declared.traces.Trace.TheVariants as traces
@@ -90,33 +89,58 @@ AreSpelled monitors = list_all (λ monitor. is_path monitor.name) monitors ≡ t
 abbrev pub is_one_line : List ℕ → Bool
 is_one_line text = list_all (λ byte. not (byte == 0x0A)) text
 
--- whether the text of each of the lines has none
-abbrev pub are_lines : PlainNet → List Line → Bool
-are_lines n lines = list_all (λ line. is_one_line (line_text n line)) lines
+-- A told run whose lines have none but at their ends: it can be printed, and the names of its net and of its values are well spelled.
+pub record IsSpelledRun (told : ToldRun) : Type 0 where
+  pub spelled : HasWellSpelledNames told.setup.net
+  pub values_spelled : HaveSpelledNames told.run.values
+  pub printable : IsPrintable told.setup.net told.run
+
+abbrev pub AreSpelledRuns : List ToldRun → Type 0
+AreSpelledRuns tolds = AllByRecursion IsSpelledRun tolds
 
 -- No line of a report has a line feed but the one at its end.
 abbrev pub LinesEndOnce : Type 0
-LinesEndOnce =
-    (trace : Trace) (setup : PlainSetup) (run : PlainFinished) → HasWellSpelledNames setup.net → HaveSpelledNames run.values → IsPrintable setup.net run → are_lines setup.net (report_lines trace setup run) ≡ true
+LinesEndOnce = (trace : Trace) (tolds : List ToldRun) (said : List (List ℕ)) → AreSpelledRuns tolds → list_all is_one_line (report_texts trace tolds said) ≡ true
 
--- So two lists of lines that differ in their texts have different texts as a whole.
+-- So two lists of texts of lines that differ have different texts as a whole.
 abbrev pub LinesDiffer : Type 0
-LinesDiffer =
-    (n other_net : PlainNet) (lines others : List Line) → are_lines n lines ≡ true → are_lines other_net others ≡ true
-    → lines_text n lines ≡ lines_text other_net others → map (line_text n) lines ≡ map (line_text other_net) others
+LinesDiffer = (texts others : List (List ℕ)) → list_all is_one_line texts ≡ true → list_all is_one_line others ≡ true → flat_map ended texts ≡ flat_map ended others → texts ≡ others
 
--- Two runs whose journals differ in more than their seats have different reports, with the trace on.
+-- ---- runs
+
+-- A told run that was made: it is one of its setup, which is playable; it can be printed, and the names of its net and of its monitors are
+-- well spelled.
+pub record IsMadeRun (told : ToldRun) : Type 0 where
+  pub spelled : HasWellSpelledNames told.setup.net
+  pub monitors_spelled : AreSpelled told.setup.monitors
+  pub printable : IsPrintable told.setup.net told.run
+  pub playable : IsPlayable told.setup
+  pub is_run : IsRun told.setup told.run
+
+abbrev pub AreMadeRuns : List ToldRun → Type 0
+AreMadeRuns tolds = AllByRecursion IsMadeRun tolds
+
+-- the journals of runs, but for the seats
+abbrev pub journals_told : List ToldRun → List (List (Kind × ℕ))
+journals_told tolds = map (λ told. without_seats told.run.journal) tolds
+
+-- Two reports with the trace on that have the same text tell as many runs, and the same journals, but for the seats, whatever probes said.
 abbrev pub JournalsDiffer : Type 0
 JournalsDiffer =
-    (setup other_setup : PlainSetup) (run other : PlainFinished) → HasWellSpelledNames setup.net → HasWellSpelledNames other_setup.net
-    → AreSpelled setup.monitors → AreSpelled other_setup.monitors
-    → IsPrintable setup.net run → IsPrintable other_setup.net other → IsPlayable setup → IsPlayable other_setup → IsRun setup run → IsRun other_setup other
-    → report_text traces.On setup run ≡ report_text traces.On other_setup other → without_seats run.journal ≡ without_seats other.journal
+    (tolds others : List ToldRun) (said other_said : List (List ℕ)) → AreMadeRuns tolds → AreMadeRuns others
+    → report_text traces.On tolds said ≡ report_text traces.On others other_said → journals_told tolds ≡ journals_told others
 
--- Two runs whose monitors' values differ in what their lines tell have different reports, with the trace on or off.
+-- what the lines of the monitors of runs tell, run by run
+abbrev pub values_told : List ToldRun → List (List PlainMonitorValue)
+values_told tolds = map (λ told. told_values told.run.values) tolds
+
+-- the numbers that the monitors of runs measured have 128 bits
+abbrev pub AreShortRuns : List ToldRun → Type 0
+AreShortRuns tolds = AllByRecursion (λ told. HaveShortNumbers told.run.values) tolds
+
+-- Two reports that have the same text, with the trace on or off, tell as many runs, and of each the same values of its monitors.
 abbrev pub ValuesOfRunsDiffer : Type 0
 ValuesOfRunsDiffer =
-    (trace other_trace : Trace) (setup other_setup : PlainSetup) (run other : PlainFinished) → HasWellSpelledNames setup.net → HasWellSpelledNames other_setup.net
-    → HaveSpelledNames run.values → HaveSpelledNames other.values → IsPrintable setup.net run → IsPrintable other_setup.net other
-    → HaveShortNumbers run.values → HaveShortNumbers other.values
-    → report_text trace setup run ≡ report_text other_trace other_setup other → told_values run.values ≡ told_values other.values
+    (trace other_trace : Trace) (tolds others : List ToldRun) (said other_said : List (List ℕ)) → AreSpelledRuns tolds → AreSpelledRuns others
+    → AreShortRuns tolds → AreShortRuns others
+    → report_text trace tolds said ≡ report_text other_trace others other_said → values_told tolds ≡ values_told others

@@ -1,4 +1,4 @@
-//! The report of a run, as text: one line after another, from the run's opening to its total.
+//! The report of runs, as text: one line after another, from the opening of the first run to the total.
 //!
 //! The crate only prints. It decides nothing about a run, reads nothing from outside, and writes to
 //! nothing but the text that it returns.
@@ -12,6 +12,7 @@ mod lines;
 mod monitors;
 mod names;
 mod places;
+mod probes;
 mod reports;
 mod runs;
 mod starts;
@@ -25,7 +26,7 @@ pub use lines::{push_time, schedule_text};
 pub use monitors::monitor_text;
 pub use names::has_names;
 pub use places::{place_text, push_place_lines};
-pub use reports::{report, run_text};
+pub use reports::{Report, run_text};
 pub use runs::printable_runs;
 pub use starts::Start;
 pub use told::told_texts;

@@ -1,8 +1,8 @@
 // The lines of a report that hold numbers and fixed words alone.
-ghost use Rattle.std.specs.Prelude.{◌≡◌, ◌++◌, codes, map, IfOk, OnOk};
+ghost use Rattle.std.specs.Prelude.{◌≡◌, ◌++◌, map, IfOk, OnOk};
 ghost use Rattle.std.specs.List.{flat_map};
 ghost use Rattle.std.specs.String.{string_bytes};
-ghost use Rattle.cpn_report.specs.Lines.{ended, start_text, opening_text, time_text, event_text, schedule_text as text_of_schedule, occurrences_text, clock_text, ready_text, next_text, total_text};
+ghost use Rattle.cpn_report.specs.Lines.{first_text, ended, start_text, opening_text, time_text, event_text, schedule_text as text_of_schedule, occurrences_text, clock_text, ready_text, next_text, total_text};
 ghost use Rattle.cpn_runs.specs.Views.{event_view};
 ghost use Rattle.cpn_runs.specs.FinishedViews.{outlook_view};
 
@@ -14,7 +14,7 @@ use std::fmt::Write;
 
 /// Appends the first line of each report.
 pub(crate) fn push_report_line(out: &mut String) -> Result<(), Memory>
-    ensures written { OnOk result (string_bytes out.new ≡ string_bytes out.old ++ ended (codes "report 1")) }
+    ensures written { OnOk result (string_bytes out.new ≡ string_bytes out.old ++ ended first_text) }
 {
     out.push_str("report 1\n")?;
     Ok(())

@@ -32,11 +32,11 @@ run_has_grown setup run playable is =
     subst (λ (k : ℕ). HasGrown setup.net.places setup.start k run.marking) many ((every_state_has_bounds setup run.journal is.state playable is.reached).settled run.marking is.marking_is)
 
 -- a run has no more occurrences than it may make claims, and ends at a clock that it may reach
-record EndsWithinLimits (setup : PlainSetup) (run : PlainFinished) : Type 0 where
-  few_occurrences : length run.occurrences ≤ setup.limits.steps
-  in_time : run.clock ≤ setup.limits.until
+pub record EndsWithinLimits (setup : PlainSetup) (run : PlainFinished) : Type 0 where
+  pub few_occurrences : length run.occurrences ≤ setup.limits.steps
+  pub in_time : run.clock ≤ setup.limits.until
 
-run_ends_within_limits : (setup : PlainSetup) (run : PlainFinished) → IsPlayable setup → IsRun setup run → EndsWithinLimits setup run
+pub run_ends_within_limits : (setup : PlainSetup) (run : PlainFinished) → IsPlayable setup → IsRun setup run → EndsWithinLimits setup run
 run_ends_within_limits setup run playable is =
     let bounds : HasBounds setup is.state = every_state_has_bounds setup run.journal is.state playable is.reached in
     let many = as_many_occurrences setup run is in

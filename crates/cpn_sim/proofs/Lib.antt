@@ -2,9 +2,12 @@ mod Readings
 mod RefusalCauses
 mod RefusedDocuments
 mod OneReport
+mod SessionRuns
+mod NextRuns
 mod StartedBooks
 mod WrittenReports
 mod OptionRanges
 mod AcceptedRuns
+mod AcceptedSessions
 mod OptionRows
 mod Rows

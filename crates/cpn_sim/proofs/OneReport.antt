@@ -1,16 +1,20 @@
--- A document has one report under the words, with one status.
-use Rattle.std.proofs.Common.{◌≡◌, ℕ, ◌≤◌, List, length, Some, None, Option, IfSome, sym, ◌∙◌, ap, subst, arith}
+-- A document has one report under the words, with one status, where probes say the same.
+use Rattle.std.proofs.Common.{◌≡◌, ℕ, List, sym, ◌∙◌, ap, subst}
+use Rattle.std.proofs.Math.Path.{ap₂}
 use Rattle.std.proofs.lemmas.Option.{same_Some}
-use Rattle.cpn_runs.proofs.OneRun.{one_run}
+use Rattle.cpn_edit.specs.Sessions.{phases_run}
+use Rattle.cpn_edit.specs.Standing.{IsValid}
+use Rattle.cpn_edit.proofs.OneSession.{one_session}
 use Rattle.cpn_model.specs.Reading.{PlainModel, ModelRefusal, read, refused}
 use Rattle.cpn_model.specs.Models.{IsModel}
 use Rattle.cpn_report.specs.Report.{report_text}
-use Rattle.cpn_sim.specs.Limits.{most_bytes}
-use Rattle.cpn_sim.specs.Options.{PlainOptions, options_from}
-use Rattle.cpn_runs.specs.Run.{PlainFinished}
+use Rattle.cpn_runs.specs.Phases.{PlainPhase}
+use Rattle.cpn_sim.specs.Options.{PlainOptions}
 use Rattle.cpn_sim.specs.Causes.{HaveOneReading}
-use Rattle.cpn_sim.specs.Reported.{IsReport, IsReportUnder, IsReportOf, setup_from, status_after}
+use Rattle.cpn_sim.specs.Reported.{Sayings, say, IsReport, IsReportUnder, IsReportOf, IsTheReport, session_from, told_runs, status_after_all}
 use Rattle.cpn_sim.specs.declared.statuses.Status.{Status}
+use Rattle.cpn_sim.proofs.AcceptedSessions.{accepted_session}
+use Rattle.cpn_sim.proofs.OptionRanges.{options_in_range}
 
 -- what is read is not refused
 pub read_not_refused : (bytes : List ℕ) → HaveOneReading bytes → (model : PlainModel) (r : ModelRefusal) → IsModel bytes (read model) → IsModel bytes (refused r) → ⊥
@@ -20,39 +24,33 @@ the_one_model : (bytes : List ℕ) → HaveOneReading bytes → (l l' : PlainMod
 the_one_model bytes once l l' a b = let e : read l ≡ read l' = once (read l) (read l') a b in cc
 
 -- Two reports with their statuses are the same.
-pub record IsSameReport (status status' : Status) (report other : List ℕ) : Type 0 where
-  pub reports : report ≡ other
+record IsSameReport (status status' : Status) (report other : List ℕ) : Type 0 where
   pub statuses : status ≡ status'
+  pub reports : report ≡ other
 
-of_one_net : (model : PlainModel) (options : PlainOptions) (s s' : Status) (report other : List ℕ) → options.workers ≡ 1 → IsReportOf model options s report → IsReportOf model options s' other → IsSameReport s s' report other
-of_one_net model options s s' report other one a b =
-    let in_time : 0 ≤ options.until = omega arith in
-    let same = one_run (setup_from model options) a.run b.run one in_time a.is_run a.ends_otherwise b.is_run b.ends_otherwise in
-    record {
-      reports = a.text_is ∙ ap (report_text options.trace (setup_from model options)) same ∙ sym b.text_is;
-      statuses = a.status_is ∙ ap (λ (run : PlainFinished). status_after run.cause) same ∙ sym b.status_is;
-    }
+module _ (Says : Sayings) (s s' : Status) (report other : List ℕ) where
+  -- a model has one report under the options, where the probes say what they said
+  of_one_model : (model : PlainModel) (options : PlainOptions) → IsValid (session_from model options) → options.workers ≡ 1 → (a : IsReportOf model options Says s report) → IsReportOf model options (say a.said) s' other → IsSameReport s s' report other
+  of_one_model model options valid one a b =
+      let same : a.runs ≡ b.runs = one_session (session_from model options) valid one a.runs b.runs a.are_runs b.are_runs in
+      record {
+        statuses = a.status_is ∙ ap status_after_all same ∙ sym b.status_is;
+        reports = a.text_is ∙ ap₂ (λ (runs : List PlainPhase) (said : List (List ℕ)). report_text options.trace (told_runs (phases_run model.phases) runs) said) same (sym b.says) ∙ sym b.text_is;
+      }
 
-under_one : (bytes : List ℕ) → HaveOneReading bytes → (options : PlainOptions) (s s' : Status) (report other : List ℕ) → options.workers ≡ 1 → IsReportUnder bytes options s report → IsReportUnder bytes options s' other → IsSameReport s s' report other
-under_one bytes once options s s' report other one a b =
-    let P : PlainModel → Type 0 = λ l. IsReportOf l options s report in
-    of_one_net b.model options s s' report other one (subst P (the_one_model bytes once a.model b.model a.reads b.reads) a.is_report) b.is_report
+  -- and so have bytes under words
+  one_report : (bytes : List ℕ) → HaveOneReading bytes → (words : List (List ℕ)) (a : IsReport bytes words Says s report) → IsReport bytes words (say a.is_report.is_report.said) s' other → IsSameReport s s' report other
+  one_report bytes once words a b =
+      let said = a.is_report.is_report.said in
+      let options : b.options ≡ a.options = same_Some b.options a.options (sym b.words_are ∙ a.words_are) in
+      let under : IsReportUnder bytes a.options (say said) s' other = subst (λ (o : PlainOptions). IsReportUnder bytes o (say said) s' other) options b.is_report in
+      let model : under.model ≡ a.is_report.model = the_one_model bytes once under.model a.is_report.model under.reads a.is_report.reads in
+      of_one_model a.is_report.model a.options (accepted_session bytes words a.is_report.model a.options a.is_report.reads a.words_are) (options_in_range words a.options a.words_are).one_worker a.is_report.is_report
+      (subst (λ (m : PlainModel). IsReportOf m a.options (say said) s' other) model under.is_report)
 
--- the words ask for one worker
-abbrev AskForOne : List (List ℕ) → Type 0
-AskForOne words = (options : PlainOptions) → options_from words ≡ Some options → options.workers ≡ 1
-
--- a document has one report under the words
-pub one_report : (bytes : List ℕ) → HaveOneReading bytes → (words : List (List ℕ)) (s s' : Status) (report other : List ℕ) → AskForOne words → IsReport bytes words s report → IsReport bytes words s' other → IsSameReport s s' report other
-one_report bytes once words s s' report other one a b =
-    let P : PlainOptions → Type 0 = λ o. IsReportUnder bytes o s report in
-    under_one bytes once b.options s s' report other (one b.options b.words_are) (subst P (same_Some a.options b.options (sym a.words_are ∙ b.words_are)) a.is_report) b.is_report
-
--- what holds of a report holds of every report of the same document and words, and each has its status
-pub of_every_report : (words : List (List ℕ)) (left : Option (List ℕ)) (status : Status) (report : List ℕ) (P : List ℕ → Type 0) → AskForOne words → IfSome left HaveOneReading
-    → IfSome left (λ bytes. (length bytes ≤ most_bytes) × IsReport bytes words status report) → P report
-    → IfSome left (λ bytes. (other_status : Status) → (other : List ℕ) → IsReport bytes words other_status other → (status ≡ other_status) × P other)
-of_every_report words None status report P one once reported holds = tt
-of_every_report words (Some bytes) status report P one once reported holds = λ other_status other is.
-    let same = one_report bytes once words status other_status report other one reported.1 is in
-    (same.statuses, subst P same.reports holds)
+-- The law: a report of a document that is read once is the only one.
+pub the_report : (bytes : List ℕ) → HaveOneReading bytes → (words : List (List ℕ)) (Says : Sayings) (status : Status) (report : List ℕ) → IsReport bytes words Says status report → IsTheReport bytes words Says status report
+the_report bytes once words Says status report is = record {
+  is_report = is;
+  only = λ other_status other other_is. let same = one_report Says status other_status report other bytes once words is other_is in (same.statuses, same.reports);
+}

@@ -3,9 +3,11 @@ use Rattle.std.proofs.Common.{◌≡◌, Bool, true, false, ℕ, ◌<◌, ◌≤
 use Rattle.std.proofs.lemmas.Option.{same_Some}
 use Rattle.std.specs.Option.{MatchOption}
 use Rattle.std.specs.Io.KnownBytes.{Appends}
+use Rattle.cpn_edit_texts.specs.Reading.{unknown_name, bad_text, faulty, of_monitors}
 use Rattle.cpn_module_nets.specs.Reading.{of_modules, inscription}
+use Rattle.cpn_monitor_texts.specs.Reading as monitors
 use Rattle.cpn_file.specs.Reading.{of_form, of_net, of_flat}
-use Rattle.cpn_model.specs.Reading.{PlainModel, ModelRefusal, of_document, unknown_name, Reading, read, refused}
+use Rattle.cpn_model.specs.Reading.{PlainModel, ModelRefusal, of_document, of_edits, Reading, read, refused}
 use Rattle.cpn_model.specs.Models.{IsModel}
 use Rattle.cpn_model.specs.Lines.{model_line}
 use Rattle.cpn_io.specs.Outside.{Rose}
@@ -77,7 +79,11 @@ of_its_status (of_document (of_form reason)) = refl
 of_its_status (of_document (of_net (inscription place reason))) = refl
 of_its_status (of_document (of_net (of_modules reason))) = refl
 of_its_status (of_document (of_flat reason)) = refl
-of_its_status (unknown_name monitor) = refl
+of_its_status (of_edits (of_monitors (monitors.unknown_name i))) = refl
+of_its_status (of_edits (of_monitors (monitors.bad_text i reason))) = refl
+of_its_status (of_edits (unknown_name place)) = refl
+of_its_status (of_edits (bad_text place reason)) = refl
+of_its_status (of_edits (faulty place fault)) = refl
 
 -- a status that is no document's is not that of one
 no_document : {A : Type 0} (r : ModelRefusal) (status : Status) → is_of_document status ≡ false → status_of_document r ≡ status → A

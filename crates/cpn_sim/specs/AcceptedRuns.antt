@@ -1,25 +1,35 @@
--- The laws of what is accepted: a run may start from it, and a report with its trace tells the journal of its run. Source: own choice.
-use Rattle.std.specs.Prelude.{◌≡◌, ℕ, List, Some}
+-- The laws of what is accepted: its runs start from where runs may start, and a report with its trace tells their journals. Source: own choice.
+use Rattle.std.specs.Prelude.{◌≡◌, ℕ, List, map, Some}
+use Rattle.std.specs.List.{AllByRecursion}
+use Rattle.cpn_edit.specs.Sessions.{AreRuns}
+use Rattle.cpn_runs.specs.Phases.{PlainPhase}
 use Rattle.cpn_runs.specs.Playable.{IsPlayable}
-use Rattle.cpn_runs.specs.WithoutSeats.{without_seats}
+use Rattle.cpn_runs.specs.WithoutSeats.{Kind, without_seats}
 use Rattle.cpn_model.specs.Reading.{PlainModel, read}
 use Rattle.cpn_model.specs.Models.{IsModel}
 use Rattle.cpn_report.specs.declared.traces.Trace.TheVariants as traces
 use Rattle.cpn_sim.specs.Options.{PlainOptions, options_from}
-use Rattle.cpn_sim.specs.Reported.{setup_from, IsReport}
+use Rattle.cpn_sim.specs.Reported.{Sayings, say, session_from, IsReport}
 use Rattle.cpn_sim.specs.declared.statuses.Status.{Status}
 
--- From whatever model bytes are, a run may start under whatever options words give.
+-- From each setup of the runs of whatever model bytes are, under whatever options words give, a run may start.
 abbrev pub AcceptedIsPlayable : Type 0
-AcceptedIsPlayable = (bytes : List ℕ) (words : List (List ℕ)) (model : PlainModel) (options : PlainOptions) → IsModel bytes (read model) → options_from words ≡ Some options → IsPlayable (setup_from model options)
+AcceptedIsPlayable =
+    (bytes : List ℕ) (words : List (List ℕ)) (model : PlainModel) (options : PlainOptions) (runs : List PlainPhase) → IsModel bytes (read model) → options_from words ≡ Some options
+    → AreRuns (session_from model options) runs → AllByRecursion (λ (run : PlainPhase). IsPlayable run.setup) runs
 
 -- the options of a report ask for its trace
-abbrev pub HasTrace : {bytes : List ℕ} {words : List (List ℕ)} {status : Status} {text : List ℕ} → IsReport bytes words status text → Type 0
+abbrev pub HasTrace : {bytes : List ℕ} {words : List (List ℕ)} {Says : Sayings} {status : Status} {text : List ℕ} → IsReport bytes words Says status text → Type 0
 HasTrace report = report.options.trace ≡ traces.On
 
--- Two reports with a trace that have the same text, of whatever documents and words, tell the same journal, but for the seats.
+-- the journals of its runs, but for the seats
+abbrev pub journals_of : {bytes : List ℕ} {words : List (List ℕ)} {Says : Sayings} {status : Status} {text : List ℕ} → IsReport bytes words Says status text → List (List (Kind × ℕ))
+journals_of report = map (λ (run : PlainPhase). without_seats run.run.journal) report.is_report.is_report.runs
+
+-- Two reports with a trace that have the same text, of whatever documents and words and whatever probes said, tell as many runs with the same
+-- journals, but for the seats.
 abbrev pub ReportsTellJournals : Type 0
 ReportsTellJournals =
-    (bytes other_bytes : List ℕ) (words other_words : List (List ℕ)) (status other_status : Status) (text : List ℕ)
-    (report : IsReport bytes words status text) (other : IsReport other_bytes other_words other_status text)
-    → HasTrace report → HasTrace other → without_seats report.is_report.is_report.run.journal ≡ without_seats other.is_report.is_report.run.journal
+    (bytes other_bytes : List ℕ) (words other_words : List (List ℕ)) (said other_said : List (List ℕ)) (status other_status : Status) (text : List ℕ)
+    (report : IsReport bytes words (say said) status text) (other : IsReport other_bytes other_words (say other_said) other_status text)
+    → HasTrace report → HasTrace other → journals_of report ≡ journals_of other

@@ -1,16 +1,19 @@
 -- Why there is no report, and the line and the status that say so. The causes are tried in their order: the words, the
 -- reading of the source, its length, the document. Source: own choice.
 use Rattle.std.specs.Prelude.{◌≡◌, ℕ, ◌<◌, ◌≤◌, ◌⊎◌, List, length, codes, Option, Some, None, IfSome}
+use Rattle.cpn_edit_texts.specs.Reading.{EditRefusal, unknown_name, bad_text, faulty, of_monitors}
 use Rattle.cpn_module_nets.specs.Reading.{NetRefusal, of_modules, inscription}
+use Rattle.cpn_monitor_texts.specs.Reading as monitors
+use Rattle.cpn_monitor_texts.specs.Reading.{MonitorRefusal}
 use Rattle.cpn_file.specs.Reading.{Refusal, of_form, of_net, of_flat}
 use Rattle.cpn_model.specs.Lines.{model_line}
 use Rattle.cpn_model.specs.Models.{IsModel}
-use Rattle.cpn_model.specs.Reading.{PlainModel, ModelRefusal, of_document, unknown_name, Reading, refused}
+use Rattle.cpn_model.specs.Reading.{PlainModel, ModelRefusal, of_document, of_edits, Reading, refused}
 use Rattle.cpn_io.specs.Outside.{Rose, AppendsProperPrefix}
 use Rattle.std.specs.Io.KnownBytes.{Appends}
 use Rattle.cpn_sim.specs.Limits.{most_bytes}
 use Rattle.cpn_sim.specs.Options.{PlainOptions, options_from}
-use Rattle.cpn_sim.specs.Reported.{IsReported, IsReport}
+use Rattle.cpn_sim.specs.Reported.{Sayings, IsReported, IsReport}
 use Rattle.cpn_sim.specs.declared.statuses.Status.{Status}
 use Rattle.cpn_sim.specs.declared.statuses.Status.TheVariants as statuses
 
@@ -53,8 +56,8 @@ error_line read_fault = codes "error read\n"
 error_line too_long = codes "error long\n"
 error_line (bad_document refusal) = model_line refusal
 
--- The status of a refusal of the document: for its form, of a text or the variables of a transition, of its modules, its flat net or the
--- names in its monitors.
+-- The status of a refusal of the document: for its form; of a text or the variables of a transition, also for the fault of an edited initial
+-- marking; of its modules, its flat net, or the names in its monitors and edits.
 abbrev pub status_of_net : NetRefusal → Status
 status_of_net (inscription place reason) = statuses.BadInscription
 status_of_net (of_modules reason) = statuses.BadNet
@@ -64,9 +67,19 @@ status_of_loading (of_form reason) = statuses.BadDocument
 status_of_loading (of_net reason) = status_of_net reason
 status_of_loading (of_flat reason) = statuses.BadNet
 
+abbrev pub status_of_monitors : MonitorRefusal → Status
+status_of_monitors (monitors.unknown_name i) = statuses.BadNet
+status_of_monitors (monitors.bad_text i reason) = statuses.BadInscription
+
+abbrev pub status_of_edits : EditRefusal → Status
+status_of_edits (of_monitors reason) = status_of_monitors reason
+status_of_edits (unknown_name place) = statuses.BadNet
+status_of_edits (bad_text place reason) = statuses.BadInscription
+status_of_edits (faulty place fault) = statuses.BadInscription
+
 abbrev pub status_of_document : ModelRefusal → Status
 status_of_document (of_document reason) = status_of_loading reason
-status_of_document (unknown_name monitor) = statuses.BadNet
+status_of_document (of_edits reason) = status_of_edits reason
 
 -- the status of a refusal
 abbrev pub status_of : PlainRefusal → Status
@@ -75,11 +88,11 @@ status_of read_fault = statuses.ReadFault
 status_of too_long = statuses.TooLong
 status_of (bad_document refusal) = status_of_document refusal
 
--- The text that is to be written: the report of a run of the document, or the line of a refusal that has its
+-- The text that is to be written: the report of the runs of the document, or the line of a refusal that has its
 -- cause.
-abbrev pub IsToBeWritten : List (List ℕ) → Option (List ℕ) → ℕ → ℕ → List ℕ → Type 0
-IsToBeWritten words left before now text =
-    (GiveOptions words × IfSome left (λ bytes. (length bytes ≤ most_bytes) × ((status : Status) × IsReport bytes words status text)))
+abbrev pub IsToBeWritten : List (List ℕ) → Sayings → Option (List ℕ) → ℕ → ℕ → List ℕ → Type 0
+IsToBeWritten words Says left before now text =
+    (GiveOptions words × IfSome left (λ bytes. (length bytes ≤ most_bytes) × ((status : Status) × IsReport bytes words Says status text)))
     ⊎ ((refusal : PlainRefusal) × HasCause refusal words left before now × (text ≡ error_line refusal))
 
 -- The status is the wanted one, but for want of memory and for faults of the source and of the sink.

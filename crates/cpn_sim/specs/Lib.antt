@@ -4,7 +4,10 @@ pub mod Words
 pub mod OptionsView
 pub mod Given
 pub mod Reported
+pub mod Telling
 pub mod AcceptedRuns
 pub mod Causes
 pub mod RefusalViews
 pub mod Statuses
+pub mod Probing
+pub mod ProbeViews

@@ -12,8 +12,8 @@ use Rattle.clap.specs.declared.builder.value_parser.ValueParser.TheVariants as v
 use Rattle.cpn_report.specs.declared.traces.Trace.{Trace}
 use Rattle.cpn_report.specs.declared.traces.Trace.TheVariants as traces
 
--- The options: the seed of the draws, how many workers make the run, how many claims it may make, the last
--- time that it may reach, and whether its trace is told.
+-- The options: the seed of the draws, how many workers make each run, how many claims the runs may make together, the last
+-- time that each may reach, and whether their traces are told.
 pub record PlainOptions : Type 0 where
   pub seed : ℕ
   pub workers : ℕ

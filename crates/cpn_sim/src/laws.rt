@@ -3,8 +3,9 @@ ghost use Rattle.cpn_sim.specs.AcceptedRuns.{AcceptedIsPlayable, ReportsTellJour
 
 use cpn_report::{printable_runs, told_texts};
 
-/// The laws of what is accepted: a run may start from whatever bytes are read as, under whatever options words give; and two reports with
-/// a trace that have the same text tell the same journal, but for the seats. A call does nothing: it is there for what it ensures.
+/// The laws of what is accepted: from each setup of the runs of whatever bytes are read as, under whatever options words give, a run may start;
+/// and two reports with a trace that have the same text tell as many runs with the same journals, but for the seats. A call does nothing: it is
+/// there for what it ensures.
 pub fn accepted_runs()
     ensures playable { AcceptedIsPlayable }
     ensures journals { ReportsTellJournals }

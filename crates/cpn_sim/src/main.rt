@@ -1,20 +1,31 @@
 //! The program: words and a source in, a report or one error line out.
 //!
-//! `simulate` reads its source to the end, runs the net, and writes nothing before the whole report, or the
-//! one error line, stands in memory. What the report says is proved to be a legal run of the document; the
+//! `simulate` reads its source to the end, runs the phases of the net, tells its probes, and writes nothing before the whole report, or the
+//! one error line, stands in memory. What the report says is proved to be legal runs of the document; the
 //! crate decides no rule of nets itself.
 #![tactic(auto)]
 
 mod answers;
+#[cfg(test)]
+mod dropped_probes;
+#[cfg(test)]
+mod edited_sessions;
 mod laws;
+mod moments;
 mod no_options;
 mod options;
+mod phases;
 mod refusals;
 mod simulation;
 mod statuses;
+mod streaks;
 mod words;
 
+use crate::moments::Moments;
+use crate::streaks::Streak;
+use cpn_core::Memory;
 use cpn_io::{Stdin, Stdout};
+use cpn_probe::Probe;
 pub use laws::accepted_runs;
 pub use no_options::NoOptions;
 pub use options::Options;
@@ -26,25 +37,31 @@ use std::{env, io};
 pub use words::options_from;
 
 fn main(rt: HostRuntime) -> ExitCode {
-    exit_code(run(&rt))
+    let status = run(&rt).unwrap_or(Status::Memory);
+    exit_code(status)
 }
 
-/// Simulates standard input under the words of the command line, to standard output.
-fn run(rt: &(impl Env + AllocGlobal + Input + Print)) -> Status {
+/// Simulates standard input under the words of the command line, with the probes of the program, to standard output.
+fn run(rt: &(impl Env + AllocGlobal + Input + Print)) -> Result<Status, Memory> {
     let words = match command_words(rt) {
         Ok(words) => words,
-        Err(error) if error.kind() == io::ErrorKind::OutOfMemory => return Status::Memory,
-        Err(_) => return refuse_words(&mut Stdout::new(rt)),
+        Err(error) if error.kind() == io::ErrorKind::OutOfMemory => return Err(Memory),
+        Err(_) => return Ok(refuse_words(&mut Stdout::new(rt))),
     };
-    simulate(
-        rt.alloc(),
+    let alloc = rt.alloc();
+    let mut probes: Vec<Box<dyn Probe>> = Vec::with_capacity(alloc, 2)?;
+    probes.push(Box::new(alloc, Moments::new(alloc))?)?;
+    probes.push(Box::new(alloc, Streak::new(alloc))?)?;
+    Ok(simulate(
+        alloc,
         words.as_slice(),
         &mut Stdin::new(rt),
         &mut Stdout::new(rt),
-    )
+        probes,
+    ))
 }
 
-/// The words behind the program's name.
+/// The words after the program's name.
 fn command_words(rt: &(impl Env + AllocGlobal)) -> io::Result<Vec<String>> {
     Ok(env::args(rt)?.skip(1).collect(rt.alloc())?)
 }

@@ -11,13 +11,13 @@ use cpn_report::Trace;
 pub struct Options {
     /// The seed of the draws.
     pub seed: u64,
-    /// How many workers make the run: 1.
+    /// How many workers make each run: 1.
     pub workers: u64,
-    /// How many claims the run may make: 1 to 1,000,000.
+    /// How many claims the runs may make together: 1 to 1,000,000.
     pub steps: u64,
-    /// The last time that the run may reach: 0 to 2^62.
+    /// The last time that each run may reach: 0 to 2^62.
     pub until: u64,
-    /// Whether the report has the trace of the run.
+    /// Whether the report has the traces of the runs.
     pub trace: Trace,
     ghost one_worker: { workers ≡ 1 },
     ghost few_steps: { steps ≤ most_steps },

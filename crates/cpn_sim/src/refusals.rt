@@ -1,15 +1,19 @@
 //! Why there is no report, and the line that says so.
 
 ghost use Rattle.std.specs.Prelude.{◌≡◌, None, IfSome, IfOk, OnOk, option_map, string_bytes};
+ghost use Rattle.cpn_edit_texts.specs.Answers.{edit_refusal_of};
 ghost use Rattle.cpn_file.specs.Answers.{load_refusal_of};
 ghost use Rattle.cpn_model.specs.Answers.{model_refusal_of};
-ghost use Rattle.cpn_sim.specs.Causes.{bad_document, error_line, status_of, status_of_document, status_of_loading};
+ghost use Rattle.cpn_monitor_texts.specs.Answers.{monitor_refusal_of};
+ghost use Rattle.cpn_sim.specs.Causes.{bad_document, error_line, status_of, status_of_document, status_of_edits, status_of_loading, status_of_monitors};
 ghost use Rattle.cpn_sim.specs.RefusalViews.{refusal_view};
 
 use crate::statuses::Status;
 use cpn_core::Memory;
+use cpn_edit_texts::EditError;
 use cpn_file::LoadError;
 use cpn_model::ModelError;
+use cpn_monitor_texts::MonitorError;
 use std::alloc::Global;
 
 /// Why there is no report.
@@ -75,8 +79,32 @@ fn status_of_document(error: &ModelError) -> Status
     ensures status { IfSome (model_refusal_of error.now) (λ refusal. result ≡ status_of_document refusal) }
 {
     match error {
+        ModelError::Memory => Status::Memory,
         ModelError::Document(error) => status_of_loading(error),
-        ModelError::UnknownName(_) => Status::BadNet,
+        ModelError::Edit(error) => status_of_edits(error),
+    }
+}
+
+/// The status of a document one of whose monitors or edits is refused.
+fn status_of_edits(error: &EditError) -> Status
+    ensures status { IfSome (edit_refusal_of error.now) (λ refusal. result ≡ status_of_edits refusal) }
+{
+    match error {
+        EditError::Memory => Status::Memory,
+        EditError::UnknownName(_) => Status::BadNet,
+        EditError::Bad(_, _) => Status::BadInscription,
+        EditError::Monitor(error) => status_of_monitors(error),
+    }
+}
+
+/// The status of a document one of whose monitors is refused.
+fn status_of_monitors(error: &MonitorError) -> Status
+    ensures status { IfSome (monitor_refusal_of error.now) (λ refusal. result ≡ status_of_monitors refusal) }
+{
+    match error {
+        MonitorError::Memory => Status::Memory,
+        MonitorError::UnknownName(_) => Status::BadNet,
+        MonitorError::Bad(_, _) => Status::BadInscription,
     }
 }
 

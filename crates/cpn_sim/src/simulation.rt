@@ -8,7 +8,9 @@ ghost use Rattle.cpn_model.specs.Lines.{model_line};
 ghost use Rattle.cpn_io.specs.Outside.{Rose, AppendsProperPrefix};
 ghost use Rattle.cpn_sim.specs.Limits.{most_bytes};
 ghost use Rattle.cpn_sim.specs.Options.{PlainOptions, options_from};
-ghost use Rattle.cpn_sim.specs.Reported.{IsReported, IsReport};
+ghost use Rattle.cpn_probe.specs.Boxed.{Boxed};
+ghost use Rattle.cpn_probe.specs.Reported.{HaveReported};
+ghost use Rattle.cpn_sim.specs.Reported.{IsReported, IsTheReport};
 ghost use Rattle.cpn_sim.specs.Causes.{bad_words, read_fault, too_long, GiveOptions, status_of_document, error_line, IsToBeWritten, IsOrExcused, IsReportedOrExcused, IsRefused};
 ghost use Rattle.cpn_sim.specs.RefusalViews.{refusal_view};
 
@@ -17,33 +19,36 @@ use crate::refusals::{Refusal, WORDS_LINE, line_of, status_of};
 use crate::statuses::Status;
 use cpn_core::Memory;
 use cpn_io::{Sink, Source, write_all};
+use cpn_probe::Probe;
 use std::alloc::Global;
 
-/// Reads the net document that the source gives, runs the net under the options of the words, and writes
-/// the report, or one error line, to the sink. Nothing is written before it stands whole in memory.
+/// Reads the net document that the source gives, runs its phases one after another under the options of the words, and writes the report,
+/// or one error line, to the sink. Nothing is written before it stands whole in memory.
+///
+/// Each probe is told the committed occurrences of all runs, those of each run after it has ended, and is asked for its report after the last
+/// one. The probes are dropped before the call returns.
 pub fn simulate<S: Source, K: Sink>(
     alloc: Global,
     words: &[String],
     source: &mut S,
     sink: &mut K,
+    probes: Vec<Box<dyn Probe>>,
 ) -> Status
-    // The report was written: that of a legal run of the document, which was read to its end. The run ended by no fault,
-    // or by the fault of the outputs of an element that is covered at the printed marking and clock.
+    // The report was written, and no other could have been, where probes say the same: that of legal runs of the phases of the document,
+    // which was read to its end, and of what the probes said when they had been told the occurrences of all runs. The last run ended by no
+    // fault, or by the fault of the outputs of an element that is covered at the printed marking and clock.
     ensures done { result ≡ Status.Done → IfSome (S.left source.old) (λ bytes. (length bytes ≤ most_bytes)
-        × ((report : List ℕ) × IsReport bytes (map string_bytes words.now) Status.Done report × Appends (K.held sink.old) (K.held sink.new) report)) }
+        × ((report : List ℕ) × IsTheReport bytes (map string_bytes words.now) (HaveReported (Boxed Notes) Reports probes.items) Status.Done report × Appends (K.held sink.old) (K.held sink.new) report)) }
     ensures run_fault { result ≡ Status.RunFault → IfSome (S.left source.old) (λ bytes. (length bytes ≤ most_bytes)
-        × ((report : List ℕ) × IsReport bytes (map string_bytes words.now) Status.RunFault report × Appends (K.held sink.old) (K.held sink.new) report)) }
-    // No other report could have come, and with no other status: the bytes and the words have just this one.
-    ensures only { IsReported result → IfSome (S.left source.old) (λ bytes. (status : Status) → (other : List ℕ)
-        → IsReport bytes (map string_bytes words.now) status other → (result ≡ status) × Appends (K.held sink.old) (K.held sink.new) other) }
+        × ((report : List ℕ) × IsTheReport bytes (map string_bytes words.now) (HaveReported (Boxed Notes) Reports probes.items) Status.RunFault report × Appends (K.held sink.old) (K.held sink.new) report)) }
     ensures read_to_end { IsReported result → IfSome (S.left source.old) (λ _. S.left source.new ≡ Some []) }
 
     // Each other status has its cause; the causes are tried in order, so all but the first asks for options.
     ensures words { result ≡ Status.BadWords → options_from (map string_bytes words.now) ≡ None }
     ensures read { result ≡ Status.ReadFault → GiveOptions (map string_bytes words.now) × Rose (S.faults source.old) (S.faults source.new) }
     ensures long { result ≡ Status.TooLong → GiveOptions (map string_bytes words.now) × IfSome (S.left source.old) (λ bytes. most_bytes < length bytes) }
-    // The document is refused: as no JSON value, for its form, or as not served yet; for a text or the variables of a
-    // transition; or for its modules, for too many instances, or for an initial marking.
+    // The document is refused: as no JSON value, or for its form; for a text, the variables of a transition, or an edited
+    // initial marking; or for its modules, for too many instances, for an initial marking, or for a name in a monitor or an edit.
     ensures document { result ≡ Status.BadDocument → GiveOptions (map string_bytes words.now) × ((refusal : ModelRefusal)
         × (status_of_document refusal ≡ Status.BadDocument) × Appends (K.held sink.old) (K.held sink.new) (model_line refusal)
         × IfSome (S.left source.old) (λ bytes. (length bytes ≤ most_bytes) × IsModel bytes (refused refusal))) }
@@ -61,7 +66,7 @@ pub fn simulate<S: Source, K: Sink>(
     ensures long_line { result ≡ Status.TooLong → Appends (K.held sink.old) (K.held sink.new) (error_line too_long) }
     ensures memory { result ≡ Status.Memory → K.held sink.new ≡ K.held sink.old }
     ensures write_part { result ≡ Status.WriteFault → (text : List ℕ)
-        × IsToBeWritten (map string_bytes words.now) (S.left source.old) (S.faults source.old) (S.faults source.new) text
+        × IsToBeWritten (map string_bytes words.now) (HaveReported (Boxed Notes) Reports probes.items) (S.left source.old) (S.faults source.old) (S.faults source.new) text
         × AppendsProperPrefix (K.held sink.old) (K.held sink.new) text }
 
     // Where there is a cause, its status comes, but for faults of source and sink and want of memory.
@@ -89,7 +94,7 @@ pub fn simulate<S: Source, K: Sink>(
         → (model : PlainModel) → IsModel bytes (read model)
         → IsReportedOrExcused result (Rose (S.faults source.old) (S.faults source.new)) (Rose (K.faults sink.old) (K.faults sink.new)) }
 {
-    match answer(alloc, words, source) {
+    match answer(alloc, words, source, probes) {
         Ok(report) => match write_all(sink, report.text.as_bytes()) {
             Ok(()) => report.status,
             Err(_) => Status::WriteFault,

@@ -9,19 +9,20 @@ use std::process::ExitCode;
 /// How a call of the program ends; its number is the exit status.
 #[derive(Clone, Copy, Debug, PartialEq, Eq)]
 pub enum Status {
-    /// The whole report was written, and its run ended by no fault.
+    /// The whole report was written, and the last of its runs ended by no fault.
     Done = 0,
     /// The words are not of the form that is read.
     BadWords = 1,
     /// The source had a fault.
     ReadFault = 2,
-    /// The document is no JSON value, breaks a rule of its form, or is not served yet.
+    /// The document is no JSON value, or breaks a rule of its form.
     BadDocument = 3,
-    /// A text of the document, or the variables of a transition, are not accepted.
+    /// A text of the document, or the variables of a transition, are not accepted, or an edited initial marking has a fault.
     BadInscription = 4,
-    /// The modules of the document make no hierarchy, it has too many instances, or an initial marking has a fault or differs from another.
+    /// The modules of the document make no hierarchy, it has too many instances, an initial marking has a fault or differs from another, or a
+    /// monitor or an edit has a name that is none of the net.
     BadNet = 5,
-    /// The whole report was written, and its run ended by the fault of an element's outputs.
+    /// The whole report was written, and the last of its runs ended by the fault of an element's outputs.
     RunFault = 6,
     /// The sink had a fault.
     WriteFault = 7,

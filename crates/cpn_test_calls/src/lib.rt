@@ -14,6 +14,8 @@ mod multisets;
 #[cfg(test)]
 mod places;
 #[cfg(test)]
+mod probes;
+#[cfg(test)]
 mod rows;
 #[cfg(test)]
 mod streams;

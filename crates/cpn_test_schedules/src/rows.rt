@@ -15,8 +15,8 @@ ghost use Rattle.cpn_test_schedules.specs.Shown.{IsShown, IsShownSetup};
 use cpn_book::Book;
 use cpn_core::{Memory, Net, Occurrence};
 use cpn_report::{
-    Trace, end_text, monitor_text, occurrence_text, printable_runs, push_place_lines, push_time,
-    report, schedule_text,
+    Report, Start, Trace, end_text, monitor_text, occurrence_text, printable_runs,
+    push_place_lines, push_time, schedule_text,
 };
 use cpn_runs::{End, Finished};
 use cpn_tmset::Marking;
@@ -103,8 +103,10 @@ fn push_report(
         &finished.cause,
     )?;
     write!(out, "{line} | {end}\n")?;
-    let report = report(alloc, Trace::On, finished)?;
-    out.push_str(report.as_str())?;
+    let mut report = Report::new(alloc, Trace::On)?;
+    report.tell(Start::Initial, finished)?;
+    let text = report.end(&[])?;
+    out.push_str(text.as_str())?;
     Ok(())
 }
 

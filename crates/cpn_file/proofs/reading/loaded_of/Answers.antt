@@ -6,6 +6,7 @@ use Rattle.cpn_module_nets.specs.Views.{accepted_view}
 use Rattle.cpn_flat.specs.Answers.{refusal_of}
 use Rattle.cpn_flat.specs.Views.{loaded_view}
 use Rattle.cpn_file.proofs.LoadedDocuments.{few_declared, loaded_well, not_accepted, not_flat, is_loaded}
+use Rattle.cpn_file.proofs.LoadedParts.{loaded_of}
 use Rattle.cpn_file.proofs.reading.loaded_of.Goals as goal
 
 pub returns-in_err-accepted-clause-reads : goal.returns-in_err-accepted-clause-reads
@@ -24,6 +25,10 @@ returns-in_err-loaded-clause-reads c =
 pub returns-clause-reads : goal.returns-clause-reads
 returns-clause-reads c =
     is_loaded (document_view c.args.document) (accepted_view c.in_ok-accepted.accepted) c.in_ok-accepted.ensures.reads (loaded_view c.in_ok-loaded.loaded) c.in_ok-loaded.ensures.reads
+
+pub returns-clause-consistent : goal.returns-clause-consistent
+returns-clause-consistent c =
+    (loaded_of (document_view c.args.document) (loaded_view c.in_ok-loaded.loaded) (is_loaded (document_view c.args.document) (accepted_view c.in_ok-accepted.accepted) c.in_ok-accepted.ensures.reads (loaded_view c.in_ok-loaded.loaded) c.in_ok-loaded.ensures.reads)).consistent
 
 pub returns-clause-distinct : goal.returns-clause-distinct
 returns-clause-distinct c =

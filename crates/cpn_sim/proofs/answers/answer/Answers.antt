@@ -1,9 +1,11 @@
--- What refuses a document has its cause, the document that was read has one reading, and the report is that of a run of it.
+-- What refuses a document has its cause, the document that was read has one reading, and the report is the one of its runs.
 use Rattle.std.proofs.Common.{ℕ, List, IfSome, map, string_bytes, subst}
+use Rattle.cpn_edit.proofs.StartedSessions.{model_starts}
 use Rattle.cpn_model.specs.Views.{model_view}
 use Rattle.cpn_model.specs.Answers.{model_refusal_of}
-use Rattle.cpn_model.specs.Reading.{read, refused}
+use Rattle.cpn_model.specs.Reading.{PlainModel, read, refused}
 use Rattle.cpn_model.specs.Models.{IsModel}
+use Rattle.cpn_model.proofs.AcceptedModels.{IsAcceptedModel, model_is_accepted}
 use Rattle.cpn_sim.specs.Causes.{GiveOptions, HaveOneReading}
 use Rattle.cpn_sim.specs.OptionsView.{options_view}
 use Rattle.cpn_sim.proofs.RefusedDocuments.{read_once, its_cause, its_reading}
@@ -32,9 +34,18 @@ returns-in-Ok-report_of-clause-one_reading g c =
     let one : HaveOneReading bytes = subst HaveOneReading c.deref.ensures.value c.open.ensures.one_model in
     read_once left bytes c.in-Ok-read_all.ensures.bytes one
 
+-- what was read is accepted
+pub report_of-requires : goal.report_of-requires
+report_of-requires g c =
+    let model : PlainModel = model_view c.in-Ok-open.model in
+    let accepted : IsAcceptedModel model = model_is_accepted _ model c.in-Ok-open.ensures.reads in
+    record { reads = accepted.reads; ready = c.in-Ok-open.ensures.ready; fit = c.in-Ok-open.ensures.fit; starts = model_starts model accepted }
+
 pub returns-in-Ok-report_of-clause-report : goal.returns-in-Ok-report_of-clause-report
 returns-in-Ok-report_of-clause-report g c =
     let left = g.S.Source.left c.args.source.now in
     let bytes : List ℕ = c.in-Ok-read_all.bytes.items in
-    let reads : IsModel bytes (read (model_view c.in-Ok-open.model)) = subst (λ (bs : List ℕ). IsModel bs (read (model_view c.in-Ok-open.model))) c.deref.ensures.value c.in-Ok-open.ensures.reads in
-    read_reported (map string_bytes c.args.words.now) left bytes (options_view c.in-Ok.options) (model_view c.in-Ok-open.model) _ _ c.in-Ok-read_all.ensures.bytes c.in-Ok-read_all.ensures.short c.in-Ok.ensures.options reads c.in-Ok-report_of.ensures.report
+    let model : PlainModel = model_view c.in-Ok-open.model in
+    let reads : IsModel bytes (read model) = subst (λ (bs : List ℕ). IsModel bs (read model)) c.deref.ensures.value c.in-Ok-open.ensures.reads in
+    let one : HaveOneReading bytes = subst HaveOneReading c.deref.ensures.value c.open.ensures.one_model in
+    read_reported (map string_bytes c.args.words.now) _ left bytes (options_view c.in-Ok.options) model _ _ c.in-Ok-read_all.ensures.bytes c.in-Ok-read_all.ensures.short one c.in-Ok.ensures.options reads c.in-Ok-report_of.ensures.report

@@ -1,28 +1,37 @@
--- The run that was made can be printed.
-use Rattle.std.proofs.Common.{◌≡◌, sym, ◌∙◌, subst}
-use Rattle.cpn_definitions.specs.Named.{IsNamed}
-use Rattle.cpn_definitions.specs.Sound.{IsSound, IsMarking}
-use Rattle.cpn_runs.specs.State.{PlainSetup}
-use Rattle.cpn_runs.specs.Run.{IsRun}
-use Rattle.cpn_runs.specs.FinishedViews.{setup_view, finished_view}
-use Rattle.cpn_core.specs.declared.nets.Net.{Net}
-use Rattle.cpn_core.specs.Nets.{net_view}
-use Rattle.std.specs.Arc.{arc_value}
-use Rattle.cpn_flat.specs.Views.{loaded_view}
-use Rattle.cpn_sim.proofs.StartedBooks.{none_for_memory}
+-- The runs of the session of the model may begin, in a report that has told none; and what they, and then the probes, have told is the report.
+use Rattle.std.proofs.Common.{refl, ap, ◌∙◌, subst}
+use Rattle.cpn_edit.proofs.StartedSessions.{run_starts}
+use Rattle.cpn_model.specs.Views.{model_view}
+use Rattle.cpn_probe.specs.Reported.{AreReports}
+use Rattle.cpn_report.specs.Report.{report_text}
+use Rattle.cpn_sim.specs.OptionsView.{options_view}
+use Rattle.cpn_sim.specs.Reported.{session_from, told_runs}
 use Rattle.cpn_sim.proofs.answers.report_of.Goals as goal
 
-pub report-requires : goal.report-requires
-report-requires c =
-    let run = c.in_ok-finished.finished in
-    let loaded = c.requires.well_loaded in
-    let same : arc_value c.in_ok-new.field-0 ≡ c.args.model.loaded.net = c.in_ok-new.ensures.ok in
-    let Starts : PlainSetup → Type 0 = λ s. IsSound s.net × IsNamed s.net × IsMarking s.net.places s.start in
-    let OfNet : Net → Type 0 = λ n. IsSound (net_view n) × IsNamed (net_view n) × IsMarking (net_view n).places (loaded_view c.args.model.loaded).initial in
-    let Runs : PlainSetup → Type 0 = λ s. IsRun s (finished_view run) in
-    let at : setup_view run.setup ≡ _ = c.in_ok-finished.ensures.setup ∙ c.in_ok-book.ensures.setup in
-    let start : Starts (setup_view run.setup) = subst Starts (sym at) (subst OfNet (sym same) (loaded.sound, loaded.named, loaded.marking)) in
-    record { printable = c.printable_runs.ensures.printable (setup_view run.setup) (finished_view run) (record { sound = start.0; named = start.1 }) start.2 (subst Runs (sym c.in_ok-finished.ensures.setup) c.in_ok-finished.ensures.run) (λ memory. none_for_memory c.in_ok-book.book c.in_ok-book.ensures.journal (c.in_ok-finished.ensures.ends_for_memory memory)) }
+pub run_phases-requires : goal.run_phases-requires
+run_phases-requires g c =
+    let model = model_view c.args.model in
+    record {
+      may_begin = record {
+        s = session_from model (options_view c.args.options.now);
+        stands = c.in_ok-session.ensures.stands;
+        none = refl;
+        starts = run_starts model.phases c.requires.starts;
+        trace = c.args.options.now.trace;
+        tells = c.in_ok-told.ensures.tells;
+      };
+    }
 
-pub status_after-status-requires : goal.status_after-status-requires
-status_after-status-requires c = record { told = λ memory. none_for_memory c.in_ok-book.book c.in_ok-book.ensures.journal (c.in_ok-finished.ensures.ends_for_memory memory) }
+pub returns-clause-report : goal.returns-clause-report
+returns-clause-report g c =
+    let session = session_from (model_view c.args.model) (options_view c.args.options.now) in
+    let trace = c.args.options.now.trace in
+    let ran = c.in_ok-status.ensures.runs session c.in_ok-session.ensures.stands refl trace c.in_ok-told.ensures.tells in
+    record {
+      runs = ran.0;
+      are_runs = ran.1;
+      said = c.in_ok-said.said.items;
+      says = (c.run_phases.new.probes.items, ran.4, subst (λ ps. AreReports g.P.Probe.Reports ps c.in_ok-said.said.items) c.as_slice.ensures.value c.in_ok-said.ensures);
+      status_is = ran.2;
+      text_is = c.in_ok-text.ensures.text trace (told_runs session.phases ran.0) ran.3 ∙ ap (λ said. report_text trace (told_runs session.phases ran.0) said) c.as_slice-2.ensures.value;
+    }

@@ -1,4 +1,4 @@
--- A run may start from what is accepted; and reports tell their journals, since texts do.
+-- The runs of what is accepted start from where runs may start; and reports tell their journals, since texts do.
 use Rattle.cpn_sim.proofs.AcceptedRuns.{accepted_is_playable, reports_tell_journals}
 use Rattle.cpn_sim.proofs.laws.accepted_runs.Goals as goal
 

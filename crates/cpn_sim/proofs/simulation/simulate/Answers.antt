@@ -1,11 +1,11 @@
 -- What a report and a refusal give.
 use Rattle.std.proofs.Common.{ℕ, List, map, string_bytes, inl, inr, refl, subst}
 use Rattle.std.specs.Io.KnownBytes.{Appends}
+use Rattle.cpn_io.specs.Outside.{AppendsProperPrefix}
 use Rattle.cpn_sim.specs.Causes.{PlainRefusal, HasCause, IsReadOnce, error_line, IsRefused}
 use Rattle.cpn_sim.proofs.RefusalCauses.{plain_of, no_report, words_told, read_told, long_told, document_told, refused_words, refused_long, refused_document, refused_complete}
 use Rattle.cpn_sim.specs.declared.statuses.Status.TheVariants as statuses
-use Rattle.cpn_sim.proofs.OneReport.{of_every_report}
-use Rattle.cpn_sim.proofs.WrittenReports.{no_other, written as is_written, not_refused_words, not_too_long, not_refused}
+use Rattle.cpn_sim.proofs.WrittenReports.{no_other, written as is_written, to_be_written, not_refused_words, not_too_long, not_refused}
 use Rattle.cpn_sim.proofs.simulation.simulate.Goals as goal
 
 pub returns-in-Ok-write_all : goal.returns-in-Ok-write_all
@@ -21,9 +21,8 @@ returns-in-Ok-write_all g c =
     let P : List ℕ → Type 0 = λ bytes. Appends old new bytes in
     let appended : Appends old new text = subst P c.as_bytes.ensures.value c.in-Ok-write_all.ensures.ok in
     record {
-      done = λ is. is_written words left statuses.Done status text old new reported is appended;
-      run_fault = λ is. is_written words left statuses.RunFault status text old new reported is appended;
-      only = λ _. of_every_report words left status text P c.in-Ok.ensures.one_worker c.in-Ok.ensures.one_reading reported appended;
+      done = λ is. is_written words _ left statuses.Done status text old new reported is appended;
+      run_fault = λ is. is_written words _ left statuses.RunFault status text old new reported is appended;
       read_to_end = λ _. c.in-Ok.ensures.end;
       words = λ is. no_other status statuses.BadWords is_of refl is;
       read = λ is. no_other status statuses.ReadFault is_of refl is;
@@ -38,12 +37,20 @@ returns-in-Ok-write_all g c =
       memory = λ is. no_other status statuses.Memory is_of refl is;
       write_part = λ is. no_other status statuses.WriteFault is_of refl is;
       bad_words = λ none. absurd (not_refused_words words c.in-Ok.ensures.options none);
-      too_long = λ options some bytes is long. absurd (not_too_long words left status text bytes is reported long);
-      bad_document = λ options some bytes is short refusal reads its. absurd (not_refused words left status text bytes is reported c.in-Ok.ensures.one_reading refusal reads);
-      bad_inscription = λ options some bytes is short refusal reads its. absurd (not_refused words left status text bytes is reported c.in-Ok.ensures.one_reading refusal reads);
-      bad_net = λ options some bytes is short refusal reads its. absurd (not_refused words left status text bytes is reported c.in-Ok.ensures.one_reading refusal reads);
+      too_long = λ options some bytes is long. absurd (not_too_long words _ left status text bytes is reported long);
+      bad_document = λ options some bytes is short refusal reads its. absurd (not_refused words _ left status text bytes is reported c.in-Ok.ensures.one_reading refusal reads);
+      bad_inscription = λ options some bytes is short refusal reads its. absurd (not_refused words _ left status text bytes is reported c.in-Ok.ensures.one_reading refusal reads);
+      bad_net = λ options some bytes is short refusal reads its. absurd (not_refused words _ left status text bytes is reported c.in-Ok.ensures.one_reading refusal reads);
       complete = λ options some bytes is short model reads. inl is_of;
     }
+
+pub returns-in-Ok-clause-write_part : goal.returns-in-Ok-clause-write_part
+returns-in-Ok-clause-write_part g c = λ is.
+    let words : List (List ℕ) = map string_bytes c.args.words.now in
+    let left = g.S.Source.left c.args.source.now in
+    let text : List ℕ = string_bytes c.in-Ok.report.text in
+    let P : List ℕ → Type 0 = λ bytes. AppendsProperPrefix (g.K.Sink.held c.args.sink.now) (g.K.Sink.held c.write_all.new.sink) bytes in
+    (text, to_be_written words _ left _ _ c.in-Ok.report.status text c.in-Ok.ensures.options c.in-Ok.ensures.report, subst P c.as_bytes.ensures.value c.in-Err-write_all.ensures.err)
 
 pub returns-in-Ok-line_of : goal.returns-in-Ok-line_of
 returns-in-Ok-line_of g c =
@@ -64,7 +71,6 @@ returns-in-Ok-line_of g c =
     record {
       done = λ is. absurd (no_report plain words left before after c.refuse.result old new faults now cause once written (inl is));
       run_fault = λ is. absurd (no_report plain words left before after c.refuse.result old new faults now cause once written (inr is));
-      only = λ is. absurd (no_report plain words left before after c.refuse.result old new faults now cause once written is);
       read_to_end = λ is. absurd (no_report plain words left before after c.refuse.result old new faults now cause once written is);
       words = λ is. (words_told plain words left before after c.refuse.result old new faults now cause once written is).0;
       read = λ is. (read_told plain words left before after c.refuse.result old new faults now cause once written is).0;

@@ -1,0 +1,5 @@
+mod BoxedProbes
+mod ReportLists
+mod Rows
+pub mod Tellings
+mod ToldProbes
