@@ -15,6 +15,7 @@ use Rattle.cpn_runs.proofs.GivenBackClaims.{left_after, first_of_first}
 use Rattle.cpn_runs.proofs.States.{LeavesCommitted, cut_leaves_committed, leads_more, every_state, closed_status}
 use Rattle.cpn_book.specs.Held.{held_from, held_below, AreHeld}
 use Rattle.cpn_log.specs.Kept.{IsKept}
+use Rattle.cpn_log.proofs.LeftMarkings.{leaves}
 use Rattle.cpn_log.specs.Logs.{PlainLog, PlainHead, head_of, with_status, with_committed}
 use Rattle.cpn_book.specs.StandingRuns.{IsTold, NoneStops, StandsAt}
 use Rattle.cpn_book.proofs.HeldClaims.{held_changed, held_closed, held_ahead}
@@ -117,7 +118,7 @@ pub told_committed : (setup : PlainSetup) (journal : List PlainEvent) (state : P
 told_committed setup journal state log held claim rest told goes_on is done kept = record { reached = told.reached; has = has; all_in = all; kept = kept; holds = told.holds }
   where
     covers : are_covered (threshold claim.time) log.settled claim.needs ≡ true
-    covers = (left_parts log.settled claim rest log.unclaimed (ap (marking_left log.settled) (sym is) ∙ told.kept.left)).0
+    covers = (left_parts log.settled claim rest log.unclaimed (ap (marking_left log.settled) (sym is) ∙ leaves log told.kept)).0
 
     has : HasClaims setup.start state.claims (with_committed log claim rest)
     has = has_committed setup.start state.claims log claim rest told.has is done covers

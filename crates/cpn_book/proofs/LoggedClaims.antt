@@ -8,6 +8,7 @@ use Rattle.cpn_runs.specs.HoleRun.{PlainClaim, Status, is_done, marking_left}
 use Rattle.cpn_runs.proofs.Sequences.{left_joined, marking_left_more}
 use Rattle.cpn_log.specs.Logs.{PlainLog, head_of, started, with_status, changed_to, with_committed}
 use Rattle.cpn_log.specs.Kept.{IsKept}
+use Rattle.cpn_log.proofs.LeftMarkings.{leaves}
 use Rattle.cpn_book.specs.Logged.{HasClaims}
 
 -- ---- two parts
@@ -33,7 +34,7 @@ has_none m = record { committed = []; claims_are = refl; done = tt; heads = refl
 module _ (start : Marking) (claims : List PlainClaim) (old new : PlainLog) (has : HasClaims start claims old) where
   -- the unclaimed marking is what the claims leave
   pub unclaimed_left : IsKept old → marking_left start claims ≡ Some old.unclaimed
-  unclaimed_left kept = ap (marking_left start) has.claims_are ∙ left_joined start has.committed old.claims old.settled has.left ∙ kept.left
+  unclaimed_left kept = ap (marking_left start) has.claims_are ∙ left_joined start has.committed old.claims old.settled has.left ∙ leaves old kept
 
   as_many : length has.committed ≡ length old.committed
   as_many = sym (length-map has.committed head_of) ∙ ap length has.heads

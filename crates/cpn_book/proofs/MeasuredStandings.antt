@@ -8,6 +8,7 @@ use Rattle.cpn_core.specs.declared.occurrences.Occurrence.{Occurrence}
 use Rattle.cpn_definitions.specs.Legal.{TimedElement}
 use Rattle.cpn_definitions.specs.Marking.{Marking}
 use Rattle.cpn_definitions.specs.Occurrence.{PlainElement}
+use Rattle.cpn_log.proofs.LeftMarkings.{leaves}
 use Rattle.cpn_log.specs.LogViews.{log_view}
 use Rattle.cpn_log.specs.Logs.{with_status, changed_to}
 use Rattle.cpn_monitor.specs.Fitting.{AreMeasured, IsNext, MayNote}
@@ -100,7 +101,7 @@ module _ (setup : PlainSetup) (s : Standing) (at : IsToldAt setup s) (claim : Pl
     claims_are = at.told.has.claims_are ∙ ap (λ cs. front ++ cs) first;
     made_now = now.0 ∙ at.clock;
     left = at.told.has.left;
-    covers = (left_parts (log_view s.log).settled claim rest (log_view s.log).unclaimed (ap (marking_left (log_view s.log).settled) (sym first) ∙ at.told.kept.left)).0;
+    covers = (left_parts (log_view s.log).settled claim rest (log_view s.log).unclaimed (ap (marking_left (log_view s.log).settled) (sym first) ∙ leaves (log_view s.log) at.told.kept)).0;
   }
 
   -- monitors may note the next claim

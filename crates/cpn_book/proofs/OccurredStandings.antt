@@ -16,6 +16,7 @@ use Rattle.cpn_jobs.specs.declared.work.Job.{Job}
 use Rattle.cpn_core.specs.declared.occurrences.Occurrence.{Occurrence}
 use Rattle.cpn_log.specs.declared.logs.Log.{Log}
 use Rattle.cpn_log.specs.Kept.{IsKept}
+use Rattle.cpn_log.proofs.LeftMarkings.{leaves}
 use Rattle.cpn_log.specs.Logs.{PlainLog, head_of, heads, begin_done, claims_made, made_and_done, with_occurred}
 use Rattle.cpn_log.specs.LogViews.{log_view, jobs_in}
 use Rattle.cpn_monitor.specs.Fitting.{AreMeasured, IsNext, MayNote}
@@ -109,7 +110,7 @@ module _ (setup : PlainSetup) (old : Standing) (number : ℕ) (job : Job) (needs
     -- its needs were covered in the settled marking, which was the unclaimed one
     covers : are_covered (threshold due.at.at.state.clock) (log_view old.log).settled done.needs ≡ true
     covers =
-        let settled : (log_view old.log).settled ≡ (log_view old.log).unclaimed = same_Some (log_view old.log).settled (log_view old.log).unclaimed (ap (marking_left (log_view old.log).settled) (sym all_in) ∙ due.at.at.told.kept.left) in
+        let settled : (log_view old.log).settled ≡ (log_view old.log).unclaimed = same_Some (log_view old.log).settled (log_view old.log).unclaimed (ap (marking_left (log_view old.log).settled) (sym all_in) ∙ leaves (log_view old.log) due.at.at.told.kept) in
         ap (λ ns. are_covered (threshold due.at.at.state.clock) (log_view old.log).settled ns) (sym needs_are)
         ∙ ap (λ m. are_covered (threshold due.at.at.state.clock) m needs) settled
         ∙ ap (λ t. are_covered (threshold t) (log_view old.log).unclaimed needs) (sym (drawn_now setup old number job needs due ∙ clock_is))

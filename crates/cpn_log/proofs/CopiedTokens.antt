@@ -14,7 +14,7 @@ use Rattle.cpn_log.proofs.LeftMarkings.{room_behind}
 
 -- ---- tokens that are put in
 
-room_after_one : (n : ℕ) (made : Made) (m : Marking) → HaveRoomFor (n + 1) m → HaveRoomFor n (on_place made.place (add_token (token_at made.value made.stamp)) m)
+pub room_after_one : (n : ℕ) (made : Made) (m : Marking) → HaveRoomFor (n + 1) m → HaveRoomFor n (on_place made.place (add_token (token_at made.value made.stamp)) m)
 room_after_one n made m room =
     tokens_on_place (λ q (ks : Tokens). length ks + n < 2 ^ 48) made.place (add_token (token_at made.value made.stamp)) m (λ q. let all = room q in omega (arith, all))
     (λ at. let all = room made.place in let more = length-add_token (token_at made.value made.stamp) (tokens_at m made.place) in omega (arith, all, more))

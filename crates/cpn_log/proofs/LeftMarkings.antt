@@ -1,18 +1,26 @@
 -- The marking that the claims of a log leave: its tokens stand in order, are few, and are what is left claim by claim.
-use Rattle.std.proofs.Common.{◌≡◌, ℕ, ◌+◌, ◌-◌, ◌*◌, ◌<◌, ◌≤◌, ◌^◌, List, [], ◌∷◌, ◌++◌, length, Some, refl, arith}
+use Rattle.std.proofs.Common.{◌≡◌, ℕ, ◌+◌, ◌-◌, ◌*◌, ◌<◌, ◌≤◌, ◌^◌, List, [], ◌∷◌, ◌++◌, length, Some, refl, ap, arith}
 use Rattle.std.specs.List.{AllByRecursion}
+use Rattle.std.specs.Option.{option_map}
 use Rattle.std.proofs.lemmas.Option.{same_Some}
 use Rattle.cpn_definitions.specs.Bounds.{most_made, IsBounded}
 use Rattle.cpn_definitions.specs.Marking.{Marking}
 use Rattle.cpn_definitions.specs.Occurrence.{threshold, subtract}
 use Rattle.cpn_definitions.proofs.PlaceCounts.{taken_up_to, added_up_to}
 use Rattle.cpn_definitions.proofs.Subtraction.{AllAreSorted}
-use Rattle.cpn_runs.specs.HoleRun.{PlainClaim, added, after_claim, marking_left}
+use Rattle.cpn_runs.specs.HoleRun.{PlainClaim, PlainHoleRun, added, after_claim, marking_left}
 use Rattle.cpn_runs.proofs.Sequences.{left_parts}
 use Rattle.cpn_runs.proofs.FilledRuns.{sorted_after}
 use Rattle.cpn_tmset.specs.Limits.{HaveRoomFor}
-use Rattle.cpn_log.specs.Kept.{IsInRange}
+use Rattle.cpn_log.specs.Logs.{PlainLog}
+use Rattle.cpn_log.specs.Kept.{IsInRange, IsKept}
 use Rattle.cpn_log.specs.Exchanges.{after_claims, number_added}
+
+-- ---- of a log that is kept
+
+-- each claim finds its needs where it stands, so they leave the unclaimed marking
+pub leaves : (log : PlainLog) → IsKept log → marking_left log.settled log.claims ≡ Some log.unclaimed
+leaves log kept = ap (option_map (λ (run : PlainHoleRun). run.marking)) kept.run
 
 -- ---- claim by claim
 

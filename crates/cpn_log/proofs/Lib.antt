@@ -3,12 +3,14 @@ mod EachOnce
 mod ToldItems
 mod StampLists
 mod TouchedStamps
-mod LeftMarkings
+pub mod LeftMarkings
 mod CopiedTokens
 mod KeptLogs
 mod StatusStandings
 mod LogParts
 mod LogSteps
+mod CarriedPast
+mod TakenPicks
 mod Completions
 mod CutClaims
 mod ClaimStandings

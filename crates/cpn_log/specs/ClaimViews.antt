@@ -1,8 +1,13 @@
 -- The plain claims that those of the log stand for.
-use Rattle.std.specs.Prelude.{ℕ, List, map, Option, Some, None, slice_get, slice_set}
+use Rattle.std.specs.Prelude.{ℕ, List, [], ◌∷◌, map, Option, Some, None, slice_get, slice_set}
+use Rattle.cpn_definitions.specs.Occurrence.{threshold}
+use Rattle.cpn_definitions.specs.Occurrence as plain
 use Rattle.cpn_core.specs.Elements.{element_view}
+use Rattle.cpn_core.specs.OutputsViews.{made_view}
+use Rattle.cpn_core.specs.declared.outputs.Made.{Made}
 use Rattle.cpn_core.specs.Faults.{fault_view}
-use Rattle.cpn_runs.specs.HoleRun.{PlainClaim, Status, open_claim, done_with, faulted_with}
+use Rattle.cpn_runs.specs.HoleRun.{PlainClaim, PlainPick, Status, open_claim, done_with, faulted_with}
+use Rattle.cpn_jobs.specs.declared.work.Job.{Job}
 use Rattle.cpn_log.specs.Logs.{PlainHead}
 use Rattle.cpn_log.specs.declared.claims.Claim.{Claim}
 use Rattle.cpn_log.specs.declared.claims.Course.{Course}
@@ -25,6 +30,27 @@ claim_view claim = record {
 abbrev pub claim_views : List Claim → List PlainClaim
 claim_views claims = map claim_view claims
 
+-- the pick of a need at a time, with the stamp that it took
+abbrev pub pick_with : ℕ → plain.Needed → ℕ → PlainPick
+pick_with time need stamp = record { place = need.place; value = need.value; threshold = threshold time need; stamp = stamp }
+
+-- those of needs, one after another
+abbrev pub picked_with : ℕ → List plain.Needed → List ℕ → List PlainPick
+picked_with time [] stamps = []
+picked_with time (need ∷ needs) [] = []
+picked_with time (need ∷ needs) (stamp ∷ stamps) = pick_with time need stamp ∷ picked_with time needs stamps
+
+-- a token that was made, with another stamp
+abbrev pub with_stamp : ℕ → Made → plain.Made
+with_stamp stamp made = record (made_view made) { stamp = stamp }
+
+-- what a claim took
+abbrev pub taken_view : Claim → List PlainPick
+taken_view claim = picked_with claim.job.value.time claim.needs claim.stamps.items
+
+abbrev pub taken_views : List Claim → List (List PlainPick)
+taken_views claims = map taken_view claims
+
 abbrev pub head_view : Claim → PlainHead
 head_view claim = record { seat = claim.seat; element = element_view claim.job.value.element.value; time = claim.job.value.time }
 
@@ -35,3 +61,7 @@ changed_course course position claims (Some claim) = slice_set claims position (
 -- the claims, of which that at a position has another course
 abbrev pub with_course : Course → ℕ → List Claim → List Claim
 with_course course position claims = changed_course course position claims (slice_get claims position)
+
+-- the job of each claim
+abbrev pub jobs_of : List Claim → List Job
+jobs_of claims = map (λ claim. claim.job.value) claims

@@ -2,6 +2,7 @@ pub mod Logs
 pub mod Kept
 pub mod Exchanges
 pub mod Gathered
+pub mod FilledLogs
 pub mod States
 pub mod ClaimViews
 pub mod SettledViews

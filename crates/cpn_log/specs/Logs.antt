@@ -1,10 +1,10 @@
 -- What a log holds: the claims of a run that are committed, by what they say, with the marking that they leave, and the claims
--- behind them, with the marking that all leave. Source: own choice.
-use Rattle.std.specs.Prelude.{ℕ, ◌+◌, Bool, false, if◌then◌else◌, List, [], ◌∷◌, ◌++◌, length, map, Option, Some, None, slice_get, slice_set}
+-- behind them, with what they took and the marking that all leave. Source: own choice.
+use Rattle.std.specs.Prelude.{ℕ, ◌+◌, Bool, false, if◌then◌else◌, List, [], ◌∷◌, ◌++◌, length, map, drop, Option, Some, None, slice_get, slice_set}
 use Rattle.cpn_definitions.specs.Marking.{Marking}
 use Rattle.cpn_definitions.specs.Outcome.{Fault}
 use Rattle.cpn_definitions.specs.Occurrence.{PlainElement, Needed, Made}
-use Rattle.cpn_runs.specs.HoleRun.{PlainClaim, Status, open_claim, done_with, faulted_with, is_done, after_claim}
+use Rattle.cpn_runs.specs.HoleRun.{PlainClaim, Status, open_claim, done_with, faulted_with, is_done, after_claim, PlainPick, PlainHoleRun}
 
 -- What a committed claim says: the seat that made it, its element and time.
 pub record PlainHead : Type 0 where
@@ -19,8 +19,14 @@ pub record PlainLog : Type 0 where
   pub settled : Marking
   -- the claims behind them, in claim order
   pub claims : List PlainClaim
+  -- what each of these took, in claim order
+  pub picks : List (List PlainPick)
   -- the marking that all the claims leave
   pub unclaimed : Marking
+
+-- the run of the claims that are not committed: what they leave, and what they took
+abbrev pub run_behind : PlainLog → PlainHoleRun
+run_behind log = record { marking = log.unclaimed; picks = log.picks }
 
 -- how many claims there are
 abbrev pub claims_made : PlainLog → ℕ
@@ -67,7 +73,7 @@ with_status status position claims = changed_to status position claims (slice_ge
 
 -- the log of no claim, from a marking
 abbrev pub started : Marking → PlainLog
-started m = record { committed = []; settled = m; claims = []; unclaimed = m }
+started m = record { committed = []; settled = m; claims = []; picks = []; unclaimed = m }
 
 -- whether the first of claims is done with its outputs
 abbrev pub begin_done : List PlainClaim → Bool
@@ -80,6 +86,7 @@ with_committed log claim claims = record {
   committed = log.committed ++ head_of claim ∷ [];
   settled = after_claim claim log.settled;
   claims = claims;
+  picks = drop 1 log.picks;
   unclaimed = log.unclaimed;
 }
 
@@ -101,5 +108,6 @@ with_occurred log claim = record {
   committed = log.committed ++ head_of claim ∷ [];
   settled = after_claim claim log.settled;
   claims = [];
+  picks = [];
   unclaimed = after_claim claim log.settled;
 }

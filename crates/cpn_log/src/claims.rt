@@ -1,19 +1,21 @@
 //! What the log keeps of a claim.
 
-ghost use Rattle.std.specs.Prelude.{◌≡◌, ◌≤◌, length, false, MatchOption, OnOk};
+ghost use Rattle.std.specs.Prelude.{◌≡◌, ◌≤◌, [], length, false, MatchOption, OnOk};
 ghost use Rattle.cpn_definitions.specs.Times.{last_time};
+ghost use Rattle.cpn_core.specs.NeedsViews.{needed_view};
 ghost use Rattle.cpn_tmset.specs.Limits.{HaveRoomFor};
 ghost use Rattle.cpn_runs.specs.HoleRun.{added, after_claim, done_with, is_done};
 ghost use Rattle.cpn_log.specs.Logs.{standing_of};
 ghost use Rattle.cpn_log.specs.States.{state_view};
-ghost use Rattle.cpn_log.specs.ClaimViews.{claim_view, head_view};
+ghost use Rattle.cpn_runs.specs.Filling.{claim_after, past_claim, past_pick, pick_after};
+ghost use Rattle.cpn_log.specs.ClaimViews.{claim_view, head_view, pick_with, picked_with, taken_view, with_stamp};
 
 use crate::settled::Exchange;
 use crate::states::ClaimState;
 use crate::tokens::add_copies;
-use cpn_core::{EvalFault, Memory, Needs, Outputs};
+use cpn_core::{EvalFault, Made, Memory, Needed, Needs, Outputs};
 use cpn_jobs::Job;
-use cpn_tmset::Marking;
+use cpn_tmset::{Marking, carry_past};
 use std::alloc::Global;
 use std::mem;
 use std::sync::Arc;
@@ -26,13 +28,14 @@ pub(crate) enum Course {
     Failed(EvalFault),
 }
 
-/// A claim: who made it, its element with its time, its needs, and what became of it. Of one that is committed no tokens are
-/// kept: it is done without needs and outputs.
+/// A claim: who made it, its element with its time, its needs with the stamp of the token that each took, and what became of it. Of
+/// one that is committed no tokens are kept: it is done without needs and outputs.
 #[derive(Drop)]
 pub(crate) struct Claim {
     pub(crate) seat: u32,
     pub(crate) job: Arc<Job>,
     pub(crate) needs: Needs,
+    pub(crate) stamps: Vec<u64>,
     pub(crate) course: Course,
 }
 
@@ -62,25 +65,71 @@ impl Claim {
         }
     }
 
+    /// Carries the stamp of a token that was made past what the claim took: each pick of the token's value on its place that prefers the
+    /// stamp takes it in exchange, and its own is carried on. The stamp that is left over.
+    pub(crate) fn carry(&mut self, made: &Made, stamp: u64) -> u64
+        requires in_time { self.old.job.value.time ≤ last_time }
+        ensures left { result ≡ (past_claim (with_stamp stamp made.now) (taken_view self.old)).stamp }
+        ensures taken { taken_view self.new ≡ claim_after (with_stamp stamp made.now) (taken_view self.old) }
+        ensures same { claim_view self.new ≡ claim_view self.old }
+        ensures head { head_view self.new ≡ head_view self.old }
+        ensures job { self.new.job ≡ self.old.job }
+    {
+        carry_past_needs(&self.needs, &mut self.stamps, self.job.time, made, stamp)
+    }
+
     /// Hands out what a claim that is done takes and adds, and keeps no token of it; `None` where it is not done with its
     /// outputs, and then it stays as it is.
     pub(crate) fn let_go(&mut self, alloc: Global) -> Option<Exchange>
         ensures exchange { MatchOption result (is_done (claim_view self.old).status ≡ false) (λ e. (claim_view self.old).status ≡ done_with e.outputs) }
         ensures needs { MatchOption result (self.new.needs ≡ self.old.needs) (λ e. e.needs ≡ self.old.needs) }
+        ensures stamps { MatchOption result (self.new.stamps ≡ self.old.stamps) (λ e. self.new.stamps.items ≡ []) }
         ensures time { MatchOption result (self.new.course ≡ self.old.course) (λ e. e.time ≡ self.old.job.value.time) }
         ensures head { head_view self.new ≡ head_view self.old }
         ensures job { self.new.job ≡ self.old.job }
     {
         match mem::replace(&mut self.course, Course::Done(Outputs::new(alloc))) {
-            Course::Done(outputs) => Some(Exchange {
-                needs: mem::replace(&mut self.needs, Needs::new(alloc)),
-                time: self.job.time,
-                outputs,
-            }),
+            Course::Done(outputs) => {
+                self.stamps = Vec::new(alloc);
+                Some(Exchange {
+                    needs: mem::replace(&mut self.needs, Needs::new(alloc)),
+                    time: self.job.time,
+                    outputs,
+                })
+            }
             other => {
                 self.course = other;
                 None
             }
         }
+    }
+}
+
+// Carries the stamp of a token that was made past the stamps that needs took, one after another: the one that is left over.
+fn carry_past_needs(needs: &Needs, stamps: &mut Vec<u64>, time: u64, made: &Made, stamp: u64) -> u64
+    requires in_time { time ≤ last_time }
+    ensures left { result ≡ (past_claim (with_stamp stamp made.now) (picked_with time needs.now stamps.old.items)).stamp }
+    ensures taken { picked_with time needs.now stamps.new.items ≡ claim_after (with_stamp stamp made.now) (picked_with time needs.now stamps.old.items) }
+{
+    let tokens = needs.tokens();
+    let mut carried = stamp;
+    for (index, need) in tokens.iter().enumerate() {
+        if let Some(taken) = stamps.get_mut(index) {
+            carried = carry_past_need(need, taken, time, made, carried);
+        }
+    }
+    carried
+}
+
+// Carries the stamp of a token that was made past the stamp that a need took: the one that is carried on.
+fn carry_past_need(need: &Needed, taken: &mut u64, time: u64, made: &Made, stamp: u64) -> u64
+    requires in_time { time ≤ last_time }
+    ensures left { result ≡ (past_pick (with_stamp stamp made.now) (pick_with time (needed_view need.now) taken.old)).stamp }
+    ensures taken { taken.new ≡ (pick_after (with_stamp stamp made.now) (pick_with time (needed_view need.now) taken.old)).stamp }
+{
+    if need.place == made.place && need.value == made.value {
+        carry_past(taken, time + need.offset, stamp)
+    } else {
+        stamp
     }
 }

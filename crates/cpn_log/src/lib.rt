@@ -8,6 +8,7 @@
 #![tactic(auto)]
 
 mod claims;
+mod filling;
 mod gathered;
 mod logs;
 mod markings;

@@ -3,6 +3,7 @@
 ghost use Rattle.std.specs.Prelude.{◌≤◌, length};
 
 use crate::claims::{Claim, Course};
+use crate::filling::put_ahead;
 use crate::gathered::{changes_among, changes_of_needs, changes_of_outputs};
 use crate::markings::Markings;
 use crate::replay::replayed;
@@ -34,7 +35,7 @@ impl Log {
     ghost use Rattle.std.specs.List.{AllByRecursion};
     ghost use Rattle.cpn_definitions.specs.Bounds.{most_made};
     ghost use Rattle.cpn_definitions.specs.Marking.{tokens_at, AreSorted};
-    ghost use Rattle.cpn_definitions.specs.Occurrence.{are_covered, threshold};
+    ghost use Rattle.cpn_definitions.specs.Occurrence.{are_covered, subtract, threshold};
     ghost use Rattle.cpn_definitions.specs.Times.{last_time};
     ghost use Rattle.cpn_core.specs.Elements.{element_view};
     ghost use Rattle.cpn_core.specs.Faults.{fault_view};
@@ -42,8 +43,10 @@ impl Log {
     ghost use Rattle.cpn_tmset.specs.ChangedViews.{changes_view};
     ghost use Rattle.cpn_tmset.specs.Limits.{HaveRoomFor};
     ghost use Rattle.cpn_runs.specs.Bounds.{most_steps};
-    ghost use Rattle.cpn_runs.specs.HoleRun.{done_with, faulted_with};
-    ghost use Rattle.cpn_log.specs.Logs.{begin_done, claims_made, made_and_done, next_committed, opened, seats, standings, stands_done, stands_failed, stands_open, started, with_occurred, with_status};
+    ghost use Rattle.cpn_runs.specs.HoleRun.{done_with, faulted_with, picks_of};
+    ghost use Rattle.cpn_runs.specs.Filling.{filled_run};
+    ghost use Rattle.cpn_log.specs.Logs.{begin_done, claims_made, made_and_done, next_committed, opened, run_behind, seats, standings, stands_done, stands_failed, stands_open, started, with_occurred, with_status};
+    ghost use Rattle.cpn_log.specs.FilledLogs.{IsFilledAt};
     ghost use Rattle.cpn_log.specs.Kept.{IsInRange, IsKept};
     ghost use Rattle.cpn_log.specs.Exchanges.{after_claims, number_added};
     ghost use Rattle.cpn_log.specs.States.{state_view};
@@ -74,6 +77,8 @@ impl Log {
         requires in_time { job.value.time ≤ last_time }
         requires covered { are_covered (threshold job.value.time) (log_view self.old).unclaimed needs ≡ true }
         ensures pushed { OnOk result ((log_view self.new).claims ≡ (log_view self.old).claims ++ opened seat (element_view job.value.element.value) job.value.time needs ∷ []) }
+        ensures taken { OnOk result ((log_view self.new).unclaimed ≡ subtract (threshold job.value.time) needs (log_view self.old).unclaimed) }
+        ensures picks { OnOk result ((log_view self.new).picks ≡ (log_view self.old).picks ++ picks_of job.value.time needs (log_view self.old).unclaimed ∷ []) }
         ensures stands { OnOk result (slice_get (standings (log_view self.new)) (claims_made (log_view self.old)) ≡ Some stands_open) }
         ensures jobs { OnOk result (jobs_in self.new ≡ jobs_in self.old ++ job.value ∷ []) }
         ensures committed { (log_view self.new).committed ≡ (log_view self.old).committed }
@@ -82,11 +87,12 @@ impl Log {
         ensures changes { IfOk result (λ changes. AreChanges (log_view self.old).unclaimed (log_view self.new).unclaimed (changes_view changes)) }
     {
         let changes = changes_of_needs(self.alloc, &needs)?;
-        self.markings.take(&needs, job.time)?;
+        let stamps = self.markings.take(self.alloc, &needs, job.time)?;
         self.claims.push(Claim {
             seat,
             job,
             needs,
+            stamps,
             course: Course::Open,
         })?;
         Ok(changes)
@@ -117,15 +123,18 @@ impl Log {
             seat,
             job,
             needs: Needs::new(self.alloc),
+            stamps: Vec::new(self.alloc),
             course: Course::Done(Outputs::new(self.alloc)),
         })?;
         self.committed = self.claims.len();
         Ok(())
     }
 
-    /// Completes an open claim with its outputs, which it adds at its own place in the claim order, and tells which stamps of
-    /// the unclaimed marking change by that: those of each output's value on its place, since there is a token more of it. After
-    /// `Memory` the committed part and its marking stand, and nothing else is known.
+    /// Completes an open claim with its outputs, which it adds at its own place in the claim order: each of them is carried past what
+    /// the later claims took, so they have what they would have taken if it had been there, and one token more for each output is left in
+    /// the unclaimed marking, of its value and on its place. It tells which stamps of the unclaimed marking change by that: those of each
+    /// output's value on its place. No claim is made anew for it. After `Memory` the committed part and its marking stand, and nothing else
+    /// is known.
     pub fn fill(&mut self, number: u64, outputs: Outputs) -> Result<Changes, Memory>
         requires kept { IsKept (log_view self.old) }
         requires open { slice_get (standings (log_view self.old)) number ≡ Some stands_open }
@@ -136,19 +145,14 @@ impl Log {
         ensures jobs { jobs_in self.new ≡ jobs_in self.old }
         ensures committed { (log_view self.new).committed ≡ (log_view self.old).committed }
         ensures settled { (log_view self.new).settled ≡ (log_view self.old).settled }
+        ensures filled_run { OnOk result (IsFilledAt (number - length (log_view self.old).committed) outputs (log_view self.old) (log_view self.new)) }
         ensures kept { OnOk result (IsKept (log_view self.new)) }
         ensures changes { IfOk result (λ changes. AreChanges (log_view self.old).unclaimed (log_view self.new).unclaimed (changes_view changes)) }
     {
         let changes = changes_of_outputs(self.alloc, &outputs)?;
         let position = number as usize;
-        if position + 1 == self.claims.len() {
-            self.markings.add(&outputs)?;
-            self.complete(position, Course::Done(outputs));
-            return Ok(changes);
-        }
+        self.put_behind(position, &outputs)?;
         self.complete(position, Course::Done(outputs));
-        let left = self.left_by(self.claims.len())?;
-        self.markings.replace(left);
         Ok(changes)
     }
 
@@ -161,6 +165,7 @@ impl Log {
         ensures jobs { jobs_in self.new ≡ jobs_in self.old }
         ensures committed { (log_view self.new).committed ≡ (log_view self.old).committed }
         ensures settled { (log_view self.new).settled ≡ (log_view self.old).settled }
+        ensures picks { (log_view self.new).picks ≡ (log_view self.old).picks }
         ensures unclaimed { (log_view self.new).unclaimed ≡ (log_view self.old).unclaimed }
         ensures kept { IsKept (log_view self.new) }
     {
@@ -279,6 +284,27 @@ impl Log {
         self.markings.into_unclaimed()
     }
 
+    // Puts outputs in behind the claim at a position, ahead of the later ones.
+    fn put_behind(&mut self, position: usize, outputs: &Outputs) -> Result<(), Memory>
+        requires within { position < length self.old.claims.items }
+        requires behind { length (log_view self.old).committed ≤ position }
+        requires in_range { AllByRecursion IsInRange (log_view self.old).claims }
+        requires room { HaveRoomFor (length outputs.now) (log_view self.old).unclaimed }
+        ensures run { OnOk result (run_behind (log_view self.new) ≡ filled_run (position - length (log_view self.old).committed) outputs.now (run_behind (log_view self.old))) }
+        ensures claims { (log_view self.new).claims ≡ (log_view self.old).claims }
+        ensures jobs { jobs_in self.new ≡ jobs_in self.old }
+        ensures committed { (log_view self.new).committed ≡ (log_view self.old).committed }
+        ensures settled { (log_view self.new).settled ≡ (log_view self.old).settled }
+        ensures len { length self.new.claims.items ≡ length self.old.claims.items }
+    {
+        put_ahead(
+            &mut self.claims[position + 1..],
+            &mut self.markings,
+            outputs,
+        )?;
+        Ok(())
+    }
+
     // Sets what became of the claim at a position behind the committed part.
     fn complete(&mut self, position: usize, course: Course)
         requires within { position < length self.old.claims.items }
@@ -287,6 +313,7 @@ impl Log {
         ensures jobs { jobs_in self.new ≡ jobs_in self.old }
         ensures committed { (log_view self.new).committed ≡ (log_view self.old).committed }
         ensures settled { (log_view self.new).settled ≡ (log_view self.old).settled }
+        ensures picks { (log_view self.new).picks ≡ (log_view self.old).picks }
         ensures unclaimed { (log_view self.new).unclaimed ≡ (log_view self.old).unclaimed }
         ensures len { length self.new.claims.items ≡ length self.old.claims.items }
     {

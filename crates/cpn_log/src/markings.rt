@@ -3,9 +3,10 @@
 ghost use Rattle.cpn_log.specs.SettledViews.{CatchesUp};
 
 use crate::settled::{Behind, Exchange, Settled, caught_up};
-use crate::tokens::add_copies;
-use cpn_core::{Memory, Needs, Outputs};
+use crate::tokens::add_copy;
+use cpn_core::{Made, Memory, Needs, Outputs};
 use cpn_tmset::Marking;
+use std::alloc::Global;
 use std::mem;
 
 /// How the settled marking is kept.
@@ -27,10 +28,13 @@ pub(crate) struct Markings {
 }
 
 impl Markings {
-    ghost use Rattle.std.specs.Prelude.{◌≡◌, ◌≤◌, true, length, OnOk, OnErr, IsOk};
+    ghost use Rattle.std.specs.Prelude.{◌≡◌, ◌≤◌, true, length, IfOk, OnOk, OnErr, IsOk};
+    ghost use Rattle.cpn_definitions.specs.Marking.{add_token, on_place, token_at, tokens_at};
     ghost use Rattle.cpn_definitions.specs.Times.{last_time};
-    ghost use Rattle.cpn_definitions.specs.Occurrence.{add_made, subtract, threshold};
-    ghost use Rattle.cpn_tmset.specs.Limits.{HaveRoomFor};
+    ghost use Rattle.cpn_definitions.specs.Occurrence.{subtract, threshold};
+    ghost use Rattle.cpn_core.specs.Views.{value_view};
+    ghost use Rattle.cpn_tmset.specs.Limits.{HasRoom, HaveRoomFor};
+    ghost use Rattle.cpn_tmset.specs.StampsTaken.{stamps_taken};
     ghost use Rattle.cpn_log.specs.Exchanges.{exchanged, LeadsTo};
     ghost use Rattle.cpn_log.specs.MarkingViews.{IsApart, settled_in, unclaimed_in};
 
@@ -67,16 +71,22 @@ impl Markings {
         self.unclaimed
     }
 
-    /// Takes needs out of the unclaimed marking. After `Memory` both are as they were.
-    pub(crate) fn take(&mut self, needs: &Needs, time: u64) -> Result<(), Memory>
+    /// Takes needs out of the unclaimed marking, and gives the stamp of the token that each of them takes. After `Memory` both are as
+    /// they were.
+    pub(crate) fn take(
+        &mut self,
+        alloc: Global,
+        needs: &Needs,
+        time: u64,
+    ) -> Result<Vec<u64>, Memory>
         requires in_time { time ≤ last_time }
         ensures taken { OnOk result (unclaimed_in self.new ≡ subtract (threshold time) needs.now (unclaimed_in self.old)) }
+        ensures stamps { IfOk result (λ stamps. stamps.items ≡ stamps_taken time needs.now (unclaimed_in self.old)) }
         ensures unchanged { OnErr result (unclaimed_in self.new ≡ unclaimed_in self.old) }
         ensures settled { settled_in self.new ≡ settled_in self.old }
     {
         self.set_apart()?;
-        self.unclaimed.subtract(needs, time);
-        Ok(())
+        self.unclaimed.take_out(alloc, needs, time)
     }
 
     /// Takes needs out of both markings, where they are one, and puts outputs in. After `Memory` nothing is known of either.
@@ -97,14 +107,15 @@ impl Markings {
         self.unclaimed.add_made(outputs)
     }
 
-    /// Puts copies of outputs into the unclaimed marking. After `Memory` some of them may stand there.
-    pub(crate) fn add(&mut self, outputs: &Outputs) -> Result<(), Memory>
-        requires room { HaveRoomFor (length outputs.now) (unclaimed_in self.old) }
-        ensures added { OnOk result (unclaimed_in self.new ≡ add_made outputs.now (unclaimed_in self.old)) }
+    /// Puts a copy of a token with another stamp into the unclaimed marking; one for a place past the last one is lost. After `Memory`
+    /// both are as they were.
+    pub(crate) fn put(&mut self, made: &Made, stamp: u64) -> Result<(), Memory>
+        requires room { HasRoom (tokens_at (unclaimed_in self.old) made.now.place) }
+        ensures put { OnOk result (unclaimed_in self.new ≡ on_place made.now.place (add_token (token_at (value_view made.now.value) stamp)) (unclaimed_in self.old)) }
         ensures settled { settled_in self.new ≡ settled_in self.old }
     {
         self.set_apart()?;
-        add_copies(&mut self.unclaimed, outputs)
+        add_copy(&mut self.unclaimed, made, stamp)
     }
 
     /// Replaces the unclaimed marking. It takes no memory.

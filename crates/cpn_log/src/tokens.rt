@@ -17,18 +17,18 @@ pub(crate) fn add_copies(marking: &mut Marking, outputs: &Outputs) -> Result<(),
 {
     let tokens = outputs.tokens();
     for made in tokens {
-        add_copy(marking, made)?;
+        add_copy(marking, made, made.stamp)?;
     }
     Ok(())
 }
 
-// Puts a copy of the token on its place, if there is that place.
-fn add_copy(marking: &mut Marking, made: &Made) -> Result<(), Memory>
+/// Puts a copy of the token with a stamp on its place, if there is that place. After `Memory` the marking is as it was.
+pub(crate) fn add_copy(marking: &mut Marking, made: &Made, stamp: u64) -> Result<(), Memory>
     requires room { HasRoom (tokens_at marking.old made.now.place) }
-    ensures added { OnOk result (marking.new ≡ on_place made.now.place (add_token (token_at (value_view made.now.value) made.now.stamp)) marking.old) }
+    ensures added { OnOk result (marking.new ≡ on_place made.now.place (add_token (token_at (value_view made.now.value) stamp)) marking.old) }
 {
     if (made.place as usize) < marking.len() {
-        marking.add(made.place, made.value.copy()?, made.stamp)?;
+        marking.add(made.place, made.value.copy()?, stamp)?;
     }
     Ok(())
 }

@@ -5,61 +5,22 @@ use Rattle.std.specs.List.{filter}
 use Rattle.std.proofs.lemmas.Bool.{and_from}
 use Rattle.cpn_definitions.specs.Value.{PlainValue}
 use Rattle.cpn_definitions.specs.Order.{same_value}
-use Rattle.cpn_definitions.specs.ValueOrder.{same_value_true, same_value_refl, token_cmp_total, token_same}
+use Rattle.cpn_definitions.specs.ValueOrder.{same_value_refl, token_cmp_total, token_same}
 use Rattle.cpn_definitions.specs.Lists.{with_item}
-use Rattle.cpn_definitions.specs.Marking.{PlainToken, token_at, Tokens, Marking, tokens_at, on_place, token_cmp, add_token, without_token, stamps, covers, begins_by, without_latest, AreSorted}
+use Rattle.cpn_definitions.specs.Marking.{PlainToken, token_at, Tokens, Marking, tokens_at, on_place, token_cmp, add_token, without_token, stamps, covers, begins_by}
 use Rattle.cpn_definitions.specs.Occurrence.{Needed, Made, threshold, subtract}
 use Rattle.cpn_definitions.proofs.OrderedLists.{added_either_way}
-use Rattle.cpn_definitions.proofs.SortedTokens.{add_token_sorted, without_token_sorted, added_as_item}
+use Rattle.cpn_definitions.proofs.SortedTokens.{added_as_item}
 use Rattle.cpn_definitions.proofs.Stamps.{stamps_rise}
 use Rattle.cpn_definitions.proofs.Subtraction.{AllAreSorted, is_for, thresholds_for, sorted_without, taken}
-use Rattle.cpn_definitions.proofs.Addition.{with_stamp, with_stamps, stamps_with, is_made_for, with_made, add_made_is_more}
+use Rattle.cpn_definitions.proofs.Addition.{with_stamps, is_made_for, with_made, add_made_is_more}
 use Rattle.cpn_definitions.proofs.RicherMarkings.{covers_first}
-use Rattle.cpn_definitions.proofs.SameTokens.{same_tokens, stamps_of_without}
-use Rattle.cpn_runs.specs.HoleRun.{latest_stamp, pick_of, picks_of}
+use Rattle.cpn_tmset.specs.Stamps.{latest_stamp, is_preferred}
+use Rattle.cpn_tmset.proofs.CarriedStamps.{step}
+use Rattle.cpn_tmset.proofs.TakenAmong.{carried_on, take_among}
+use Rattle.cpn_runs.specs.HoleRun.{pick_of, picks_of}
 use Rattle.cpn_runs.specs.Filling.{pick_after, past_pick, claim_after, past_claim}
-use Rattle.cpn_runs.proofs.CarriedStamps.{is_preferred, step}
 use Rattle.cpn_runs.proofs.TwoPlaces.{different_places, one_place}
-
--- ---- the tokens of one place
-
--- the stamp that is carried on past the token that is taken of a value, where it is of that value
-abbrev pub carried_on : PlainValue → ℕ → PlainValue → ℕ → Tokens → ℕ
-carried_on v t u s ks = cond (same_value v u && is_preferred t (latest_stamp t (stamps v ks)) s) (latest_stamp t (stamps v ks)) s
-
--- one is taken among one more
-take_among : (v : PlainValue) (t : ℕ) (u : PlainValue) (s : ℕ) (ks : Tokens) → AreSorted ks → begins_by t (stamps v ks) ≡ true
-    → without_token v t (add_token (token_at u s) ks) ≡ add_token (token_at u (carried_on v t u s ks)) (without_token v t ks)
-take_among v t u s ks sorted found =
-    let more = add_token_sorted (token_at u s) ks sorted in
-    let fewer = without_token_sorted v t ks sorted in
-    same_tokens (without_token v t (add_token (token_at u s) ks)) (add_token (token_at u on) (without_token v t ks)) (without_token_sorted v t (add_token (token_at u s) ks) more) (add_token_sorted (token_at u on) (without_token v t ks) fewer)
-    (λ w. stamps_of_without w v t (add_token (token_at u s) ks) more
-    ∙ ap (λ ss. cond (same_value w v) (without_latest t ss) ss) (stamps_with w u s ks sorted)
-    ∙ cases w (same_value w v) (same_value w u) (same_value v u) refl refl refl
-    ∙ sym (stamps_with w u on (without_token v t ks) fewer ∙ ap (λ ss. cond (same_value w u) (with_stamp on ss) ss) (stamps_of_without w v t ks sorted)))
-  where
-    on : ℕ
-    on = carried_on v t u s ks
-
-    same_too : (x y : PlainValue) → x ≡ y → same_value x y ≡ true
-    same_too x y e = subst (λ z. same_value x z ≡ true) e (same_value_refl x)
-
-    cases
-        : (w : PlainValue) (b c d : Bool)
-        → same_value w v ≡ b
-        → same_value w u ≡ c
-        → same_value v u ≡ d
-        → cond b (without_latest t (cond c (with_stamp s (stamps w ks)) (stamps w ks))) (cond c (with_stamp s (stamps w ks)) (stamps w ks))
-        ≡ cond c (with_stamp (cond (d && is_preferred t (latest_stamp t (stamps v ks)) s) (latest_stamp t (stamps v ks)) s) (cond b (without_latest t (stamps w ks)) (stamps w ks))) (cond b (without_latest t (stamps w ks)) (stamps w ks))
-    cases w true true true hb hc hd =
-        subst (λ x. without_latest t (with_stamp s (stamps x ks)) ≡ with_stamp (cond (is_preferred t (latest_stamp t (stamps v ks)) s) (latest_stamp t (stamps v ks)) s) (without_latest t (stamps x ks))) (sym (same_value_true w v hb))
-        (step s t (stamps v ks) (stamps_rise v ks sorted) found).leaves
-    cases w true true false hb hc hd = let e : true ≡ false = sym (same_too v u (sym (same_value_true w v hb) ∙ same_value_true w u hc)) ∙ hd in cc
-    cases w true false d hb hc hd = refl
-    cases w false true true hb hc hd = let e : true ≡ false = sym (same_too w v (same_value_true w u hc ∙ sym (same_value_true v u hd))) ∙ hb in cc
-    cases w false true false hb hc hd = refl
-    cases w false false d hb hc hd = refl
 
 -- it makes no difference which of two tokens is added first
 add_either_way : (j k : PlainToken) (ks : Tokens) → add_token j (add_token k ks) ≡ add_token k (add_token j ks)
@@ -144,7 +105,7 @@ abbrev pub CoveredInTurn : ℕ → List Needed → Marking → Type 0
 CoveredInTurn time needs m = (p : ℕ) (v : PlainValue) → covers (stamps v (tokens_at m p)) (thresholds_for (threshold time) p v needs) ≡ true
 
 -- the first need finds a token
-first_found : (time : ℕ) (need : Needed) (needs : List Needed) (m : Marking) → AllAreSorted m → CoveredInTurn time (need ∷ needs) m → begins_by (threshold time need) (stamps need.value (tokens_at m need.place)) ≡ true
+pub first_found : (time : ℕ) (need : Needed) (needs : List Needed) (m : Marking) → AllAreSorted m → CoveredInTurn time (need ∷ needs) m → begins_by (threshold time need) (stamps need.value (tokens_at m need.place)) ≡ true
 first_found time need needs m sorted all =
     let rest = filter (is_for need.place need.value) needs in
     let own : is_for need.place need.value need ≡ true = and_from (need.place == need.place) (same_value need.value need.value) (eq-eqb need.place need.place refl) (same_value_refl need.value) in
@@ -153,7 +114,7 @@ first_found time need needs m sorted all =
     (covers_first (threshold time need) ss (map (threshold time) rest) (stamps_rise need.value (tokens_at m need.place) (sorted need.place)) here).0
 
 -- and what it leaves covers the others
-rest_covered : (time : ℕ) (need : Needed) (needs : List Needed) (m : Marking) → AllAreSorted m → CoveredInTurn time (need ∷ needs) m → CoveredInTurn time needs (on_place need.place (without_token need.value (threshold time need)) m)
+pub rest_covered : (time : ℕ) (need : Needed) (needs : List Needed) (m : Marking) → AllAreSorted m → CoveredInTurn time (need ∷ needs) m → CoveredInTurn time needs (on_place need.place (without_token need.value (threshold time need)) m)
 rest_covered time need needs m sorted all p v = split (is_for p v need) refl (all p v)
   where
     split

@@ -4,14 +4,15 @@ use Rattle.std.proofs.Common.{◌≡◌, ℕ, suc, ◌≤◌, true, nat_lt, nat_
 use Rattle.std.proofs.lemmas.Bool.{cond_both, and_parts}
 use Rattle.std.proofs.lemmas.List.{take-append-drop}
 use Rattle.cpn_definitions.specs.Occurrence.{Made}
+use Rattle.cpn_tmset.specs.Stamps.{is_preferred}
 use Rattle.cpn_runs.specs.HoleRun.{PlainPick, PlainHoleRun}
-use Rattle.cpn_runs.specs.Filling.{is_of_token, prefers, takes, pick_after, past_pick, claim_after, past_claim, claims_after, past_claims, picks_after, carried_past, IsLeftFor, IsLaterPick, EachTwo, filled_run}
+use Rattle.cpn_runs.specs.Filling.{is_of_token, takes, pick_after, past_pick, claim_after, past_claim, claims_after, past_claims, picks_after, carried_past, IsLeftFor, IsLaterPick, EachTwo, filled_run}
 use Rattle.cpn_runs.proofs.EachTwoItems.{each_itself, each_through, each_joined}
 
 -- a pick takes a token that is later than its own
 later_than_own : (made : Made) (pick : PlainPick) → takes pick made ≡ true → pick.stamp ≤ made.stamp
 later_than_own made pick is =
-    let preferred = and_parts (is_of_token pick made) (prefers pick made.stamp) is in
+    let preferred = and_parts (is_of_token pick made) (is_preferred pick.threshold pick.stamp made.stamp) is in
     let lt = ltb-true pick.stamp made.stamp (and_parts (nat_lt pick.stamp made.stamp) (nat_le made.stamp pick.threshold) preferred.1).0 in
     omega arith
 

@@ -13,9 +13,8 @@ pub mod MeasuredStates
 pub mod GrownRuns
 pub mod NumberedJournals
 mod Picks
-mod CarriedStamps
 mod TwoPlaces
-mod CarriedTokens
+pub mod CarriedTokens
 pub mod FilledRuns
 pub mod KeptPicks
 pub mod FilledStates

@@ -1,8 +1,8 @@
 -- The picks of a claim: of each value on each place, they are the stamps that its thresholds take in turn, none above its own;
 -- and with what is left they are what was there.
-use Rattle.std.proofs.Common.{◌≡◌, ℕ, suc, ◌<◌, ◌≤◌, ◌==◌, Bool, true, false, ◌&&◌, cond, nat_le, List, [], ◌∷◌, map, length, Some, refl, sym, ap, ap₂, ◌∙◌, eqb-true, arith, nat_cmp, is_lt, leb-true, leb-false}
+use Rattle.std.proofs.Common.{◌≡◌, ℕ, suc, ◌==◌, Bool, true, false, ◌&&◌, cond, nat_le, List, [], ◌∷◌, map, length, Some, refl, sym, ap, ap₂, ◌∙◌, eqb-true, nat_cmp, is_lt, leb-true}
 use Rattle.std.specs.List.{filter}
-use Rattle.std.proofs.lemmas.Bool.{cond-true, cond-false, cond_both, and_parts}
+use Rattle.std.proofs.lemmas.Bool.{cond-true, cond-false, and_parts}
 use Rattle.std.proofs.lemmas.Cmp.{nat_cmp_total}
 use Rattle.std.proofs.lemmas.Option.{same_Some}
 use Rattle.cpn_definitions.specs.Value.{PlainValue}
@@ -12,12 +12,14 @@ use Rattle.cpn_definitions.specs.Lists.{IsInOrder}
 use Rattle.cpn_definitions.specs.Marking.{Marking, tokens_at, on_place, without_token, stamps, covers, begins_by, without_latest, less}
 use Rattle.cpn_definitions.specs.Occurrence.{Needed, needed_cmp, threshold, are_covered, subtract}
 use Rattle.cpn_definitions.proofs.OrderedLists.{added_either_way}
-use Rattle.cpn_definitions.proofs.Stamps.{IsAtMostEach, AreRising, stamps_rise}
+use Rattle.cpn_definitions.proofs.Stamps.{AreRising, stamps_rise}
 use Rattle.cpn_definitions.proofs.Subtraction.{AllAreSorted, is_for, thresholds_for, sorted_without, taken, subtract_is_less}
 use Rattle.cpn_definitions.proofs.Addition.{with_stamp, with_stamps}
 use Rattle.cpn_definitions.proofs.RicherMarkings.{without_rising, covers_first, covered_in_turn}
-use Rattle.cpn_definitions.proofs.NumberTests.{same_number, is_behind, is_ahead}
-use Rattle.cpn_runs.specs.HoleRun.{PlainClaim, PlainPick, PlainHoleRun, latest_stamp, pick_of, picks_of, after_claim, hole_run}
+use Rattle.cpn_definitions.proofs.NumberTests.{same_number, is_behind}
+use Rattle.cpn_tmset.specs.Stamps.{latest_stamp}
+use Rattle.cpn_tmset.proofs.CarriedStamps.{latest_at_least, ahead_of}
+use Rattle.cpn_runs.specs.HoleRun.{PlainClaim, PlainPick, PlainHoleRun, pick_of, picks_of, after_claim, hole_run}
 use Rattle.cpn_runs.proofs.Sequences.{run_on}
 
 -- ---- the stamps of one value
@@ -26,15 +28,6 @@ use Rattle.cpn_runs.proofs.Sequences.{run_on}
 abbrev pub taken_by : List ℕ → List ℕ → List ℕ
 taken_by [] ss = []
 taken_by (t ∷ ts) ss = latest_stamp t ss ∷ taken_by ts (without_latest t ss)
-
-pub latest_at_least : (t s : ℕ) (ss : List ℕ) → IsAtMostEach s ss → begins_by t ss ≡ true → s ≤ latest_stamp t ss
-latest_at_least t s [] below found = absurd cc
-latest_at_least t s (r ∷ rs) below found = cond_both (begins_by t rs) (latest_stamp t rs) r (λ x. s ≤ x) (λ h. latest_at_least t s rs below.1 h) (λ _. below.0)
-
--- a stamp stands ahead of those that are all above a threshold that it is not above
-pub ahead_of : (t s : ℕ) (rs : List ℕ) → s ≤ t → begins_by t rs ≡ false → with_stamp s rs ≡ s ∷ rs
-ahead_of t s [] low none = refl
-ahead_of t s (r ∷ rs) low none = cond-true (is_lt (nat_cmp s r)) (s ∷ r ∷ rs) (r ∷ with_stamp s rs) (is_ahead s r (let above : t < r = leb-false r t none in omega arith))
 
 -- the stamp that is taken and those that are left are what was there
 taken_back : (t : ℕ) (ss : List ℕ) → AreRising ss → begins_by t ss ≡ true → with_stamp (latest_stamp t ss) (without_latest t ss) ≡ ss

@@ -7,7 +7,8 @@ use Rattle.cpn_definitions.specs.Marking.{Marking, token_at}
 use Rattle.cpn_definitions.specs.Outcome.{gives, faults, no_meaning, not_in_colour, overflow}
 use Rattle.cpn_definitions.specs.Occurrence.{PlainElement, Needed, Made}
 use Rattle.cpn_draw.specs.Draw.{generator, word}
-use Rattle.cpn_runs.specs.HoleRun.{PlainClaim, Status, open_claim, done_with, faulted_with, PlainPick, hole_run, marking_left, unclaimed, settled, latest_stamp}
+use Rattle.cpn_tmset.specs.Stamps.{latest_stamp}
+use Rattle.cpn_runs.specs.HoleRun.{PlainClaim, Status, open_claim, done_with, faulted_with, PlainPick, hole_run, marking_left, unclaimed, settled}
 use Rattle.cpn_definitions.specs.Enabled.{PlainEntry}
 use Rattle.cpn_runs.specs.State.{PlainSetup, PlainState, IsDrawn, fault_end, committed, owed_cut, is_held_by, status_after, committed_occurrences}
 

@@ -1,8 +1,9 @@
 -- Filling: a claim that added nothing adds its outputs, where it stands in the order of claims. What becomes of the picks of the
 -- claims behind it, and which tokens are left over. Source: own choice.
-use Rattle.std.specs.Prelude.{◌≡◌, ℕ, suc, ◌≤◌, ◌==◌, Bool, ◌&&◌, if◌then◌else◌, nat_lt, nat_le, List, [], ◌∷◌, ◌++◌, take, drop, Some}
+use Rattle.std.specs.Prelude.{◌≡◌, ℕ, suc, ◌≤◌, ◌==◌, Bool, ◌&&◌, if◌then◌else◌, List, [], ◌∷◌, ◌++◌, take, drop, Some}
 use Rattle.cpn_definitions.specs.Order.{same_value}
 use Rattle.cpn_definitions.specs.Occurrence.{Made, add_made}
+use Rattle.cpn_tmset.specs.Stamps.{is_preferred}
 use Rattle.cpn_runs.specs.HoleRun.{PlainPick, PlainHoleRun, hole_run}
 use Rattle.cpn_runs.specs.State.{PlainSetup, PlainState, unclaimed_in}
 
@@ -12,13 +13,9 @@ use Rattle.cpn_runs.specs.State.{PlainSetup, PlainState, unclaimed_in}
 abbrev pub is_of_token : PlainPick → Made → Bool
 is_of_token pick made = (pick.place == made.place) && same_value pick.value made.value
 
--- whether a pick prefers a stamp to its own: the stamp is later, and not above the pick's threshold
-abbrev pub prefers : PlainPick → ℕ → Bool
-prefers pick s = nat_lt pick.stamp s && nat_le s pick.threshold
-
--- whether a pick takes a token in exchange for its own
+-- whether a pick takes a token in exchange for its own: its threshold prefers the token's stamp
 abbrev pub takes : PlainPick → Made → Bool
-takes pick made = is_of_token pick made && prefers pick made.stamp
+takes pick made = is_of_token pick made && is_preferred pick.threshold pick.stamp made.stamp
 
 -- a pick after a token was carried past it: where it takes the token it has that stamp, else its own
 abbrev pub pick_after : Made → PlainPick → PlainPick

@@ -2,9 +2,10 @@
 use Rattle.std.specs.Prelude.{ℕ, Bool, true, false, if◌then◌else◌, List, [], ◌∷◌, take, Option, Some, None}
 use Rattle.std.specs.Option.{option_map}
 use Rattle.cpn_definitions.specs.Value.{PlainValue}
-use Rattle.cpn_definitions.specs.Marking.{Marking, tokens_at, on_place, stamps, begins_by, without_token}
+use Rattle.cpn_definitions.specs.Marking.{Marking, tokens_at, on_place, stamps, without_token}
 use Rattle.cpn_definitions.specs.Outcome.{Fault}
 use Rattle.cpn_definitions.specs.Occurrence.{PlainElement, Needed, Made, threshold, are_covered, subtract, add_made}
+use Rattle.cpn_tmset.specs.Stamps.{latest_stamp}
 
 -- What became of a claim: it is open, done with the tokens that it made, or done with a fault of its outputs.
 pub data Status : Type 0 where
@@ -32,11 +33,6 @@ pub record PlainPick : Type 0 where
   pub value : PlainValue
   pub threshold : ℕ
   pub stamp : ℕ
-
--- the largest of sorted stamps that is not above the threshold, where there is one
-abbrev pub latest_stamp : ℕ → List ℕ → ℕ
-latest_stamp t [] = t
-latest_stamp t (s ∷ ss) = if begins_by t ss then latest_stamp t ss else s
 
 -- the pick of a need from a marking
 abbrev pub pick_of : ℕ → Needed → Marking → PlainPick

@@ -36,17 +36,17 @@ order_ends (p ∷ left) (q ∷ right) (suc i) e = order_ends left right i (omega
 
 -- ---- what is sorted rises
 
-abbrev binding_in : EnabledElement → PlainBinding
+abbrev pub binding_in : EnabledElement → PlainBinding
 binding_in x = (found_view x).binding
 
 -- by their values, in declaration order
 abbrev pub values_in_order : EnabledElement → List PlainValue
 values_in_order f = map (λ (pair : ℕ × PlainValue). pair.1) (binding_in f)
 
-abbrev comes_before : EnabledElement → EnabledElement → Bool
+abbrev pub comes_before : EnabledElement → EnabledElement → Bool
 comes_before f g = is_lt (binding_cmp (binding_in f) (binding_in g))
 
-not_after : (f g : EnabledElement) → comes_before g f ≡ false → (binding_cmp (binding_in f) (binding_in g) ≡ Equal → ⊥) → binding_cmp (binding_in f) (binding_in g) ≡ Less
+pub not_after : (f g : EnabledElement) → comes_before g f ≡ false → (binding_cmp (binding_in f) (binding_in g) ≡ Equal → ⊥) → binding_cmp (binding_in f) (binding_in g) ≡ Less
 not_after f g before differ = split (binding_cmp (binding_in f) (binding_in g)) refl
   where
     back : binding_cmp (binding_in g) (binding_in f) ≡ ordering_reverse (binding_cmp (binding_in f) (binding_in g))
@@ -60,7 +60,7 @@ not_after f g before differ = split (binding_cmp (binding_in f) (binding_in g)) 
         clash : is_lt (binding_cmp (binding_in g) (binding_in f)) ≡ true → is_lt (binding_cmp (binding_in g) (binding_in f)) ≡ false → Greater ≡ Less
         clash h g' = cc
 
-sorted_rest : (f : EnabledElement) (fs : List EnabledElement) → IsSortedBy comes_before (f ∷ fs) → IsSortedBy comes_before fs
+pub sorted_rest : (f : EnabledElement) (fs : List EnabledElement) → IsSortedBy comes_before (f ∷ fs) → IsSortedBy comes_before fs
 sorted_rest f fs sorted k d low lt =
     let next : suc k + 1 ≡ suc (k + 1) = omega arith in
     subst (λ (j : ℕ). comes_before (get_or (f ∷ fs) j d) (get_or fs k d) ≡ false) next (sorted (suc k) d (omega arith) (omega arith))

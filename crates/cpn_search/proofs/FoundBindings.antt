@@ -42,7 +42,7 @@ abbrev found_at : PlainBinding → ℕ → PlainFound
 found_at b time = record { binding = b; earliest = time }
 
 -- an entry of a found binding
-entry_is : (n : PlainNet) (m : Marking) (t time other : ℕ) (b : PlainBinding) → IsLeastTime n m (element_of t b) time → IsLeastTime n m (element_of t b) other → time ≡ other
+pub entry_is : (n : PlainNet) (m : Marking) (t time other : ℕ) (b : PlainBinding) → IsLeastTime n m (element_of t b) time → IsLeastTime n m (element_of t b) other → time ≡ other
 entry_is n m t time other b first second = least_is_one n m 0 other (record { earliest = time; element = element_of t b }) first second
 
 module _ (n : PlainNet) (m : Marking) (t : ℕ) (bindings : List PlainBinding) (found : List PlainFound) (b : PlainBinding) (so_far : FoundAmong n m t bindings found) (new : IsIn b bindings → ⊥) where
@@ -119,10 +119,10 @@ same_binding n (x ∷ xs) (p ∷ b) (q ∷ c) first second is =
     ap₂ (λ (pair : ℕ × PlainValue) (others : PlainBinding). pair ∷ others) (ap₂ (λ (y : ℕ) (v : PlainValue). (y, v)) (sym px ∙ qx) value) rest
 
 -- an entry is that of what was found
-abbrev entry_of : ℕ → PlainFound → PlainEntry
+abbrev pub entry_of : ℕ → PlainFound → PlainEntry
 entry_of t f = record { earliest = f.earliest; element = element_of t f.binding }
 
-found_entry : (t : ℕ) (x : PlainEntry) → x.element.transition ≡ t → entry_of t (record { binding = x.element.binding; earliest = x.earliest }) ≡ x
+pub found_entry : (t : ℕ) (x : PlainEntry) → x.element.transition ≡ t → entry_of t (record { binding = x.element.binding; earliest = x.earliest }) ≡ x
 found_entry t x is = ap (λ (k : ℕ). record { earliest = x.earliest; element = element_of k x.element.binding }) (sym is)
 
 -- what was found among bindings that have all with which the transition is covered, in order, is what is enabled

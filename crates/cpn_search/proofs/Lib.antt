@@ -6,6 +6,7 @@ mod KnownTransitions
 mod Transitions
 mod SearchStates
 mod FoundBindings
+mod DifferentEnds
 mod TurnedSearches
 mod BindingOrder
 mod TurnSteps
@@ -15,3 +16,7 @@ mod PlannedTransitions
 mod FoundElements
 mod SharedParts
 mod SolvingEquations
+mod PlannedTrials
+mod OnceFound
+mod HeldTrials
+mod FoundWith

@@ -14,7 +14,7 @@ use Rattle.cpn_core.specs.declared.nets.Net.{Net}
 use Rattle.cpn_core.specs.declared.nets.Transition.{Transition}
 use Rattle.cpn_core.specs.Nets.{transition_view, net_view}
 use Rattle.cpn_bindable.specs.Known.{carried_variables}
-use Rattle.cpn_stages.specs.Stages.{Stage, by_term, by_equation, by_size, variables_at, variables_at_each, terms_at, term_stages, is_among, those_without, equations_in, first_solving, IsFirstSmall, Further, none_left, next_equation, next_small, AreStages}
+use Rattle.cpn_stages.specs.Stages.{Stage, by_term, by_equation, by_size, by_value, variables_at, variables_at_each, terms_at, term_stages, is_among, those_without, equations_in, first_solving, IsFirstSmall, Further, none_left, next_equation, next_small, AreStages}
 use Rattle.cpn_stages.proofs.Numbers.{in_from_among, from_without}
 use Rattle.cpn_stages.proofs.Guards.{found_is}
 use Rattle.cpn_stages.proofs.LastingPlans.{never_stuck, none_in_terms, fewer_without}
@@ -204,6 +204,7 @@ abbrev IsTerm : Stage → Type 0
 IsTerm (by_term place p) = Unit {0}
 IsTerm (by_equation x e) = ⊥
 IsTerm (by_size x) = ⊥
+IsTerm (by_value place p v) = Unit {0}
 
 terms_at_place : (place : ℕ) (terms : List BindingTerm) → AllByRecursion IsTerm (map (λ (term : BindingTerm). by_term place term.pattern) terms)
 terms_at_place place [] = tt

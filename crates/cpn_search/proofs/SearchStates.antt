@@ -1,5 +1,5 @@
 -- A search goes on: the last of those that are under way is an end, or its next trial makes others of it.
-use Rattle.std.proofs.Common.{◌≡◌, ℕ, zero, suc, ◌+◌, ◌<◌, List, [], ◌∷◌, ◌++◌, map, take, drop, reverse, length, refl, sym, ap, ap₂, ◌∙◌, subst, ⊎_elim, arith, append_assoc, append-nil}
+use Rattle.std.proofs.Common.{◌≡◌, ℕ, zero, suc, ◌+◌, ◌<◌, ◌≤◌, List, [], ◌∷◌, ◌++◌, map, take, drop, reverse, length, refl, sym, ap, ap₂, ◌∙◌, subst, ⊎_elim, arith, append_assoc, append-nil}
 use Rattle.std.specs.List.{flat_map}
 use Rattle.std.proofs.lemmas.Grind.{reverse_onto, flat_map-append}
 use Rattle.std.proofs.lemmas.List.{reverse-append, map-append}
@@ -10,16 +10,16 @@ use Rattle.cpn_definitions.specs.Net.{PlainTransition, PlainNet}
 use Rattle.cpn_definitions.specs.Meaning.{meaning}
 use Rattle.cpn_definitions.proofs.RisingLists.{IsIn, in_from_contains, contains_from_in, in_append_cases, each_in, each_mapped}
 use Rattle.cpn_stages.specs.Partial.{PlainPartial, bound_in}
-use Rattle.cpn_stages.specs.Stages.{Stage, by_term, by_equation, by_size, variables_at, variables_at_each}
+use Rattle.cpn_stages.specs.Stages.{Stage, by_term, by_equation, by_size, by_value, variables_at, variables_at_each}
 use Rattle.cpn_definitions.specs.Sound.{IsSolvable}
 use Rattle.cpn_definitions.proofs.ListItems.{head_of}
 use Rattle.cpn_stages.specs.Orderly.{IsTimelyStage, AreOrderly}
-use Rattle.cpn_stages.specs.Trials.{Trial, solving, next, ends, made, sum_of, IsTrialOf, AreTrialsOf}
+use Rattle.cpn_stages.specs.Trials.{Trial, solving, next, ends, made, sum_of, tries_of, tried, IsTrialOf, AreTrialsOf}
 use Rattle.cpn_stages.proofs.Partials.{extends_variables, value_stays}
 use Rattle.cpn_stages.proofs.Ends.{next_is}
 use Rattle.cpn_stages.proofs.TransitionEnds.{equation_means}
 use Rattle.cpn_search.specs.TrialViews.{PlainUnderWay, after}
-use Rattle.cpn_search.specs.Searches.{IsUnderWay, AreUnderWay, pending, still_made}
+use Rattle.cpn_search.specs.Searches.{IsUnderWay, AreUnderWay, pending, still_made, tries_at, still_tried}
 
 -- ---- what is pending
 
@@ -84,6 +84,44 @@ fewer_next n trials rest trial front b k here later =
     let old = still_both n trials front ((b, k) ∷ []) in
     let same : still_made n trials (after (k + 1) (next n trial b)) ≡ sum_of (map (made n rest) (next n trial b)) = ap sum_of (map_after n trials rest (k + 1) (next n trial b) later) in
     let own : made n (drop k trials) b ≡ suc (sum_of (map (made n rest) (next n trial b))) = ap (λ ts. made n ts b) here in
+    omega (arith, new, old, same, own)
+
+-- ---- how many tries are left
+
+abbrev tried_of : PlainNet → List Trial → PlainUnderWay → ℕ
+tried_of n trials o = tried n (drop o.1 trials) o.0
+
+tried_both : (n : PlainNet) (trials : List Trial) (front back : List PlainUnderWay) → still_tried n trials (front ++ back) ≡ still_tried n trials front + still_tried n trials back
+tried_both n trials front back = ap sum_of (map-append (tried_of n trials) front back) ∙ sum_both (map (tried_of n trials) front) (map (tried_of n trials) back)
+
+tried_after : (n : PlainNet) (trials rest : List Trial) (k : ℕ) (bs : List PlainPartial) → drop k trials ≡ rest → map (tried_of n trials) (after k bs) ≡ map (tried n rest) bs
+tried_after n trials rest k [] is = refl
+tried_after n trials rest k (b ∷ bs) is = ap₂ (λ (x : ℕ) xs. x ∷ xs) (ap (λ ts. tried n ts b) is) (tried_after n trials rest k bs is)
+
+tries_at_most : (n : PlainNet) (left : List Trial) (b : PlainPartial) → tries_at left ≤ tried n left b
+tries_at_most n [] b = omega arith
+tries_at_most n (trial ∷ left) b = omega arith
+
+-- the tries of the last one are among those that are still to be made
+pub tries_within : (n : PlainNet) (trials : List Trial) (front : List PlainUnderWay) (o : PlainUnderWay) → tries_at (drop o.1 trials) ≤ still_tried n trials (front ++ o ∷ [])
+tries_within n trials front o =
+    let both = tried_both n trials front (o ∷ []) in
+    let own = tries_at_most n (drop o.1 trials) o.0 in
+    omega (arith, both, own)
+
+pub tries_end : (n : PlainNet) (trials : List Trial) (front : List PlainUnderWay) (b : PlainPartial) (k : ℕ) → drop k trials ≡ [] → still_tried n trials (front ++ (b, k) ∷ []) ≡ 1 + still_tried n trials front
+tries_end n trials front b k none_left =
+    let both = tried_both n trials front ((b, k) ∷ []) in
+    let own : tried n (drop k trials) b ≡ 1 = ap (λ ts. tried n ts b) none_left in
+    omega (arith, both, own)
+
+pub tries_next : (n : PlainNet) (trials rest : List Trial) (trial : Trial) (front : List PlainUnderWay) (b : PlainPartial) (k : ℕ) → drop k trials ≡ trial ∷ rest → drop (k + 1) trials ≡ rest
+    → still_tried n trials (front ++ (b, k) ∷ []) ≡ tries_of trial + still_tried n trials (front ++ after (k + 1) (next n trial b))
+tries_next n trials rest trial front b k here later =
+    let new = tried_both n trials front (after (k + 1) (next n trial b)) in
+    let old = tried_both n trials front ((b, k) ∷ []) in
+    let same : still_tried n trials (after (k + 1) (next n trial b)) ≡ sum_of (map (tried n rest) (next n trial b)) = ap sum_of (tried_after n trials rest (k + 1) (next n trial b) later) in
+    let own : tried n (drop k trials) b ≡ tries_of trial + sum_of (map (tried n rest) (next n trial b)) = ap (λ ts. tried n ts b) here in
     omega (arith, new, old, same, own)
 
 -- ---- what is under way
@@ -156,3 +194,4 @@ solving_means n m t stages trials rest x e b k solvable orderly of_them here is 
         subst (λ (g : PlainExpr). HasMeaning (meaning n.functions g (bound_in b) 0)) (sym of_it.1)
         (equation_means n t (take k stages) b y f solvable timely is.admitted (λ z g. is.known z (contains_from_in (variables_at_each (take k stages)) z g)))
     by_stage (by_size y) of_it timely = absurd of_it
+    by_stage (by_value place p v) of_it timely = absurd of_it

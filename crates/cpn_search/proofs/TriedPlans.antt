@@ -1,5 +1,5 @@
 -- Stage by stage, what is tried at a plan; and it is the trials of the plan's stages.
-use Rattle.std.proofs.Common.{◌≡◌, ℕ, zero, suc, ◌+◌, ◌<◌, List, [], ◌∷◌, ◌++◌, map, take, drop, length, get_or, refl, sym, ap, ◌∙◌, subst, arith, add-one}
+use Rattle.std.proofs.Common.{◌≡◌, ℕ, zero, suc, ◌+◌, ◌<◌, List, [], ◌∷◌, ◌++◌, map, take, drop, length, get_or, refl, sym, ap, ◌∙◌, subst, arith, add-one, append_assoc}
 use Rattle.std.specs.List.{flat_map, AllByRecursion}
 use Rattle.std.proofs.lemmas.List.{map-append}
 use Rattle.cpn_definitions.specs.Marking.{Marking, tokens_at, AreSorted}
@@ -8,24 +8,22 @@ use Rattle.cpn_definitions.specs.Bindable.{binding_terms}
 use Rattle.cpn_definitions.proofs.Markings.{marking_length}
 use Rattle.cpn_definitions.proofs.RisingLists.{each_appended}
 use Rattle.cpn_definitions.specs.Sound.{IsSoundInput, IsSoundTransition, IsMarking}
-use Rattle.cpn_stages.specs.Stages.{Stage, by_term, by_equation, by_size, terms_at, term_stages, those_without, Further, none_left, next_equation, next_small, AreStages}
+use Rattle.cpn_stages.specs.Stages.{Stage, by_term, by_equation, by_size, by_value, terms_at, term_stages, those_without, Further, none_left, next_equation, next_small, AreStages}
 use Rattle.cpn_stages.specs.Trials.{Trial, IsTrialOf, AreTrialsOf}
 use Rattle.cpn_core.specs.Views.{value_view}
-use Rattle.cpn_search.specs.SharedViews.{term_pattern, equation_inscription}
 use Rattle.cpn_search.specs.declared.plan.Stage as program
 use Rattle.cpn_search.specs.declared.plan.Stage.TheVariants as stages
 use Rattle.cpn_search.specs.declared.trials.Trial as trial
 use Rattle.cpn_search.specs.StageViews.{stage_view, stages_view, HasAllValues}
 use Rattle.cpn_search.specs.TrialViews.{trial_view, trials_view}
 use Rattle.cpn_search.proofs.ValuesOfTokens.{rising_differ, values_just}
-use Rattle.cpn_search.specs.TriedStages.{IsPlaced, IsTriedAs, AreTriedAs}
+use Rattle.cpn_search.specs.TriedStages.{IsPlaced, trial_at, trials_at}
 
-tried_more : (m : Marking) (ss : List program.Stage) (ts : List Trial) (i : ℕ) (s : program.Stage) (t : Trial) → i < length ss → s ≡ get_or ss i s → AreTriedAs m (take i ss) ts → IsTriedAs m s t → AreTriedAs m (take (suc i) ss) (ts ++ t ∷ [])
-tried_more m [] ts i s t lt is so new = absurd (omega arith)
-tried_more m (r ∷ ss) [] zero s t lt is so new = (subst (λ (k : program.Stage). IsTriedAs m k t) is new, tt)
-tried_more m (r ∷ ss) (u ∷ ts) zero s t lt is so new = absurd so
-tried_more m (r ∷ ss) [] (suc i) s t lt is so new = absurd so
-tried_more m (r ∷ ss) (u ∷ ts) (suc i) s t lt is so new = (so.0, tried_more m ss ts i s t (omega arith) is so.1 new)
+-- what is tried at the stages from a number on
+tried_from : (m : Marking) (ss : List program.Stage) (i : ℕ) (s : program.Stage) → i < length ss → s ≡ get_or ss i s → trials_at m (drop i ss) ≡ trial_at m s ∷ trials_at m (drop (suc i) ss)
+tried_from m [] i s lt is = absurd (omega arith)
+tried_from m (r ∷ ss) zero s lt is = ap (λ (k : program.Stage). trial_at m k ∷ trials_at m ss) (sym is)
+tried_from m (r ∷ ss) (suc i) s lt is = tried_from m ss i s (omega arith) is
 
 left_placed : (k : ℕ) (ss : List program.Stage) (i : ℕ) → AllByRecursion (IsPlaced k) (stages_view (drop i ss)) → AllByRecursion (IsPlaced k) (stages_view (drop (suc i) ss))
 left_placed k [] zero placed = tt
@@ -35,26 +33,45 @@ left_placed k (s ∷ ss) (suc i) placed = left_placed k ss i placed
 
 pub one_tried
     : (m : Marking) (ss : List program.Stage) (ts now : List trial.Trial) (i : ℕ) (s : program.Stage) (t : trial.Trial)
-    → i < length ss → s ≡ get_or ss i s → AreTriedAs m (take i ss) (trials_view ts) → IsTriedAs m s (trial_view t) → now ≡ ts ++ t ∷ [] → AreTriedAs m (take (i + 1) ss) (trials_view now)
-one_tried m ss ts now i s t lt is so new are =
-    rw add-one (subst (AreTriedAs m (take (suc i) ss)) (sym (ap trials_view are ∙ map-append trial_view ts (t ∷ []))) (tried_more m ss (trials_view ts) i s (trial_view t) lt is so new))
+    → i < length ss → s ≡ get_or ss i s → trial_view t ≡ trial_at m s → now ≡ ts ++ t ∷ [] → trials_view now ++ trials_at m (drop (i + 1) ss) ≡ trials_view ts ++ trials_at m (drop i ss)
+one_tried m ss ts now i s t lt is new are =
+    rw add-one
+    (ap (λ (k : List trial.Trial). trials_view k ++ trials_at m (drop (suc i) ss)) are ∙ ap (λ ks. ks ++ trials_at m (drop (suc i) ss)) (map-append trial_view ts (t ∷ []))
+    ∙ append_assoc (trials_view ts) (trial_view t ∷ []) (trials_at m (drop (suc i) ss))
+    ∙ ap (λ (k : Trial). trials_view ts ++ k ∷ trials_at m (drop (suc i) ss)) new ∙ ap (λ ks. trials_view ts ++ ks) (sym (tried_from m ss i s lt is)))
 
 pub rest_placed : (k : ℕ) (ss : List program.Stage) (i : ℕ) → AllByRecursion (IsPlaced k) (stages_view (drop i ss)) → AllByRecursion (IsPlaced k) (stages_view (drop (i + 1) ss))
 rest_placed k ss i placed = rw add-one (left_placed k ss i placed)
 
+-- some of the stages
+placed_taken : (k : ℕ) (ss : List program.Stage) (i : ℕ) → AllByRecursion (IsPlaced k) (stages_view ss) → AllByRecursion (IsPlaced k) (stages_view (take i ss))
+placed_taken k [] zero placed = tt
+placed_taken k [] (suc i) placed = tt
+placed_taken k (s ∷ ss) zero placed = tt
+placed_taken k (s ∷ ss) (suc i) placed = (placed.0, placed_taken k ss i placed.1)
+
+placed_dropped : (k : ℕ) (ss : List program.Stage) (i : ℕ) → AllByRecursion (IsPlaced k) (stages_view ss) → AllByRecursion (IsPlaced k) (stages_view (drop i ss))
+placed_dropped k [] zero placed = tt
+placed_dropped k [] (suc i) placed = tt
+placed_dropped k (s ∷ ss) zero placed = placed
+placed_dropped k (s ∷ ss) (suc i) placed = placed_dropped k ss i placed.1
+
+pub placed_before : (k : ℕ) (ss xs : List program.Stage) (i : ℕ) → xs ≡ ss → AllByRecursion (IsPlaced k) (stages_view ss) → AllByRecursion (IsPlaced k) (stages_view (take i xs))
+placed_before k ss xs i same placed = placed_taken k xs i (subst (λ (ys : List program.Stage). AllByRecursion (IsPlaced k) (stages_view ys)) (sym same) placed)
+
+pub placed_behind : (k : ℕ) (ss xs : List program.Stage) (i j : ℕ) → xs ≡ ss → AllByRecursion (IsPlaced k) (stages_view ss) → AllByRecursion (IsPlaced k) (stages_view (take j (drop i xs)))
+placed_behind k ss xs i j same placed = placed_taken k (drop i xs) j (placed_dropped k xs i (subst (λ (ys : List program.Stage). AllByRecursion (IsPlaced k) (stages_view ys)) (sym same) placed))
+
 -- ---- as the trials of the stages
 
-tried_is_of : (n : PlainNet) (m : Marking) (s : program.Stage) (t : Trial) → ((p : ℕ) → AreSorted (tokens_at m p)) → HasAllValues n s → IsTriedAs m s t → IsTrialOf n m (stage_view s) t
-tried_is_of n m (stages.Term place term) t sorted full is = subst (IsTrialOf n m (by_term place (term_pattern term))) (sym is) (refl, values_just m place (sorted place))
-tried_is_of n m (stages.Equation variable equation) t sorted full is = subst (IsTrialOf n m (by_equation variable (equation_inscription equation))) (sym is) (refl, refl)
-tried_is_of n m (stages.Small variable values) t sorted full is =
-    subst (IsTrialOf n m (by_size variable)) (sym is) (refl, record { differ = rising_differ (map value_view values.items) full.in_order; all = full.all })
+tried_is_of : (n : PlainNet) (m : Marking) (s : program.Stage) → ((p : ℕ) → AreSorted (tokens_at m p)) → HasAllValues n s → IsTrialOf n m (stage_view s) (trial_at m s)
+tried_is_of n m (stages.Term place term) sorted full = (refl, values_just m place (sorted place))
+tried_is_of n m (stages.Equation variable equation) sorted full = (refl, refl)
+tried_is_of n m (stages.Small variable values) sorted full = (refl, record { differ = rising_differ (map value_view values.items) full.in_order; all = full.all })
 
-pub tried_are_of : (n : PlainNet) (m : Marking) (ss : List program.Stage) (ts : List Trial) → ((p : ℕ) → AreSorted (tokens_at m p)) → AllByRecursion (HasAllValues n) ss → AreTriedAs m ss ts → AreTrialsOf n m (stages_view ss) ts
-tried_are_of n m [] [] sorted full are = tt
-tried_are_of n m [] (t ∷ ts) sorted full are = absurd are
-tried_are_of n m (s ∷ ss) [] sorted full are = absurd are
-tried_are_of n m (s ∷ ss) (t ∷ ts) sorted full are = (tried_is_of n m s t sorted full.0 are.0, tried_are_of n m ss ts sorted full.1 are.1)
+pub tried_are_of : (n : PlainNet) (m : Marking) (ss : List program.Stage) → ((p : ℕ) → AreSorted (tokens_at m p)) → AllByRecursion (HasAllValues n) ss → AreTrialsOf n m (stages_view ss) (trials_at m ss)
+tried_are_of n m [] sorted full = tt
+tried_are_of n m (s ∷ ss) sorted full = (tried_is_of n m s sorted full.0, tried_are_of n m ss sorted full.1)
 
 -- ---- the places of the terms
 
@@ -70,6 +87,7 @@ further_placed : (n : PlainNet) (t : PlainTransition) (k : ℕ) (left : List ℕ
 further_placed n t k [] [] none_left = tt
 further_placed n t k (x ∷ left) [] d = elim d [ ]
 further_placed n t k left (by_term place p ∷ ss) d = elim d [ ]
+further_placed n t k left (by_value place p v ∷ ss) d = elim d [ ]
 further_placed n t k left (by_equation x e ∷ ss) (next_equation left' x' e' ss' found further) = (tt, further_placed n t k (those_without (x ∷ []) left) ss further)
 further_placed n t k left (by_size x ∷ ss) (next_small left' x' ss' unsolved small further) = (tt, further_placed n t k (those_without (x ∷ []) left) ss further)
 

@@ -14,11 +14,11 @@ use Rattle.cpn_core.specs.declared.nets.Transition.{Transition}
 use Rattle.cpn_core.specs.declared.nets.Net.{Net}
 use Rattle.cpn_core.specs.Nets.{net_view}
 use Rattle.cpn_stages.specs.Partial.{PlainPartial, unbound, variables_in}
-use Rattle.cpn_stages.specs.Trials.{Trial, next}
+use Rattle.cpn_stages.specs.Trials.{Trial, next, tried}
 use Rattle.cpn_search.specs.declared.trials.Trial as program
 use Rattle.cpn_search.specs.declared.extending.UnderWay.{UnderWay}
 use Rattle.cpn_search.specs.TrialViews.{PlainUnderWay, trial_view, trials_view, under_way_view, all_under_way, after}
-use Rattle.cpn_search.specs.Searches.{AreDeclared, AreTrials, IsTurn, SearchState}
+use Rattle.cpn_search.specs.Searches.{AreDeclared, AreTrials, IsTurn, SearchState, still_tried}
 use Rattle.cpn_search.proofs.KnownTransitions.{transition_is, in_range}
 use Rattle.cpn_search.specs.FoundViews.{found_view}
 use Rattle.cpn_search.proofs.TurnedSearches.{state_begins}
@@ -71,6 +71,18 @@ none_taken [] is = refl
 none_taken (o ∷ before) is = absurd (omega arith)
 
 -- ---- the beginning
+
+-- all the tries are still to be made
+pub begun_tries
+    : (n : Net) (t : ℕ) (trials : List Trial) (tr : Transition) (vars : List ℕ) (b : PlainPartial) (ahead : List UnderWay)
+    → t < length n.transitions.items → tr ≡ get_or n.transitions.items t tr → vars ≡ tr.vars.items → b ≡ unbound vars → ahead ≡ record { partial = b; tried = 0 } ∷ []
+    → still_tried (net_view n) trials (all_under_way ahead) ≡ tried (net_view n) trials (unbound (transition_at (net_view n) t).vars)
+begun_tries n t trials tr vars b ahead lt is of_it nothing first =
+    let start : b ≡ unbound (transition_at (net_view n) t).vars = nothing ∙ ap unbound (of_it ∙ sym (ap (λ (k : PlainTransition). k.vars) (transition_is n t tr lt is))) in
+    ap (λ (os : List UnderWay). still_tried (net_view n) trials (all_under_way os)) first ∙ alone (tried (net_view n) trials b) ∙ ap (tried (net_view n) trials) start
+  where
+    alone : (k : ℕ) → k + 0 ≡ k
+    alone k = omega arith
 
 pub begun
     : (n : Net) (m : Marking) (t : ℕ) (trials : List Trial) (tr : Transition) (vars : List ℕ) (b : PlainPartial) (ahead : List UnderWay) (found : List EnabledElement)

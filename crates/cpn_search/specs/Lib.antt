@@ -7,3 +7,4 @@ pub mod PlannedNets
 pub mod TrialViews
 pub mod TriedStages
 pub mod Searches
+pub mod HeldSearches

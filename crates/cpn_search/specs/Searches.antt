@@ -8,10 +8,11 @@ use Rattle.cpn_definitions.specs.Net.{PlainTransition, PlainNet, transition_at}
 use Rattle.cpn_definitions.specs.Meaning.{PlainBinding, meaning}
 use Rattle.cpn_definitions.specs.Enabled.{PlainFound}
 use Rattle.cpn_stages.specs.Partial.{PlainPartial, unbound, variables_in, bound_in}
-use Rattle.cpn_stages.specs.Stages.{Stage, variables_at_each, AreStages}
+use Rattle.cpn_stages.specs.Stages.{Stage, variables_at_each}
+use Rattle.cpn_stages.specs.Orderly.{AreOrderly}
 use Rattle.cpn_stages.specs.Reached.{HasValue}
 use Rattle.cpn_stages.specs.Work.{AllDiffer}
-use Rattle.cpn_stages.specs.Trials.{Trial, matching, solving, are_admitted, next, ends, made, sum_of, AreTrialsOf}
+use Rattle.cpn_stages.specs.Trials.{Trial, matching, solving, are_admitted, next, ends, made, sum_of, tries_of, tried, AreTrialsOf}
 use Rattle.cpn_search.specs.Found.{element_of, IsNeverCovered, IsLeastTime, found_of}
 use Rattle.cpn_search.specs.TrialViews.{PlainUnderWay, after}
 
@@ -19,10 +20,13 @@ use Rattle.cpn_search.specs.TrialViews.{PlainUnderWay, after}
 pub record AreDeclared (k : ℕ) (b : PlainPartial) : Type 0 where
   pub all : list_all (λ x. nat_lt x k) (variables_in b) ≡ true
 
--- The trials of a transition: those of its stages.
+-- The trials of a transition: those of stages that give each of its variables a value, in which each equation comes after its variables; no
+-- two of the partial bindings that they make are the same.
 pub record AreTrials (n : PlainNet) (m : Marking) (t : ℕ) (trials : List Trial) : Type 0 where
   pub stages : List Stage
-  pub are : AreStages n (transition_at n t) stages
+  pub orderly : AreOrderly (transition_at n t) [] stages
+  pub differ : AllDiffer (ends n trials (unbound (transition_at n t).vars))
+  pub given : (x : ℕ) → Contains (transition_at n t).vars x → Contains (variables_at_each stages) x
   pub of_them : AreTrialsOf n m stages trials
 
 -- A partial binding that is under way: of the transition's variables, with admitted values for those of the stages so far.
@@ -39,6 +43,15 @@ pending n trials ahead = flat_map (λ o. ends n (drop o.1 trials) o.0) (reverse 
 -- how many partial bindings are still to be made
 abbrev pub still_made : PlainNet → List Trial → List PlainUnderWay → ℕ
 still_made n trials ahead = sum_of (map (λ o. made n (drop o.1 trials) o.0) ahead)
+
+-- the tries of the next of the trials that are left, or one for an end
+abbrev pub tries_at : List Trial → ℕ
+tries_at [] = 1
+tries_at (trial ∷ trials) = tries_of trial
+
+-- how many tries are still to be made
+abbrev pub still_tried : PlainNet → List Trial → List PlainUnderWay → ℕ
+still_tried n trials ahead = sum_of (map (λ o. tried n (drop o.1 trials) o.0) ahead)
 
 -- Found among some bindings of a transition: each of them that is covered at some time, once, with the least such time; and
 -- nothing else.
@@ -80,6 +93,11 @@ pub record AllFound (n : PlainNet) (m : Marking) (t : ℕ) (found : List PlainFo
   pub among : FoundAmong n m t bindings found
   pub bound : AllByRecursion (λ b. binds n (transition_at n t).vars b ≡ true) bindings
   pub complete : (time : ℕ) (b : PlainBinding) → covered n m time (element_of t b) ≡ true → Contains bindings b
+
+-- Found at the ends: what is found among the bindings that the trials make.
+pub record FoundAtEnds (n : PlainNet) (m : Marking) (t : ℕ) (trials : List Trial) (found : List PlainFound) : Type 0 where
+  pub among : FoundAmong n m t (map bound_in (ends n trials (unbound (transition_at n t).vars))) found
+  pub bound : AllByRecursion (λ b. binds n (transition_at n t).vars b ≡ true) (map bound_in (ends n trials (unbound (transition_at n t).vars)))
 
 -- the inscription that a trial evaluates has a meaning
 abbrev pub MeansSomething : PlainNet → Trial → PlainPartial → Type 0

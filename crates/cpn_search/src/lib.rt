@@ -8,16 +8,21 @@
 
 mod earliest;
 mod extending;
+mod once;
 mod plan;
 mod plans;
 mod searching;
 mod shared;
 mod sorting;
+mod steps;
 mod trials;
 mod turns;
+mod with;
 
 pub use plan::{Plan, Stage};
 pub use plans::Plans;
-pub use searching::{enabled, enabled_of, search};
+pub use searching::{enabled, enabled_of, search, search_counted};
 pub use shared::{SharedEquation, SharedTerm};
+pub use steps::Steps;
 pub use turns::Searched;
+pub use with::enabled_with;

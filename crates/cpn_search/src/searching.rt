@@ -1,21 +1,25 @@
 //! The enabled bindings of a transition, and the enabled elements of a net.
-ghost use Rattle.std.specs.Prelude.{◌≡◌, ◌<◌, ◌++◌, length, map, OnOk, IfOk};
+ghost use Rattle.std.specs.Prelude.{◌≡◌, ℕ, ◌<◌, ◌≤◌, ◌+◌, ◌++◌, length, map, OnOk, IfOk};
 ghost use Rattle.std.specs.List.{AllByRecursion};
 ghost use Rattle.cpn_definitions.specs.Enabled.{EnabledOf, Enabled};
 ghost use Rattle.cpn_definitions.specs.Sound.{IsSound, IsMarking};
 ghost use Rattle.cpn_core.specs.Nets.{net_view};
 ghost use Rattle.cpn_core.specs.Elements.{enabled_view, HasItsNeeds};
+ghost use Rattle.cpn_stages.specs.Work.{IsFull};
 ghost use Rattle.cpn_search.specs.FoundViews.{found_view, AreOf, from_clock};
 ghost use Rattle.cpn_search.specs.PlannedNets.{IsPlan};
 
 use crate::plan::Plan;
 use crate::plans::Plans;
 use crate::sorting::in_order;
+use crate::steps::Steps;
 use crate::trials::trials_of;
 use crate::turns::{Searched, all_found};
 use cpn_core::{EnabledElement, Found, Memory, Net};
 use cpn_tmset::Marking;
 use std::alloc::Global;
+use std::marker::Brand;
+use std::sync::ledger::{Blank, Ledger};
 
 /// The enabled bindings of a transition of a sound net, as elements: each binding with which it is covered at some time, over all
 /// assignments of admitted values to its variables, once, by the values of the variables in declaration order, with the least
@@ -37,7 +41,38 @@ pub fn search(alloc: Global, net: &Net, marking: &Marking, t: u32) -> Result<Sea
     search_by(alloc, net, marking, t, &plan)
 }
 
-/// The same, where there is the plan of the transition.
+/// The same, where there is the plan of the transition; each try is a step.
+///
+/// # Errors
+///
+/// `Memory` where memory is wanted; it leaves nothing behind, and the steps are those that were made.
+pub fn search_counted<L: Ledger>(
+    alloc: Global,
+    net: &Net,
+    marking: &Marking,
+    t: u32,
+    plan: &Plan,
+    steps: &mut Steps<L>,
+) -> Result<Searched, Memory>
+    requires sound { IsSound (net_view net.now) }
+    requires marking { IsMarking (net_view net.now).places marking.now }
+    requires in_range { t < length net.now.transitions.items }
+    requires planned { IsPlan (net_view net.now) t plan.now }
+    ensures enabled { IfOk result (λ searched. EnabledOf (net_view net.now) marking.now t (map found_view searched.found.items)) }
+    ensures elements { IfOk result (λ searched. AreOf (net_view net.now) t searched.found.items) }
+    ensures steps { (k : ℕ) → IsFull (net_view net.now) marking.now t k → steps.new ≤ steps.old + k }
+    ensures counted { OnOk result ((k : ℕ) → IsFull (net_view net.now) marking.now t k → steps.new ≡ steps.old + k) }
+{
+    let trials = trials_of(alloc, plan, marking)?;
+    let searched = all_found(alloc, net, marking, t, &trials, steps)?;
+    let found = in_order(searched.found)?;
+    Ok(Searched {
+        found,
+        tries: searched.tries,
+    })
+}
+
+/// The same, and the steps are not asked for.
 pub(crate) fn search_by(
     alloc: Global,
     net: &Net,
@@ -52,13 +87,31 @@ pub(crate) fn search_by(
     ensures enabled { IfOk result (λ searched. EnabledOf (net_view net.now) marking.now t (map found_view searched.found.items)) }
     ensures elements { IfOk result (λ searched. AreOf (net_view net.now) t searched.found.items) }
 {
-    let trials = trials_of(alloc, plan, marking)?;
-    let searched = all_found(alloc, net, marking, t, &trials)?;
-    let found = in_order(searched.found)?;
-    Ok(Searched {
-        found,
-        tries: searched.tries,
-    })
+    search_on::<Brand>(alloc, net, marking, t, plan, Blank::new(1))
+}
+
+/// The same, with steps on a ledger that is dropped.
+fn search_on<L: Ledger>(
+    alloc: Global,
+    net: &Net,
+    marking: &Marking,
+    t: u32,
+    plan: &Plan,
+    blank: Blank,
+) -> Result<Searched, Memory>
+    requires sound { IsSound (net_view net.now) }
+    requires marking { IsMarking (net_view net.now).places marking.now }
+    requires in_range { t < length net.now.transitions.items }
+    requires planned { IsPlan (net_view net.now) t plan.now }
+    requires name { blank.name ≡ L.name }
+    requires parts { blank.parts ≡ L.parts }
+    requires some { 0 < blank.parts }
+    ensures enabled { IfOk result (λ searched. EnabledOf (net_view net.now) marking.now t (map found_view searched.found.items)) }
+    ensures elements { IfOk result (λ searched. AreOf (net_view net.now) t searched.found.items) }
+{
+    let mut steps = Steps::<L>::none(blank);
+    let searched = search_counted(alloc, net, marking, t, plan, &mut steps)?;
+    Ok(searched)
 }
 
 /// What a `search` finds: the enabled bindings of a transition of a sound net, as elements. `Memory` comes where memory is wanted, and

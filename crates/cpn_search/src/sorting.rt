@@ -9,7 +9,7 @@ use std::cmp::Ordering;
 
 /// How two bindings of the same variables compare: by the values of the variables, in declaration order.
 #[tactic(auto, using(crate::proofs::BindingOrder::order_ends))]
-fn compare(binding: &Binding, other: &Binding) -> Ordering
+pub(crate) fn compare(binding: &Binding, other: &Binding) -> Ordering
     ensures exact { result ≡ binding_cmp binding.now other.now }
 {
     let left = binding.pairs();

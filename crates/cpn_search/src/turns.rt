@@ -1,22 +1,25 @@
 //! The turns of a search: each takes the last of the partial bindings that are under way.
-ghost use Rattle.std.specs.Prelude.{◌≡◌, ◌<◌, ◌++◌, ◌∷◌, [], true, length, map, drop, OnOk, IfOk};
+ghost use Rattle.std.specs.Prelude.{◌≡◌, ◌<◌, ◌≤◌, ◌+◌, ◌++◌, ◌∷◌, [], true, length, map, drop, OnOk, IfOk};
 ghost use Rattle.std.specs.Option.{option_to_list};
 ghost use Rattle.cpn_definitions.specs.Net.{transition_at};
 ghost use Rattle.cpn_definitions.specs.Occurrence.{binds};
 ghost use Rattle.cpn_definitions.specs.Sound.{IsSound, IsMarking};
 ghost use Rattle.cpn_core.specs.Nets.{net_view};
-ghost use Rattle.cpn_stages.specs.Partial.{bound_in};
+ghost use Rattle.cpn_stages.specs.Partial.{bound_in, unbound};
+ghost use Rattle.cpn_stages.specs.Trials.{tried};
 ghost use Rattle.cpn_search.specs.FoundViews.{found_view, AreOf};
 ghost use Rattle.cpn_search.specs.TrialViews.{trials_view, under_way_view, all_under_way};
-ghost use Rattle.cpn_search.specs.Searches.{AreTrials, AddsEnd, IsTurn, SearchState, AllFound};
+ghost use Rattle.cpn_search.specs.Searches.{AreTrials, AddsEnd, IsTurn, SearchState, FoundAtEnds, tries_at};
 
 use crate::earliest::enabled_element;
 use crate::extending::{UnderWay, push_next};
+use crate::steps::Steps;
 use crate::trials::Trial;
 use cpn_core::{EnabledElement, Found, Memory, Net};
 use cpn_match::Partial;
 use cpn_tmset::Marking;
 use std::alloc::Global;
+use std::sync::ledger::Ledger;
 
 /// What a search of a transition finds.
 #[derive(Drop)]
@@ -89,27 +92,32 @@ fn turn(
 }
 
 /// How many tries a turn makes: those of the next trial, or one for an end.
-fn tries_of(trials: &[Trial], tried: usize) -> u64 {
-    match trials.get(tried) {
-        Some(trial) => trial.tries() as u64,
-        None => 1,
+fn tries_of(trials: &[Trial], tried: usize) -> u64
+    ensures exact { result ≡ tries_at (drop tried (trials_view trials.now)) }
+{
+    if tried >= trials.len() {
+        return 1;
     }
+    trials[tried].tries() as u64
 }
 
-/// What is found by the trials of a transition, in no order.
-pub fn all_found(
+/// What is found by the trials of a transition, in no order; each of its tries is a step.
+pub fn all_found<L: Ledger>(
     alloc: Global,
     net: &Net,
     marking: &Marking,
     t: u32,
     trials: &[Trial],
+    steps: &mut Steps<L>,
 ) -> Result<Searched, Memory>
     requires sound { IsSound (net_view net.now) }
     requires marking { IsMarking (net_view net.now).places marking.now }
     requires in_range { t < length net.now.transitions.items }
     requires trials { AreTrials (net_view net.now) marking.now t (trials_view trials.now) }
-    ensures found { IfOk result (λ searched. AllFound (net_view net.now) marking.now t (map found_view searched.found.items)) }
+    ensures found { IfOk result (λ searched. FoundAtEnds (net_view net.now) marking.now t (trials_view trials.now) (map found_view searched.found.items)) }
     ensures elements { IfOk result (λ searched. AreOf (net_view net.now) t searched.found.items) }
+    ensures steps { steps.new ≤ steps.old + tried (net_view net.now) (trials_view trials.now) (unbound (transition_at (net_view net.now) t).vars) }
+    ensures counted { OnOk result (steps.new ≡ steps.old + tried (net_view net.now) (trials_view trials.now) (unbound (transition_at (net_view net.now) t).vars)) }
 {
     let transition = &net.transitions[t as usize];
     let partial = Partial::new(alloc, &transition.vars)?;
@@ -117,7 +125,9 @@ pub fn all_found(
     let mut found = Vec::new(alloc);
     let mut tries: u64 = 0;
     while let Some(next) = ahead.pop() {
-        tries = tries.saturating_add(tries_of(trials, next.tried));
+        let more = tries_of(trials, next.tried);
+        steps.add(more);
+        tries = tries.saturating_add(more);
         turn(
             alloc, net, marking, t, trials, &next, &mut ahead, &mut found,
         )?;

@@ -14,7 +14,7 @@ use Rattle.cpn_definitions.proofs.OwnVariables.{own_variables}
 use Rattle.cpn_definitions.proofs.RisingLists.{IsIn, in_from_contains, contains_from_in, in_append_cases, in_flat_map}
 use Rattle.cpn_stages.specs.Partial.{PlainPartial, variables_in, value_in, Extends, bound_in}
 use Rattle.cpn_stages.specs.Instances.{IsInstance, Makes}
-use Rattle.cpn_stages.specs.Stages.{Stage, by_term, by_equation, by_size, variables_at, variables_at_each}
+use Rattle.cpn_stages.specs.Stages.{Stage, by_term, by_equation, by_size, by_value, variables_at, variables_at_each}
 use Rattle.cpn_stages.specs.Reached.{HasValue, Holds}
 use Rattle.cpn_stages.specs.Orderly.{AreOrderly}
 use Rattle.cpn_stages.specs.Fitting.{fitted}
@@ -28,9 +28,9 @@ use Rattle.cpn_stages.proofs.WholeBindings.{bound_has, whole_from, whole_extende
 
 -- on the way to a partial binding that makes the pattern a value there is a match
 record IsOnTheWay (n : PlainNet) (p : PlainPattern) (v : PlainValue) (b c : PlainPartial) : Type 0 where
-  through : PlainPartial
+  pub through : PlainPartial
   is_kept : IsIn through (kept n (fitted p v b))
-  below : Extends through c
+  pub below : Extends through c
 
 on_the_way : (n : PlainNet) (p : PlainPattern) (v : PlainValue) (b c : PlainPartial) → are_admitted n c ≡ true → Makes b p v c → IsOnTheWay n p v b c
 on_the_way n p v b c admitted makes = split (fitted p v b) refl
@@ -82,6 +82,9 @@ step n m t before stages (by_size x) (matching q vs) b c closed admitted ext kno
     by_matching n q vs holds.0 b c (in_from_contains vs holds.0 ((of_it.1.all holds.0).0 (admitted_value n c x holds.0 admitted holds.1))) admitted
     (record { extends = ext; is_instance = subst (λ r. IsInstance c r holds.0) (sym of_it.0) holds.1 })
 step n m t before stages (by_size x) (solving y f) b c closed admitted ext known orderly of_it holds = absurd of_it
+step n m t before stages (by_value place p v) (matching q vs) b c closed admitted ext known orderly of_it holds =
+    by_matching n q vs v b c (subst (IsIn v) (sym of_it.1) (inl refl)) admitted (record { extends = ext; is_instance = subst (λ r. IsInstance c r v) (sym of_it.0) holds.1 })
+step n m t before stages (by_value place p v) (solving y f) b c closed admitted ext known orderly of_it holds = absurd of_it
 
 pub known_next : (n : PlainNet) (m : Marking) (before : List Stage) (stage : Stage) (trial : Trial) (b d : PlainPartial) → AreKnown before b → IsTrialOf n m stage trial → IsIn d (next n trial b) → AreKnown (before ++ stage ∷ []) d
 known_next n m before stage trial b d known of_it h x g =

@@ -11,11 +11,11 @@ use Rattle.cpn_definitions.specs.Inscription.{operation, cons, tupling, listing,
 use Rattle.cpn_definitions.specs.Net.{BindingTerm, PlainArc, PlainTransition, PlainNet}
 use Rattle.cpn_definitions.specs.Meaning.{meaning}
 use Rattle.cpn_definitions.specs.Bindable.{constructor_pattern, list_of_two, pattern_of, patterns_of, term_with, binding_term, binding_terms_of_each, binding_terms}
-use Rattle.cpn_definitions.proofs.RisingLists.{IsIn, contains_from_in, in_append_left, in_map_from, each_in, of_one_in, each_appended, in_flat_from}
+use Rattle.cpn_definitions.proofs.RisingLists.{IsIn, in_from_contains, contains_from_in, in_append_left, in_map_from, each_in, of_one_in, each_appended, in_flat_from}
 use Rattle.cpn_definitions.proofs.ListItems.{made_of}
 use Rattle.cpn_stages.specs.Partial.{PlainPartial, Extends, bound_in}
 use Rattle.cpn_stages.specs.Instances.{IsInstance, AreInstances}
-use Rattle.cpn_stages.specs.Stages.{Stage, by_term, by_equation, by_size, terms_at, term_stages, Further, none_left, next_equation, next_small, AreStages, those_without}
+use Rattle.cpn_stages.specs.Stages.{Stage, by_term, by_equation, by_size, by_value, terms_at, term_stages, Further, none_left, next_equation, next_small, AreStages, those_without}
 use Rattle.cpn_stages.specs.Work.{AllDiffer}
 use Rattle.cpn_stages.specs.Fitting.{fitted}
 use Rattle.cpn_stages.specs.Trials.{Trial, matching, solving, are_admitted, kept, with_outcome, next, ends, IsTrialOf, AreTrialsOf}
@@ -51,7 +51,7 @@ list_items vs ws h = ap items_of h
 
 mutual
   -- under a partial binding such a pattern is one value
-  one_value : (b : PlainPartial) (p : PlainPattern) (v w : PlainValue) → HasNoAny p → IsInstance b p v → IsInstance b p w → v ≡ w
+  pub one_value : (b : PlainPartial) (p : PlainPattern) (v w : PlainValue) → HasNoAny p → IsInstance b p v → IsInstance b p w → v ≡ w
   one_value b any_pattern v w no_any first second = absurd no_any
   one_value b (variable_pattern x) v w no_any first second = same_Some v w (sym first ∙ second)
   one_value b (literal_pattern u) v w no_any first second = sym first ∙ second
@@ -149,6 +149,7 @@ abbrev pub HasOneValue : Stage → Type 0
 HasOneValue (by_term place p) = HasNoAny p
 HasOneValue (by_equation x e) = Unit {0}
 HasOneValue (by_size x) = Unit {0}
+HasOneValue (by_value place p v) = HasNoAny p
 
 next_apart : (n : PlainNet) (m : Marking) (stage : Stage) (trial : Trial) (b : PlainPartial) → HasOneValue stage → IsTrialOf n m stage trial → AllApart (next n trial b)
 next_apart n m (by_term place p) (matching q vs) b has of_it = matching_apart n q vs b (subst HasNoAny (sym of_it.0) has) of_it.1.differ
@@ -157,6 +158,8 @@ next_apart n m (by_equation x e) (matching q vs) b has of_it = absurd of_it
 next_apart n m (by_equation x e) (solving y f) b has of_it = outcome_apart n (variable_pattern y) b (meaning n.functions f (bound_in b) 0)
 next_apart n m (by_size x) (matching q vs) b has of_it = matching_apart n q vs b (subst HasNoAny (sym of_it.0) tt) of_it.1.differ
 next_apart n m (by_size x) (solving y f) b has of_it = absurd of_it
+next_apart n m (by_value place p v) (matching q vs) b has of_it = matching_apart n q vs b (subst HasNoAny (sym of_it.0) has) (subst AllDiffer (sym of_it.1) ((λ h. in_from_contains [] v h), tt))
+next_apart n m (by_value place p v) (solving y f) b has of_it = absurd of_it
 
 next_extends : (n : PlainNet) (trial : Trial) (b c : PlainPartial) → IsIn c (next n trial b) → Extends b c
 next_extends n (matching p vs) b c h = (made_of_matching n p vs b c h).2.matches.makes.extends
@@ -225,11 +228,11 @@ each_one : (ms : ArcInscriptions) → AllOne (binding_terms_of_each ms)
 each_one no_inscriptions = tt
 each_one (more_inscriptions m ms) = each_appended (λ (term : BindingTerm). HasNoAny term.pattern) (binding_term m) (binding_terms_of_each ms) (lone_one m) (each_one ms)
 
-terms_one : (m : ArcInscription) → AllOne (binding_terms m)
+pub terms_one : (m : ArcInscription) → AllOne (binding_terms m)
 terms_one (sum_of ms) = each_one ms
 terms_one m = lone_one m
 
-terms_have_one : (t : PlainTransition) → AllByRecursion HasOneValue (term_stages t)
+pub terms_have_one : (t : PlainTransition) → AllByRecursion HasOneValue (term_stages t)
 terms_have_one t = each_in HasOneValue (term_stages t) (λ stage h. of_stage stage (in_flat_from terms_at t.inputs stage h))
   where
     of_stage : (stage : Stage) → (arc : PlainArc) × IsIn arc t.inputs × IsIn stage (terms_at arc) → HasOneValue stage
@@ -241,6 +244,7 @@ further_have_one : (n : PlainNet) (t : PlainTransition) (left : List ℕ) (stage
 further_have_one n t [] [] none_left = tt
 further_have_one n t (x ∷ left) [] d = elim d [ ]
 further_have_one n t left (by_term place p ∷ stages) d = elim d [ ]
+further_have_one n t left (by_value place p v ∷ stages) d = elim d [ ]
 further_have_one n t left (by_equation x e ∷ stages) (next_equation left' x' e' stages' found further) = (tt, further_have_one n t (those_without (x ∷ []) left) stages further)
 further_have_one n t left (by_size x ∷ stages) (next_small left' x' stages' unsolved small further) = (tt, further_have_one n t (those_without (x ∷ []) left) stages further)
 

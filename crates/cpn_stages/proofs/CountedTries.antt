@@ -8,26 +8,15 @@ use Rattle.cpn_definitions.specs.Net.{PlainTransition, PlainNet, transition_at}
 use Rattle.cpn_definitions.specs.Bindable.{AreClosed}
 use Rattle.cpn_definitions.proofs.RisingLists.{IsIn, in_from_contains, contains_from_in, in_append_left, in_append_right, in_append_cases}
 use Rattle.cpn_stages.specs.Partial.{PlainPartial, unbound}
-use Rattle.cpn_stages.specs.Stages.{Stage, by_term, by_equation, by_size, AreStages}
+use Rattle.cpn_stages.specs.Stages.{Stage, by_term, by_equation, by_size, by_value, AreStages}
 use Rattle.cpn_stages.specs.Reached.{StandsOn, IsAdmitted, IsReached}
 use Rattle.cpn_stages.specs.Work.{AllDiffer, AreJust, AreSoMany, IsTries, AreTries, IsFull}
 use Rattle.cpn_stages.specs.Orderly.{AreOrderly}
-use Rattle.cpn_stages.specs.Trials.{Trial, matching, solving, next, ends, sum_of, IsTrialOf, AreTrialsOf}
+use Rattle.cpn_stages.specs.Trials.{Trial, matching, solving, next, ends, sum_of, tries_of, tried, IsTrialOf, AreTrialsOf}
 use Rattle.cpn_stages.proofs.OrderlyStages.{stages_are_orderly}
 use Rattle.cpn_stages.proofs.ApartEnds.{HasOneValue, stages_have_one}
 use Rattle.cpn_stages.proofs.ReachedEnds.{ends_are_reached}
 use Rattle.cpn_stages.proofs.OnePlan.{one_plan}
-
--- how many tries a trial makes of a partial binding: the values against which it is held, or one
-abbrev pub tries_of : Trial → ℕ
-tries_of (matching p vs) = length vs
-tries_of (solving x e) = 1
-
--- how many tries are made of a partial binding on the way to its ends: those of the next trial, at each partial binding that it
--- comes to; and one for each end
-abbrev pub tried : PlainNet → List Trial → PlainPartial → ℕ
-tried n [] b = 1
-tried n (trial ∷ trials) b = tries_of trial + sum_of (map (tried n trials) (next n trial b))
 
 -- ---- lists of just the same things are of one length
 
@@ -156,6 +145,8 @@ trial_has_tries n m (by_equation x e) (matching q vs) of_it = absurd of_it
 trial_has_tries n m (by_equation x e) (solving y f) of_it = refl
 trial_has_tries n m (by_size x) (matching q vs) of_it = (vs, of_it.1, refl)
 trial_has_tries n m (by_size x) (solving y f) of_it = absurd of_it
+trial_has_tries n m (by_value place p v) (matching q vs) of_it = ap length of_it.1
+trial_has_tries n m (by_value place p v) (solving y f) of_it = absurd of_it
 
 module _ (n : PlainNet) (m : Marking) (t : PlainTransition) (closed : AreClosed n.functions) (listed : Rises nat_cmp t.vars) where
   tries_behind : (done stages : List Stage) (made trials : List Trial)
@@ -189,8 +180,9 @@ one_tries : (n : PlainNet) (m : Marking) (stage : Stage) (j k : ℕ) → IsTries
 one_tries n m (by_term place p) j k first second = one_number (StandsOn m place) j k first second
 one_tries n m (by_equation x e) j k first second = first ∙ sym second
 one_tries n m (by_size x) j k first second = one_number (IsAdmitted n x) j k first second
+one_tries n m (by_value place p v) j k first second = first ∙ sym second
 
-one_count : (n : PlainNet) (m : Marking) (t : PlainTransition) (done stages : List Stage) (j k : ℕ) → AreTries n m t done stages j → AreTries n m t done stages k → j ≡ k
+pub one_count : (n : PlainNet) (m : Marking) (t : PlainTransition) (done stages : List Stage) (j k : ℕ) → AreTries n m t done stages j → AreTries n m t done stages k → j ≡ k
 one_count n m t done [] j k first second = one_number (IsReached n m t done) j k first second
 one_count n m t done (stage ∷ stages) j k (reached, own, later, many, is_own, is_later, is) (reached', own', later', many', is_own', is_later', is') =
     is ∙ ap₂ (λ a b. a + b) (ap₂ (λ a b. a * b) (one_number (IsReached n m t done) reached reached' many many') (one_tries n m stage own own' is_own is_own')) (one_count n m t (done ++ stage ∷ []) stages later later' is_later is_later') ∙ sym is'

@@ -15,7 +15,7 @@ use Rattle.cpn_definitions.specs.Occurrence.{PlainElement, needs_of, are_covered
 use Rattle.cpn_definitions.proofs.RisingLists.{IsIn, in_from_contains, contains_from_in, in_append_left, in_append_right, in_map_from, each_in, each_appended, in_flat_from}
 use Rattle.cpn_definitions.proofs.NumberTests.{equals_itself}
 use Rattle.cpn_stages.specs.Partial.{PlainPartial, variables_in, value_in, bound_in, as_partial}
-use Rattle.cpn_stages.specs.Stages.{Stage, by_term, by_equation, by_size, variables_at, variables_at_each, terms_at, term_stages, those_without, equations_in, first_solving, IsFirstSmall, Further, none_left, next_equation, next_small, AreStages}
+use Rattle.cpn_stages.specs.Stages.{Stage, by_term, by_equation, by_size, by_value, variables_at, variables_at_each, terms_at, term_stages, those_without, equations_in, first_solving, IsFirstSmall, Further, none_left, next_equation, next_small, AreStages}
 use Rattle.cpn_stages.specs.Reached.{HasValue, IsAdmitted, Holds, IsReached}
 use Rattle.cpn_stages.proofs.Numbers.{from_without, left_or_other}
 use Rattle.cpn_stages.proofs.Guards.{part_in, found_is}
@@ -36,6 +36,7 @@ left_given : (n : PlainNet) (t : PlainTransition) (left : List ℕ) (stages : Li
 left_given n t [] [] none_left y h = absurd h
 left_given n t (x ∷ left) [] d y h = elim d [ ]
 left_given n t left (by_term place p ∷ stages) d y h = elim d [ ]
+left_given n t left (by_value place p v ∷ stages) d y h = elim d [ ]
 left_given n t left (by_equation x e ∷ stages) (next_equation left' x' e' stages' found further) y h =
     ⊎_elim (λ there. inr (left_given n t (those_without (x ∷ []) left) stages further y there)) (λ here. inl here) (one_left x y left h)
 left_given n t left (by_size x ∷ stages) (next_small left' x' stages' none small further) y h =
@@ -153,6 +154,7 @@ module _ (n : PlainNet) (m : Marking) (time : ℕ) (e : PlainElement) (is : IsCo
   further_hold [] [] none_left listed = tt
   further_hold (x ∷ left) [] d listed = elim d [ ]
   further_hold left (by_term place p ∷ stages) d listed = elim d [ ]
+  further_hold left (by_value place p v ∷ stages) d listed = elim d [ ]
   further_hold left (by_equation x f ∷ stages) (next_equation left' x' f' stages' found further) listed =
       (equation_holds left x f found, further_hold (those_without (x ∷ []) left) stages further (λ y h. listed y (from_without (x ∷ []) left y h).0))
   further_hold left (by_size x ∷ stages) (next_small left' x' stages' none small further) listed = (

@@ -14,7 +14,7 @@ use Rattle.cpn_definitions.specs.Bindable.{pattern_variables, patterns_variables
 use Rattle.cpn_definitions.proofs.RisingLists.{IsIn, in_append_left, in_append_right, in_append_cases, in_flat_from}
 use Rattle.cpn_stages.specs.Partial.{PlainPartial, value_in, IsKept, Extends, bound_in}
 use Rattle.cpn_stages.specs.Instances.{IsInstance, AreInstances, Matches}
-use Rattle.cpn_stages.specs.Stages.{Stage, by_term, by_equation, by_size, variables_at, variables_at_each}
+use Rattle.cpn_stages.specs.Stages.{Stage, by_term, by_equation, by_size, by_value, variables_at, variables_at_each}
 use Rattle.cpn_stages.specs.Reached.{HasValue, IsAdmitted}
 use Rattle.cpn_stages.specs.Fitting.{fitted}
 use Rattle.cpn_stages.specs.Trials.{Trial, matching, solving, admits_if, are_admitted, kept, with_outcome, next, ends, IsTrialOf, AreTrialsOf}
@@ -136,6 +136,10 @@ next_is n m (by_size x) (matching q vs) b c of_it h =
     let made = made_of_matching n q vs b c h in
     record { extends = made.2.matches.makes.extends; admitted = made.2.admitted; has = λ z g. instance_has c q made.0 z made.2.matches.makes.is_instance (subst (λ r. IsIn z (pattern_variables r)) (sym of_it.0) g) }
 next_is n m (by_size x) (solving y f) b c of_it h = absurd of_it
+next_is n m (by_value place p v) (matching q vs) b c of_it h =
+    let made = made_of_matching n q vs b c h in
+    record { extends = made.2.matches.makes.extends; admitted = made.2.admitted; has = λ x g. instance_has c q made.0 x made.2.matches.makes.is_instance (subst (λ r. IsIn x (pattern_variables r)) (sym of_it.0) g) }
+next_is n m (by_value place p v) (solving y f) b c of_it h = absurd of_it
 
 -- ---- what all trials make
 

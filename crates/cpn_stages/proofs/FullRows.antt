@@ -15,16 +15,16 @@ use Rattle.cpn_stages.proofs.CountedTries.{full_is_tried}
 -- ---- a place of numbers, and a transition that takes from it
 
 -- the numbers from 0 to 999
-abbrev numbers : PlainColour
+abbrev pub numbers : PlainColour
 numbers = record { shape = int_shape (pos 0) (pos 999); timed = false }
 
 -- an input arc from the place with a variable
-abbrev taking : ℕ → PlainArc
+abbrev pub taking : ℕ → PlainArc
 taking x = record { place = 0; colour = numbers; expr = one (variable x); terms = record { count = 1; pattern = variable_pattern x } ∷ [] }
 
 -- the net, with these arcs and this guard; it has the variables x and y of numbers, and b of truth values, and a function that
 -- adds 1
-abbrev net_of : List PlainArc → List PlainExpr → List ℕ → PlainNet
+abbrev pub net_of : List PlainArc → List PlainExpr → List ℕ → PlainNet
 net_of arcs guard xs = record {
   places = record { name = []; colour = numbers } ∷ [];
   transitions = record { name = []; guard = guard; delay = None; inputs = arcs; outputs = []; vars = xs } ∷ [];
@@ -34,21 +34,21 @@ net_of arcs guard xs = record {
   functions = record { parameters = 1; body = apply (operation addition) (exprs_from (local 0 ∷ literal (int (pos 1)) ∷ [])) } ∷ [];
 }
 
-abbrev number_token : ℕ → PlainToken
+abbrev pub number_token : ℕ → PlainToken
 number_token k = token_at (int (pos k)) 0
 
 -- a token of 1 and two of 2
-abbrev three_tokens : Marking
+abbrev pub three_tokens : Marking
 three_tokens = (number_token 1 ∷ number_token 2 ∷ number_token 2 ∷ []) ∷ []
 
-abbrev equals : PlainExpr → PlainExpr → PlainExpr
+abbrev pub equals : PlainExpr → PlainExpr → PlainExpr
 equals e f = apply (operation equality) (exprs_from (e ∷ f ∷ []))
 
 -- the stage of a variable on the place, and what it tries in a marking
-abbrev of_place : ℕ → Stage
+abbrev pub of_place : ℕ → Stage
 of_place x = by_term 0 (variable_pattern x)
 
-abbrev at_place : Marking → ℕ → Trial
+abbrev pub at_place : Marking → ℕ → Trial
 at_place m x = matching (variable_pattern x) (values_on m 0)
 
 -- ---- the rows
@@ -76,7 +76,7 @@ a_term_repeated =
     (record { further = []; are = refl; follow = none_left }) ((refl, just_standing three_tokens 0), ((refl, just_standing three_tokens 0), tt))
 
 -- y = f(x), where f adds 1: 2 values of x, and at each of these the equation, once; 2 bindings
-abbrev by_function : PlainExpr
+abbrev pub by_function : PlainExpr
 by_function = apply (calling 0) (exprs_from (variable 0 ∷ []))
 
 an_equation : IsFull (net_of (taking 0 ∷ []) (equals (variable 1) by_function ∷ []) (0 ∷ 1 ∷ [])) three_tokens 0 6

@@ -18,6 +18,10 @@ pub mod TransitionEnds
 mod OwnValues
 mod ReachedEnds
 mod OnePlan
-mod CountedTries
+pub mod CountedTries
+pub mod PinnedStages
+pub mod PinnedEnds
+pub mod CountedPinned
 mod StandingValues
 mod FullRows
+mod PinnedRows

@@ -4,7 +4,7 @@ use Rattle.std.specs.List.{AllByRecursion}
 use Rattle.cpn_definitions.specs.Inscription.{PlainExpr}
 use Rattle.cpn_definitions.specs.Net.{PlainTransition, PlainNet, variable_at}
 use Rattle.cpn_definitions.specs.Bindable.{IsSmall}
-use Rattle.cpn_stages.specs.Stages.{Stage, by_term, by_equation, by_size, those_without, term_stages, equations_in, first_solving, IsFirstSmall, Further, next_equation, next_small, AreStages}
+use Rattle.cpn_stages.specs.Stages.{Stage, by_term, by_equation, by_size, by_value, those_without, term_stages, equations_in, first_solving, IsFirstSmall, Further, next_equation, next_small, AreStages}
 
 abbrev variable_of : ℕ → Option (ℕ × PlainExpr) → ℕ
 variable_of k None = k
@@ -56,6 +56,7 @@ none_small n x is = split is.before is.stands
 
 no_more : (n : PlainNet) (t : PlainTransition) (stage : Stage) (stages : List Stage) → Further n t [] (stage ∷ stages) → ⊥
 no_more n t (by_term place p) stages d = elim d [ ]
+no_more n t (by_value place p v) stages d = elim d [ ]
 no_more n t (by_equation x e) stages (next_equation left x' e' stages' found further) = clash x e (first_solving t [] (equations_in t)) found (none_solving t (equations_in t))
 no_more n t (by_size x) stages (next_small left x' stages' none small further) = none_small n x small
 
@@ -66,8 +67,11 @@ one_further n t [] (s ∷ xs) ys a b = absurd (no_more n t s xs a)
 one_further n t (z ∷ left) [] ys a b = elim a [ ]
 one_further n t (z ∷ left) (s ∷ xs) [] a b = elim b [ ]
 one_further n t (z ∷ left) (by_term place p ∷ xs) (s ∷ ys) a b = elim a [ ]
+one_further n t (z ∷ left) (by_value place p v ∷ xs) (s ∷ ys) a b = elim a [ ]
 one_further n t (z ∷ left) (by_equation x e ∷ xs) (by_term place p ∷ ys) a b = elim b [ ]
+one_further n t (z ∷ left) (by_equation x e ∷ xs) (by_value place p v ∷ ys) a b = elim b [ ]
 one_further n t (z ∷ left) (by_size x ∷ xs) (by_term place p ∷ ys) a b = elim b [ ]
+one_further n t (z ∷ left) (by_size x ∷ xs) (by_value place p v ∷ ys) a b = elim b [ ]
 one_further n t (z ∷ left) (by_equation x e ∷ xs) (by_equation y f ∷ ys) (next_equation left1 x1 e1 stages1 found further) (next_equation left2 x2 e2 stages2 found2 further2) =
     let same = same_solution x y e f (sym found ∙ found2) in
     ap₂ (λ (s : Stage) (ss : List Stage). s ∷ ss) (ap₂ by_equation same.0 same.1) (one_further n t (those_without (x ∷ []) (z ∷ left)) xs ys further (subst (λ (k : ℕ). Further n t (those_without (k ∷ []) (z ∷ left)) ys) (sym same.0) further2))

@@ -8,7 +8,7 @@ use Rattle.cpn_definitions.specs.Net.{BindingTerm, PlainArc, PlainTransition, Pl
 use Rattle.cpn_definitions.specs.Bindable.{binding_terms, variables_of}
 use Rattle.cpn_definitions.proofs.RisingLists.{IsIn, in_from_contains, contains_from_in, in_append_left, in_append_right, passes_at}
 use Rattle.cpn_definitions.proofs.TruthValues.{not_both}
-use Rattle.cpn_stages.specs.Stages.{Stage, by_term, by_equation, by_size, variables_at, variables_at_each, terms_at, term_stages, is_among, those_without, equations_in, first_solving, Further, none_left, next_equation, next_small, AreStages}
+use Rattle.cpn_stages.specs.Stages.{Stage, by_term, by_equation, by_size, by_value, variables_at, variables_at_each, terms_at, term_stages, is_among, those_without, equations_in, first_solving, Further, none_left, next_equation, next_small, AreStages}
 use Rattle.cpn_stages.specs.Orderly.{IsTimely, AreOrderly}
 use Rattle.cpn_stages.proofs.Numbers.{in_from_among, among_from_in, left_or_other}
 use Rattle.cpn_stages.proofs.Guards.{found_is}
@@ -19,6 +19,7 @@ AreTerms [] = Unit {0}
 AreTerms (by_term place p ∷ stages) = AreTerms stages
 AreTerms (by_equation x e ∷ stages) = ⊥
 AreTerms (by_size x ∷ stages) = ⊥
+AreTerms (by_value place p v ∷ stages) = AreTerms stages
 
 terms_of_arc : (place : ℕ) (terms : List BindingTerm) → AreTerms (map (λ (term : BindingTerm). by_term place term.pattern) terms)
 terms_of_arc place [] = tt
@@ -29,6 +30,7 @@ terms_both [] ys first second = second
 terms_both (by_term place p ∷ xs) ys first second = terms_both xs ys first second
 terms_both (by_equation x e ∷ xs) ys first second = absurd first
 terms_both (by_size x ∷ xs) ys first second = absurd first
+terms_both (by_value place p v ∷ xs) ys first second = terms_both xs ys first second
 
 all_terms : (arcs : List PlainArc) → AreTerms (flat_map terms_at arcs)
 all_terms [] = tt
@@ -41,6 +43,8 @@ behind_terms t before (by_term place p ∷ terms) stages are is =
     (tt, behind_terms t (before ++ by_term place p ∷ []) terms stages are (subst (λ (bs : List Stage). AreOrderly t bs stages) (sym (append_assoc before (by_term place p ∷ []) terms)) is))
 behind_terms t before (by_equation x e ∷ terms) stages are is = absurd are
 behind_terms t before (by_size x ∷ terms) stages are is = absurd are
+behind_terms t before (by_value place p v ∷ terms) stages are is =
+    (tt, behind_terms t (before ++ by_value place p v ∷ []) terms stages are (subst (λ (bs : List Stage). AreOrderly t bs stages) (sym (append_assoc before (by_value place p v ∷ []) terms)) is))
 
 -- the variables that are not left have a value
 abbrev AreKnown : PlainTransition → List Stage → List ℕ → Type 0
@@ -80,6 +84,7 @@ further_orderly : (n : PlainNet) (t : PlainTransition) (before : List Stage) (le
 further_orderly n t before [] [] known none_left = tt
 further_orderly n t before (x ∷ left) [] known d = elim d [ ]
 further_orderly n t before left (by_term place p ∷ stages) known d = elim d [ ]
+further_orderly n t before left (by_value place p v ∷ stages) known d = elim d [ ]
 further_orderly n t before left (by_equation x e ∷ stages) known (next_equation left' x' e' stages' found further) =
     (timely t before left x e known found, further_orderly n t (before ++ by_equation x e ∷ []) (those_without (x ∷ []) left) stages (known_next t before left (by_equation x e) x (inl refl) known) further)
 further_orderly n t before left (by_size x ∷ stages) known (next_small left' x' stages' none small further) =

@@ -11,7 +11,7 @@ use Rattle.cpn_definitions.specs.Bindable.{pattern_variables, patterns_variables
 use Rattle.cpn_definitions.proofs.ListItems.{made_of}
 use Rattle.cpn_definitions.proofs.RisingLists.{IsIn, in_append_left, in_append_right, in_flat_from}
 use Rattle.cpn_stages.specs.Partial.{PlainPartial, value_in, bound_in}
-use Rattle.cpn_stages.specs.Stages.{Stage, by_term, by_equation, by_size, variables_at, variables_at_each}
+use Rattle.cpn_stages.specs.Stages.{Stage, by_term, by_equation, by_size, by_value, variables_at, variables_at_each}
 use Rattle.cpn_stages.specs.Reached.{HasValue}
 use Rattle.cpn_stages.specs.Fitting.{agreed, held, fitted, fitted_each}
 use Rattle.cpn_stages.specs.Trials.{Trial, matching, solving, next, ends, IsTrialOf, AreTrialsOf}
@@ -116,6 +116,8 @@ next_only n m (by_equation x e) (solving y f) b c of_it h =
     subst (λ (k : ℕ). HasOnly (k ∷ []) b c) of_it.0 (fitted_only (variable_pattern y) made.0 b c (match_is_fitted b c (variable_pattern y) made.0 made.2.matches))
 next_only n m (by_size x) (matching q vs) b c of_it h = subst (λ (r : PlainPattern). HasOnly (pattern_variables r) b c) of_it.0 (matching_only n q vs b c h)
 next_only n m (by_size x) (solving y f) b c of_it h = absurd of_it
+next_only n m (by_value place p v) (matching q vs) b c of_it h = subst (λ (r : PlainPattern). HasOnly (pattern_variables r) b c) of_it.0 (matching_only n q vs b c h)
+next_only n m (by_value place p v) (solving y f) b c of_it h = absurd of_it
 
 -- and so do the trials of several stages
 pub ends_only : (n : PlainNet) (m : Marking) (stages : List Stage) (trials : List Trial) (b c : PlainPartial) → AreTrialsOf n m stages trials → IsIn c (ends n trials b) → HasOnly (variables_at_each stages) b c

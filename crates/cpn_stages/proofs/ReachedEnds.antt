@@ -13,7 +13,7 @@ use Rattle.cpn_definitions.proofs.NumberTests.{equals_itself}
 use Rattle.cpn_definitions.proofs.RisingLists.{IsIn, in_from_contains, contains_from_in, in_flat_map, of_one_in, in_flat_from}
 use Rattle.cpn_stages.specs.Partial.{PlainPartial, unbound, variables_in, value_in, IsKept, Extends, bound_in}
 use Rattle.cpn_stages.specs.Instances.{IsInstance}
-use Rattle.cpn_stages.specs.Stages.{Stage, by_term, by_equation, by_size, variables_at_each}
+use Rattle.cpn_stages.specs.Stages.{Stage, by_term, by_equation, by_size, by_value, variables_at_each}
 use Rattle.cpn_stages.specs.Reached.{HasValue, IsAdmitted, Holds, IsReached}
 use Rattle.cpn_stages.specs.Work.{AllDiffer, AreJust}
 use Rattle.cpn_stages.specs.Orderly.{AreOrderly}
@@ -38,6 +38,11 @@ known_at : (t : PlainTransition) (before stages : List Stage) (stage : Stage) (b
 known_at t before stages (by_term place p) b orderly known = tt
 known_at t before stages (by_equation x e) b orderly known = λ y h. known y (in_from_contains (variables_at_each before) y (orderly.0.known y (contains_from_in (variables_of e) y h)))
 known_at t before stages (by_size x) b orderly known = tt
+known_at t before stages (by_value place p v) b orderly known = tt
+
+of_one_value : {v w : PlainValue} → IsIn w (v ∷ []) → v ≡ w
+of_one_value (inl e) = e
+of_one_value (inr h) = absurd h
 
 -- at a partial binding that extends what the trial made
 next_holds : (n : PlainNet) (m : Marking) (stage : Stage) (trial : Trial) (b c d : PlainPartial) → AreClosed n.functions → AreKnownAt stage b → IsTrialOf n m stage trial → IsIn c (next n trial b) → Extends c d → Holds n m d stage
@@ -58,6 +63,11 @@ next_holds n m (by_size x) (matching q vs) b c d closed known of_it h ext =
     let made = made_of_matching n q vs b c h in
     (made.0, subst (λ r. IsInstance d r made.0) of_it.0 (instance_stays c d q made.0 ext made.2.matches.makes.is_instance))
 next_holds n m (by_size x) (solving y f) b c d closed known of_it h ext = absurd of_it
+next_holds n m (by_value place p v) (matching q vs) b c d closed known of_it h ext =
+    let made = made_of_matching n q vs b c h in
+    let same : v ≡ made.0 = of_one_value (subst (IsIn made.0) of_it.1 made.1) in
+    (of_it.2, subst (λ w. IsInstance d p w) (sym same) (subst (λ r. IsInstance d r made.0) of_it.0 (instance_stays c d q made.0 ext made.2.matches.makes.is_instance)))
+next_holds n m (by_value place p v) (solving y f) b c d closed known of_it h ext = absurd of_it
 
 ends_hold
     : (n : PlainNet) (m : Marking) (t : PlainTransition) (before stages : List Stage) (trials : List Trial) (b c : PlainPartial)

@@ -186,7 +186,7 @@ token_stands v (k ∷ ks) r (s ∷ rs) is h = split (same_value v k.value) refl 
 need_itself : (need : Needed) → same_need need need ≡ true
 need_itself need = rw (equals_itself need.place, same_value_refl need.value) refl
 
-need_stands : (latest : Needed → ℕ) (m : Marking) (needs : List Needed) (need : Needed) → are_covered latest m needs ≡ true → IsIn need needs → StandsOn m need.place need.value
+pub need_stands : (latest : Needed → ℕ) (m : Marking) (needs : List Needed) (need : Needed) → are_covered latest m needs ≡ true → IsIn need needs → StandsOn m need.place need.value
 need_stands latest m needs need all h =
     let token = token_stands need.value (tokens_at m need.place) (latest need) (thresholds latest need needs)
     (passes_at (λ need. covers (stamps need.value (tokens_at m need.place)) (thresholds latest need needs)) needs need all h)

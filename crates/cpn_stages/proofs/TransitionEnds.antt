@@ -77,6 +77,16 @@ module _ (n : PlainNet) (m : Marking) (t : PlainTransition) (stages : List Stage
   pub all_ends_apart : AllApart (ends n trials (unbound t.vars))
   all_ends_apart = ends_apart n m stages trials (unbound t.vars) (stages_have_one n t stages are) of_them
 
+-- the same of any stages that give each variable a value
+pub each_end_whole_of
+    : (n : PlainNet) (m : Marking) (t : PlainTransition) (stages : List Stage) (trials : List Trial) → Rises nat_cmp t.vars → ((x : ℕ) → IsIn x t.vars → IsIn x (variables_at_each stages)) → AreTrialsOf n m stages trials
+    → (c : PlainPartial) → IsIn c (ends n trials (unbound t.vars)) → IsWhole c × (binds n t.vars (bound_in c) ≡ true)
+each_end_whole_of n m t stages trials listed given of_them c h =
+    let is = end_is n m stages trials (unbound t.vars) c of_them (unbound_admitted n t.vars) h in
+    let same : variables_in c ≡ t.vars = extends_variables (unbound t.vars) c is.extends ∙ unbound_variables t.vars in
+    let whole : IsWhole c = whole_from c (subst (Rises nat_cmp) (sym same) listed) (λ x g. is.has x (given x (subst (IsIn x) same g))) in
+    (whole, subst (λ xs. binds n xs (bound_in c) ≡ true) same (whole_binds n c whole is.admitted))
+
 -- each binding with which it is covered is one of them
 pub covered_is_end
     : (n : PlainNet) (m : Marking) (time : ℕ) (e : PlainElement) (stages : List Stage) (trials : List Trial)

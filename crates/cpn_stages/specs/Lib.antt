@@ -6,3 +6,5 @@ pub mod Work
 pub mod Fitting
 pub mod Trials
 pub mod Orderly
+pub mod TermsWith
+pub mod Reading

@@ -9,7 +9,7 @@ use Rattle.cpn_definitions.specs.Net.{PlainTransition, PlainNet, variable_at}
 use Rattle.cpn_definitions.specs.Meaning.{meaning}
 use Rattle.cpn_stages.specs.Partial.{PlainPartial, variables_in, value_in, bound_in}
 use Rattle.cpn_stages.specs.Instances.{IsInstance}
-use Rattle.cpn_stages.specs.Stages.{Stage, by_term, by_equation, by_size, variables_at_each}
+use Rattle.cpn_stages.specs.Stages.{Stage, by_term, by_equation, by_size, by_value, variables_at_each}
 
 -- a token of the place has the value
 abbrev pub StandsOn : Marking → ℕ → PlainValue → Type 0
@@ -29,6 +29,7 @@ abbrev pub Holds : PlainNet → Marking → PlainPartial → Stage → Type 0
 Holds n m b (by_term place p) = (v : PlainValue) × StandsOn m place v × IsInstance b p v
 Holds n m b (by_equation x e) = (v : PlainValue) × (value_in x b ≡ Some v) × (meaning n.functions e (bound_in b) 0 ≡ gives v)
 Holds n m b (by_size x) = HasValue x b
+Holds n m b (by_value place p v) = StandsOn m place v × IsInstance b p v
 
 -- Reached: a partial binding of the transition's variables that gives just those of the stages a value, each one that its
 -- colour set admits, and of which each of the stages holds.

@@ -2,22 +2,25 @@
 -- guard, variables of small colour sets. Source: own choice.
 use Rattle.std.specs.Prelude.{◌≡◌, ℕ, ◌==◌, Bool, not, ◌&&◌, if◌then◌else◌, List, [], ◌∷◌, ◌++◌, map, Option, Some, None}
 use Rattle.std.specs.List.{filter, flat_map, list_all, list_any, AllByRecursion}
+use Rattle.cpn_definitions.specs.Value.{PlainValue}
 use Rattle.cpn_definitions.specs.Inscription.{operation, equality, PlainPattern, PlainExpr, variable, apply, no_exprs, more_exprs}
 use Rattle.cpn_definitions.specs.Net.{PlainArc, PlainTransition, PlainNet, variable_at}
 use Rattle.cpn_definitions.specs.Bindable.{binding_terms, pattern_variables, variables_of, conjuncts_of, IsSmall}
 
 -- A stage: a binding term of an input arc from a place; a variable and the inscription that the guard makes it equal to; a
--- variable of a small colour set.
+-- variable of a small colour set; or a binding term that is held to one value.
 pub data Stage : Type 0 where
   by_term : ℕ → PlainPattern → Stage
   by_equation : ℕ → PlainExpr → Stage
   by_size : ℕ → Stage
+  by_value : ℕ → PlainPattern → PlainValue → Stage
 
 -- the variables to which a stage gives values
 abbrev pub variables_at : Stage → List ℕ
 variables_at (by_term place p) = pattern_variables p
 variables_at (by_equation x e) = x ∷ []
 variables_at (by_size x) = x ∷ []
+variables_at (by_value place p v) = pattern_variables p
 
 -- the variables to which stages give values
 abbrev pub variables_at_each : List Stage → List ℕ

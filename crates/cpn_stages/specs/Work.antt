@@ -1,8 +1,9 @@
 -- How many tries a search of a transition makes, stage by stage. Source: own choice.
-use Rattle.std.specs.Prelude.{◌≡◌, ℕ, ◌+◌, ◌*◌, ◌↔◌, List, [], ◌∷◌, ◌++◌, length, Contains}
+use Rattle.std.specs.Prelude.{◌≡◌, ℕ, ◌+◌, ◌*◌, ◌==◌, ◌↔◌, if◌then◌else◌, List, [], ◌∷◌, ◌++◌, length, Contains}
+use Rattle.cpn_definitions.specs.Value.{PlainValue}
 use Rattle.cpn_definitions.specs.Marking.{Marking}
 use Rattle.cpn_definitions.specs.Net.{PlainTransition, PlainNet, transition_at}
-use Rattle.cpn_stages.specs.Stages.{Stage, by_term, by_equation, by_size, AreStages}
+use Rattle.cpn_stages.specs.Stages.{Stage, by_term, by_equation, by_size, by_value, AreStages}
 use Rattle.cpn_stages.specs.Reached.{StandsOn, IsAdmitted, IsReached}
 
 -- no item of the list stands in it twice
@@ -24,6 +25,7 @@ abbrev pub IsTries : PlainNet → Marking → Stage → ℕ → Type 0
 IsTries n m (by_term place p) k = AreSoMany (StandsOn m place) k
 IsTries n m (by_equation x e) k = k ≡ 1
 IsTries n m (by_size x) k = AreSoMany (IsAdmitted n x) k
+IsTries n m (by_value place p v) k = k ≡ 1
 
 -- the tries at the stages that follow some: each stage is tried at each partial binding that those before it reach; and each
 -- that all of them reach counts one more
@@ -38,3 +40,28 @@ pub record IsFull (n : PlainNet) (m : Marking) (t : ℕ) (k : ℕ) : Type 0 wher
   pub stages : List Stage
   pub are : AreStages n (transition_at n t) stages
   pub tries : AreTries n m (transition_at n t) [] stages k
+
+-- ---- with a value at one of the binding terms
+
+-- the list of stages with a stage in front, held to the value: where it is a binding term on an arc from the place
+abbrev pub pulled_at : ℕ → PlainValue → List Stage → Stage → List Stage → List (List Stage)
+pulled_at place v before (by_term q p) behind = if place == q then (by_value place p v ∷ before ++ behind) ∷ [] else []
+pulled_at place v before stage behind = []
+
+-- The lists of stages in which one binding term on an arc from the place is pulled to the front and held to the value: one for each
+-- such term behind those before, in their order.
+abbrev pub pulled : ℕ → PlainValue → List Stage → List Stage → List (List Stage)
+pulled place v before [] = []
+pulled place v before (stage ∷ behind) = pulled_at place v before stage behind ++ pulled place v (before ++ stage ∷ []) behind
+
+-- the tries at several lists of stages, one after another
+abbrev pub AreAllTries : PlainNet → Marking → PlainTransition → List (List Stage) → ℕ → Type 0
+AreAllTries n m t [] k = k ≡ 0
+AreAllTries n m t (stages ∷ others) k = (own later : ℕ) × AreTries n m t [] stages own × AreAllTries n m t others later × (k ≡ own + later)
+
+-- Pinned: for each binding term on an arc from the place, the tries at all the stages of a transition with that term as the first
+-- stage and the value as its one try; summed.
+pub record IsPinned (n : PlainNet) (m : Marking) (t place : ℕ) (v : PlainValue) (k : ℕ) : Type 0 where
+  pub stages : List Stage
+  pub are : AreStages n (transition_at n t) stages
+  pub tries : AreAllTries n m (transition_at n t) (pulled place v [] stages) k

@@ -49,12 +49,47 @@ fn push_taken(
     if place.covers_at(need, 10) {
         place.subtract(need, 10, &mut picks)?;
     }
+    push_picks(text, &picks)
+}
+
+/// Writes the tokens that were taken.
+fn push_picks(text: &mut String, picks: &Picks) -> Result<(), Memory> {
     for pick in picks.as_slice() {
         let number = number_of(&pick.value);
         let stamp = pick.stamp;
         write!(text, " {number}@{stamp}")?;
     }
     Ok(())
+}
+
+/// What is told of a place with these tokens, from which two needs are taken, a 7 at 5 and then a 7 at 4, each if it is covered, when
+/// further tokens are put in ahead of these.
+pub fn told_of_put_after(
+    alloc: Global,
+    tokens: &[(i64, u64)],
+    ahead: &[(i64, u64)],
+) -> Result<String, Memory> {
+    let mut place = TMSet::new(alloc);
+    for (number, stamp) in tokens {
+        put(&mut place, *number, *stamp)?;
+    }
+    let need = multiset_of(alloc, &[(7, 1)])?;
+    let mut picks = Picks::new(alloc);
+    for time in [5, 4] {
+        if place.covers_at(&need, time) {
+            place.subtract(&need, time, &mut picks)?;
+        }
+    }
+    for (number, stamp) in ahead {
+        if place.total() < MANY {
+            place.put_after(&Value::Int(*number), *stamp, &mut picks)?;
+        }
+    }
+    let mut text = String::from_str(alloc, "took")?;
+    push_picks(&mut text, &picks)?;
+    text.push_str(" left ")?;
+    push_place(&mut text, alloc, &place)?;
+    Ok(text)
 }
 
 /// What is told of a place with these tokens and of this need. It is taken from a copy.

@@ -2,7 +2,7 @@
 
 use crate::markings::told_of_marking;
 use crate::multisets::told_of_multisets;
-use crate::places::told_of_place;
+use crate::places::{told_of_place, told_of_put_after};
 use cpn_core::Memory;
 use std::alloc::Global;
 use std::test::Fail;
@@ -29,6 +29,11 @@ fn told(alloc: Global, asked: &str) -> Result<String, Memory> {
             alloc,
             &pairs_in(alloc, there, '@')?,
             &pairs_in(alloc, needed, 'x')?,
+        ),
+        "behind" => told_of_put_after(
+            alloc,
+            &pairs_in(alloc, there, '@')?,
+            &pairs_in(alloc, needed, '@')?,
         ),
         "marking" => told_of_marking(
             alloc,
@@ -64,6 +69,17 @@ place 7@3 7@9 | 7x1 8x1 -> 7@3x1 7@9x1 = 2 of 1 never took left 7@3x1 7@9x1 = 2 
 place 7@3 | 7x1 7x1 -> 7@3x1 = 1 of 1 never took left 7@3x1 = 1 of 1
 place 7@3 7@3 7@3 | 7x0 8x0 -> 7@3x3 = 3 of 1 from 0 took left 7@3x3 = 3 of 1
 place 7@10 7@11 6@0 | 7x1 6x1 -> 6@0x1 7@10x1 7@11x1 = 3 of 2 from 10 took 6@0 7@10 left 7@11x1 = 1 of 1
+behind 7@0 7@3 | -> took 7@3 7@0 left = 0 of 0
+behind 7@0 7@3 | 7@5 -> took 7@5 7@3 left 7@0x1 = 1 of 1
+behind 7@0 7@3 | 7@4 -> took 7@4 7@3 left 7@0x1 = 1 of 1
+behind 7@0 7@3 | 7@6 -> took 7@3 7@0 left 7@6x1 = 1 of 1
+behind 7@0 7@3 | 7@2 -> took 7@3 7@2 left 7@0x1 = 1 of 1
+behind 7@0 7@3 | 7@0 -> took 7@3 7@0 left 7@0x1 = 1 of 1
+behind 7@0 7@3 | 8@5 -> took 7@3 7@0 left 8@5x1 = 1 of 1
+behind 7@0 7@3 | 7@4 7@5 -> took 7@5 7@4 left 7@0x1 7@3x1 = 2 of 1
+behind 7@0 7@3 7@9 | 7@5 -> took 7@5 7@3 left 7@0x1 7@9x1 = 2 of 1
+behind 7@5 | 7@5 -> took 7@5 left 7@5x1 = 1 of 1
+behind 8@0 | 7@5 -> took left 7@5x1 8@0x1 = 2 of 2
 place  | -> = 0 of 0 from 0 took left = 0 of 0
 place 7@3 | 7x1 -> 7@3x1 = 1 of 1 from 3 took 7@3 left = 0 of 0
 place 7@3 | 7x2 -> 7@3x1 = 1 of 1 never took left 7@3x1 = 1 of 1

@@ -14,6 +14,8 @@ mod Ranks
 mod EarliestTimes
 mod NeedPlaces
 mod TakenStamps
+pub mod CarriedStamps
+pub mod TakenAmong
 mod SubtractedNeeds
 mod MultisetNeeds
 pub mod ChangeOrder
@@ -21,3 +23,4 @@ mod ChangedRows
 mod RoomLeft
 mod Rows
 mod SubtractedRows
+mod CarriedRows

@@ -8,6 +8,8 @@ pub mod Covering
 pub mod Listed
 pub mod Picks
 pub mod PicksViews
+pub mod Carried
+pub mod StampsTaken
 pub mod NeedPositions
 pub mod Subtracted
 pub mod Changed

@@ -1,5 +1,6 @@
 //! How a marking changes when an element occurs: its needs are taken out, and its outputs are put in.
-ghost use Rattle.std.specs.Prelude.{◌≡◌, ◌+◌, ◌<◌, ◌≤◌, ◌^◌, ℕ, true, false, length, MatchOption, OnOk};
+ghost use Rattle.std.specs.Prelude.{◌≡◌, ◌+◌, ◌<◌, ◌≤◌, ◌^◌, ℕ, true, false, length, MatchOption, IfOk, OnOk, OnErr};
+ghost use Rattle.std.specs.Option.{unwrap_or};
 ghost use Rattle.std.specs.List.{list_any, slice_get};
 ghost use Rattle.cpn_definitions.specs.Lists.{IsInOrder};
 ghost use Rattle.cpn_definitions.specs.Order.{same_value};
@@ -11,10 +12,13 @@ ghost use Rattle.cpn_core.specs.OutputsViews.{made_view};
 ghost use Rattle.cpn_core.specs.Views.{value_view};
 ghost use Rattle.cpn_tmset.specs.Limits.{HasRoom, HaveRoomFor};
 ghost use Rattle.cpn_tmset.specs.NeedPositions.{IsStartOfNeed, need_before};
+ghost use Rattle.cpn_tmset.specs.Stamps.{latest_of};
+ghost use Rattle.cpn_tmset.specs.StampsTaken.{stamps_taken};
 ghost use Rattle.cpn_tmset.specs.Subtracted.{IsSubtracted};
 
 use crate::markings::Marking;
 use cpn_core::{Made, Memory, Needed, Needs, Outputs, Value};
+use std::alloc::Global;
 use std::cmp::Ordering;
 
 impl Marking {
@@ -60,6 +64,23 @@ impl Marking {
         }
     }
 
+    /// Takes the needs out, as `subtract` does, and gives the stamp of the token that each of them takes; that of one that is not there
+    /// is 0. After `Memory` the marking is as it was.
+    pub fn take_out(&mut self, alloc: Global, needs: &Needs, time: u64) -> Result<Vec<u64>, Memory>
+        requires time { time ≤ last_time }
+        ensures subtracted { OnOk result (self.new ≡ subtract (threshold time) needs.now self.old) }
+        ensures stamps { IfOk result (λ stamps. stamps.items ≡ stamps_taken time needs.now self.old) }
+        ensures unchanged { OnErr result (self.new ≡ self.old) }
+    {
+        let tokens = needs.tokens();
+        let mut stamps = Vec::with_capacity(alloc, tokens.len())?;
+        for need in tokens {
+            let stamp = self.take_stamp(need.place, &need.value, time + need.offset);
+            stamps.push_reserved(stamp);
+        }
+        Ok(stamps)
+    }
+
     /// Puts the tokens in; one for a place past the last one is lost. After `Memory` some of them may stand in the
     /// marking.
     pub fn add_made(&mut self, outputs: Outputs) -> Result<(), Memory>
@@ -87,6 +108,19 @@ impl Marking {
     {
         if (place as usize) < self.len() {
             self.take(place, value, latest);
+        }
+    }
+
+    // The same, and gives the stamp of the token; 0 where there is none.
+    fn take_stamp(&mut self, place: u32, value: &Value, latest: u64) -> u64
+        ensures stamp { result ≡ unwrap_or (latest_of latest (stamps (value_view value.now) (tokens_at self.old place))) 0 }
+        ensures taken { self.new ≡ on_place place (without_token (value_view value.now) latest) self.old }
+    {
+        if (place as usize) < self.len() {
+            let stamp = self.take_latest(place, value, latest);
+            stamp.unwrap_or(0)
+        } else {
+            0
         }
     }
 

@@ -7,6 +7,7 @@
 //! bindings or runs, and reads and writes nothing outside the program.
 #![tactic(auto)]
 
+mod carried;
 mod changed;
 mod covering;
 mod exchanges;
@@ -16,6 +17,7 @@ mod picks;
 mod stamps;
 mod tmsets;
 
+pub use carried::carry_past;
 pub use changed::{Change, Changes};
 pub use listing::TokenGroup;
 pub use markings::Marking;

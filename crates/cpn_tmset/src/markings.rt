@@ -3,6 +3,7 @@ ghost use Rattle.std.specs.Prelude.{◌≡◌, ◌<◌, [], length, replicate, s
 ghost use Rattle.cpn_definitions.specs.Marking.{token_at, tokens_at, on_place, add_token, without_token, AreSorted, stamps, without_latest};
 ghost use Rattle.cpn_core.specs.Views.{value_view};
 ghost use Rattle.cpn_tmset.specs.Limits.{HasRoom};
+ghost use Rattle.cpn_tmset.specs.Stamps.{latest_of};
 
 use crate::tmsets::TMSet;
 use cpn_core::{Memory, Value};
@@ -97,6 +98,17 @@ impl Marking {
     {
         let held = &mut self.places[place as usize];
         held.take(value, latest);
+    }
+
+    /// The same, and gives the stamp of the token that it takes.
+    pub(crate) fn take_latest(&mut self, place: u32, value: &Value, latest: u64) -> Option<u64>
+        requires in_range { place < length self.old }
+        ensures stamp { result ≡ latest_of latest (stamps (value_view value.now) (tokens_at self.old place)) }
+        ensures taken { self.new ≡ on_place place (without_token (value_view value.now) latest) self.old }
+        ensures places { length self.new ≡ length self.old }
+    {
+        let held = &mut self.places[place as usize];
+        held.take_latest(value, latest)
     }
 
     /// A marking of its own with the same tokens.

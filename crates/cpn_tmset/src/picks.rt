@@ -28,7 +28,7 @@ pub struct Pick {
 /// Tokens that were taken, one after another. A clause sees them as the plain list.
 #[derive(Drop)]
 pub struct Picks {
-    picks: Vec<Pick>,
+    pub(crate) picks: Vec<Pick>,
 }
 
 impl Model for Picks {

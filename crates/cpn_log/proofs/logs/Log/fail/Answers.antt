@@ -1,11 +1,11 @@
--- A fault adds nothing: the log stays kept with the same unclaimed marking.
-use Rattle.std.proofs.Common.{refl, ◌∙◌, arith}
+-- A fault adds nothing: the log stays kept with the same run.
+use Rattle.std.proofs.Common.{refl, ap₂, ◌∙◌, arith}
 use Rattle.cpn_core.specs.Faults.{fault_view}
 use Rattle.cpn_runs.specs.HoleRun.{faulted_with}
 use Rattle.cpn_log.specs.LogViews.{log_view}
 use Rattle.cpn_log.proofs.LogParts.{open_at}
 use Rattle.cpn_log.proofs.LogSteps.{open_within}
-use Rattle.cpn_log.proofs.Completions.{kept_completed, left_by_none}
+use Rattle.cpn_log.proofs.Completions.{kept_completed, run_with_none}
 use Rattle.cpn_log.proofs.ClaimStandings.{failed_stands}
 use Rattle.cpn_log.proofs.logs.Log.fail.Goals as goal
 
@@ -21,7 +21,7 @@ returns-clause-kept c =
     let o = open_at log c.args.number c.requires.open in
     let status = faulted_with (fault_view c.args.fault) in
     kept_completed log c.args.number c.requires.kept o (log_view c.complete.new.self) status (omega arith) c.complete.ensures.committed c.complete.ensures.settled c.complete.ensures.completed
-    (c.complete.ensures.unclaimed ∙ left_by_none log c.args.number c.requires.kept o status refl)
+    (ap₂ (λ m ps. record { marking = m; picks = ps }) c.complete.ensures.unclaimed c.complete.ensures.picks ∙ run_with_none log c.args.number c.requires.kept o status refl)
 
 pub returns-clause-stands : goal.returns-clause-stands
 returns-clause-stands c =

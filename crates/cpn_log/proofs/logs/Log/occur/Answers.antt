@@ -21,7 +21,7 @@ pub returns-clause-occurred : goal.returns-clause-occurred
 returns-clause-occurred c =
     let log = c.args.self.now in
     let exchanged_at = λ (job : Job). exchanged c.args.needs.now job.time c.args.outputs (log_view log).settled in
-    occurred_is log (record { seat = c.args.seat; job = c.args.job; needs = c.new.result; course = courses.Done c.new-2.result }) c.push.new.self.items c.len-self.result _ _ (made_and_done c.args.seat (element_view c.args.job.value.element.value) c.args.job.value.time c.args.needs.now c.args.outputs)
+    occurred_is log (record { seat = c.args.seat; job = c.args.job; needs = c.new.result; stamps = c.new-2.result; course = courses.Done c.new-3.result }) c.push.new.self.items c.len-self.result _ _ (made_and_done c.args.seat (element_view c.args.job.value.element.value) c.args.job.value.time c.args.needs.now c.args.outputs)
     c.requires.all_committed
     c.in_ok-push.ensures.items
     (omega (arith, c.len-self.ensures))

@@ -1,0 +1,4 @@
+mod GrowingRings
+mod WrittenRings
+mod ShortRings
+mod Rows

@@ -1,0 +1,10 @@
+//! Tests of what is enabled, kept from one marking to the next, by calls: tables that were worked out by hand, and sizes past each
+//! threshold. The crate has nothing but its tests: beside the code that they test they would have all of it proved a second time.
+#![tactic(auto)]
+
+#[cfg(test)]
+mod elements;
+#[cfg(test)]
+mod rows;
+#[cfg(test)]
+mod sizes;
