@@ -12,14 +12,14 @@ use Rattle.cpn_runs.specs.Run.{PlainFinished}
 use Rattle.cpn_runs.specs.State.{PlainSetup}
 use Rattle.cpn_report.specs.Lines.{Line, run_line, occurrence_line, schedule_line, end_line, occurrences_line, clock_line, place_line, ready_line, next_line, monitor_line, opening_text, occurrence_text, schedule_text, end_text, occurrences_text, clock_text, place_text, ready_text, next_text, line_text, first_text, probe_text, total_text, ended}
 use Rattle.cpn_report.specs.MonitorText.{monitor_text}
-use Rattle.cpn_report.specs.Report.{trace_lines, place_lines_from, place_lines, last_lines, is_told, run_lines, ToldRun, run_texts, runs_texts, probes_texts, occurrences_told, report_texts, report_text}
+use Rattle.cpn_report.specs.Report.{trace_lines, place_lines_from, is_told, run_lines, ToldRun, run_texts, runs_texts, probes_texts, occurrences_told, report_texts, report_text}
 use Rattle.cpn_report.specs.Told.{is_one_line, IsSpelledRun, AreSpelledRuns, IsMadeRun, AreMadeRuns, AreShortRuns, LinesDiffer, journals_told, JournalsDiffer, values_told, ValuesOfRunsDiffer}
 use Rattle.cpn_report.specs.declared.traces.Trace.{Trace}
 use Rattle.cpn_report.specs.declared.traces.Trace.TheVariants as traces
 use Rattle.cpn_report.proofs.BytesApart.{bytes_apart}
 use Rattle.cpn_report.proofs.LineFeeds.{lines_end_once}
 use Rattle.cpn_report.proofs.MonitorsApart.{monitors_differ}
-use Rattle.cpn_report.proofs.ReportTexts.{all_told, no_trace, run_told}
+use Rattle.cpn_report.proofs.ReportTexts.{left_out, none_pass, all_pass, all_told, no_trace, no_trace_in_brief, told_places, told_last, run_told}
 use Rattle.cpn_report.proofs.ScheduleLines.{schedules_differ}
 use Rattle.cpn_report.proofs.SpelledNames.{values_are_spelled}
 
@@ -103,22 +103,16 @@ kept_texts test n (line ∷ lines) =
     by true rest = ap (λ texts. line_text n line ∷ texts) rest
     by false rest = rest
 
--- a line that does not pass is left out
-left_out : (own : Line → Bool) (line : Line) (lines : List Line) → own line ≡ false → filter own (line ∷ lines) ≡ filter own lines
-left_out own line lines not_own = ap (λ b. if b then line ∷ filter own lines else filter own lines) not_own
+-- a line that does not pass is left out, whether another test leaves it or not
+told_or_not : (own : Line → Bool) (line : Line) (rest : List Line) (told : Bool) → own line ≡ false → filter own rest ≡ [] → filter own (if told then line ∷ rest else rest) ≡ []
+told_or_not own line rest true not_own none = left_out own line rest not_own ∙ none
+told_or_not own line rest false not_own none = none
 
-none_pass : {X : Type 0} (own : Line → Bool) (line_of : X → Line) → ((x : X) → own (line_of x) ≡ false) → (xs : List X) → filter own (map line_of xs) ≡ []
-none_pass own line_of not_own [] = refl
-none_pass own line_of not_own (x ∷ xs) = left_out own (line_of x) (map line_of xs) (not_own x) ∙ none_pass own line_of not_own xs
-
-all_pass : {X : Type 0} (own : Line → Bool) (line_of : X → Line) → ((x : X) → own (line_of x) ≡ true) → (xs : List X) → filter own (map line_of xs) ≡ map line_of xs
-all_pass own line_of is_own [] = refl
-all_pass own line_of is_own (x ∷ xs) =
-    ap (λ b. if b then line_of x ∷ filter own (map line_of xs) else filter own (map line_of xs)) (is_own x) ∙ ap (λ lines. line_of x ∷ lines) (all_pass own line_of is_own xs)
-
-no_places : (own : Line → Bool) → ((place : Coloured) (tokens : Tokens) → own (place_line place tokens) ≡ false) → (p : ℕ) (places : List Coloured) (m : Marking) → filter own (place_lines_from p places m) ≡ []
-no_places own not_own p [] m = refl
-no_places own not_own p (place ∷ places) m = left_out own (place_line place (tokens_at m p)) (place_lines_from (p + 1) places m) (not_own place (tokens_at m p)) ∙ no_places own not_own (p + 1) places m
+no_places : (own also : Line → Bool) → ((place : Coloured) (tokens : Tokens) → own (place_line place tokens) ≡ false) → (p : ℕ) (places : List Coloured) (m : Marking) → filter own (filter also (place_lines_from p places m)) ≡ []
+no_places own also not_own p [] m = refl
+no_places own also not_own p (place ∷ places) m =
+    let line = place_line place (tokens_at m p) in
+    told_or_not own line (filter also (place_lines_from (p + 1) places m)) (also line) (not_own place (tokens_at m p)) (no_places own also not_own (p + 1) places m)
 
 -- A test that keeps none but the lines that open a run, tell a journal or tell what a monitor measured.
 module _ (test : List ℕ → Bool) (no_occ : test (codes "oc") ≡ false) (no_end : test (codes "en") ≡ false) (no_clock : test (codes "cl") ≡ false) (no_place : test (codes "pl") ≡ false) (no_ready : test (codes "re") ≡ false) (no_next : test (codes "ne") ≡ false) (no_probe : test (codes "pr") ≡ false) (no_total : test (codes "to") ≡ false) where
@@ -128,20 +122,21 @@ module _ (test : List ℕ → Bool) (no_occ : test (codes "oc") ≡ false) (no_e
       ap (filter (passes test)) (all_told (trace_lines run)) ∙ filter-append (passes test) (map occurrence_line run.occurrences) (schedule_line run.journal ∷ [])
       ∙ ap (λ lines. lines ++ filter (passes test) (schedule_line run.journal ∷ [])) (none_pass (passes test) occurrence_line (λ o. no_occ) run.occurrences)
   trace_kept traces.Off run = ap (filter (passes test)) (no_trace run)
+  trace_kept traces.Brief run = ap (filter (passes test)) (no_trace_in_brief run)
 
   -- and of what comes after it what the monitors measured
-  last_kept : (setup : PlainSetup) (run : PlainFinished) → filter (passes test) (last_lines setup run) ≡ filter (passes test) (map monitor_line run.values)
-  last_kept setup run =
+  last_kept : (trace : Trace) (setup : PlainSetup) (run : PlainFinished) → filter (passes test) (told_last trace setup run) ≡ filter (passes test) (map monitor_line run.values)
+  last_kept trace setup run =
       let own = passes test in
       let values = map monitor_line run.values in
-      let places = place_lines setup.net.places run.marking in
+      let places = told_places trace setup run in
       let closing = ready_line run.closing.ready_count ∷ next_line run.closing.next ∷ values in
       let after_clock = places ++ closing in
       left_out own (end_line run.values run.cause) (occurrences_line (length run.occurrences) ∷ clock_line run.clock ∷ after_clock) no_end
       ∙ left_out own (occurrences_line (length run.occurrences)) (clock_line run.clock ∷ after_clock) no_occ
       ∙ left_out own (clock_line run.clock) after_clock no_clock
       ∙ filter-append own places closing
-      ∙ ap₂ (λ lines others. lines ++ others) (no_places own (λ place tokens. no_place) 0 setup.net.places run.marking)
+      ∙ ap₂ (λ lines others. lines ++ others) (no_places own (is_told trace) (λ place tokens. no_place) 0 setup.net.places run.marking)
       (left_out own (ready_line run.closing.ready_count) (next_line run.closing.next ∷ values) no_ready ∙ left_out own (next_line run.closing.next) values no_next)
 
   run_kept
@@ -152,7 +147,7 @@ module _ (test : List ℕ → Bool) (no_occ : test (codes "oc") ≡ false) (no_e
       let opening = run_line k told.start told.setup.clock told.run.opening in
       let its_trace = filter (is_told trace) (trace_lines told.run) in
       let journal = filter (is_told trace) (schedule_line told.run.journal ∷ []) in
-      let rest = filter-append own its_trace (last_lines told.setup told.run) ∙ ap₂ (λ lines others. lines ++ others) (trace_kept trace told.run) (last_kept told.setup told.run) ∙ sym (filter-append own journal (map monitor_line told.run.values)) in
+      let rest = filter-append own its_trace (told_last trace told.setup told.run) ∙ ap₂ (λ lines others. lines ++ others) (trace_kept trace told.run) (last_kept trace told.setup told.run) ∙ sym (filter-append own journal (map monitor_line told.run.values)) in
       kept_texts test told.setup.net (run_lines trace told.setup k told.start told.run)
       ∙ ap (λ lines. map (line_text told.setup.net) (filter own lines)) (run_told trace told.setup k told.start told.run)
       ∙ ap (λ lines. map (line_text told.setup.net) (if own opening then opening ∷ lines else lines)) rest
@@ -238,6 +233,7 @@ values_kept trace k told =
     no_journal : (t : Trace) → filter (passes is_measured) (filter (is_told t) (schedule_line told.run.journal ∷ []) ++ map monitor_line told.run.values) ≡ filter (passes is_measured) (map monitor_line told.run.values)
     no_journal traces.On = refl
     no_journal traces.Off = refl
+    no_journal traces.Brief = refl
 
 -- the texts before the first that opens a run, and of each run those after it
 abbrev parts : List (List ℕ) → List (List ℕ) × List (List (List ℕ))

@@ -69,6 +69,10 @@ without_its_trace : report_text traces.Off (from_the_start one_occurrence ∷ []
 unfolding report_text report_texts run_lines whole_run opening_text end_text occurrences_text clock_text place_text ready_text next_text total_text
 without_its_trace = rw (decimal_digit 0 (omega arith), decimal_digit 1 (omega arith), decimal_digit 7 (omega arith)) refl
 
+in_brief : report_text traces.Brief (from_the_start one_occurrence ∷ []) [] ≡ codes "report 1\nrun 0 initial 0 ready 1 next 0\nend steps\noccurrences 1\nclock 0\nready 1\nnext 0\ntotal 1\n"
+unfolding report_text report_texts run_lines whole_run opening_text end_text occurrences_text clock_text ready_text next_text total_text
+in_brief = rw (decimal_digit 0 (omega arith), decimal_digit 1 (omega arith)) refl
+
 -- ---- two places, and another number everywhere
 
 abbrev two_places : PlainSetup

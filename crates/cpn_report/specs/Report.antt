@@ -41,10 +41,13 @@ whole_run setup number start run = run_line number start setup.clock run.opening
 
 -- ---- those that are told
 
--- whether a report has the line: without a trace it has no occurrence and no journal
+-- whether a report has the line: without a trace it has no occurrence and no journal, and where it is brief it has no place either
 abbrev pub is_told : Trace → Line → Bool
 is_told traces.Off (occurrence_line o) = false
 is_told traces.Off (schedule_line journal) = false
+is_told traces.Brief (occurrence_line o) = false
+is_told traces.Brief (schedule_line journal) = false
+is_told traces.Brief (place_line place tokens) = false
 is_told trace line = true
 
 -- the lines of the run of a number that a report has

@@ -138,7 +138,7 @@ values_told tolds = map (λ told. told_values told.run.values) tolds
 abbrev pub AreShortRuns : List ToldRun → Type 0
 AreShortRuns tolds = AllByRecursion (λ told. HaveShortNumbers told.run.values) tolds
 
--- Two reports that have the same text, with the trace on or off, tell as many runs, and of each the same values of its monitors.
+-- Two reports that have the same text, whatever they leave out, tell as many runs, and of each the same values of its monitors.
 abbrev pub ValuesOfRunsDiffer : Type 0
 ValuesOfRunsDiffer =
     (trace other_trace : Trace) (tolds others : List ToldRun) (said other_said : List (List ℕ)) → AreSpelledRuns tolds → AreSpelledRuns others

@@ -6,7 +6,7 @@ ghost use Rattle.cpn_core.specs.Nets.{net_view};
 ghost use Rattle.cpn_runs.specs.FinishedViews.{setup_view, finished_view};
 ghost use Rattle.cpn_report.specs.Printable.{IsPrintable};
 ghost use Rattle.cpn_report.specs.Lines.{lines_text};
-ghost use Rattle.cpn_report.specs.Report.{ToldRun, is_told, trace_lines, run_text as text_of_run, report_text};
+ghost use Rattle.cpn_report.specs.Report.{ToldRun, is_told, trace_lines, place_lines, run_text as text_of_run, report_text};
 ghost use Rattle.cpn_report.specs.Tells.{told_run, runs_in, occurrences_in, Tells};
 
 use crate::elements::push_occurrences;
@@ -36,7 +36,8 @@ pub struct Report {
 }
 
 impl Report {
-    /// A report that has told no run. Without a trace it leaves out the lines of occurrences and of journals, and no others.
+    /// A report that has told no run. Without a trace it leaves out the lines of occurrences and of journals, and where it is brief those
+    /// of places too, and no others.
     ///
     /// `Err` comes for want of memory alone.
     pub fn new(alloc: Global, trace: Trace) -> Result<Report, Memory>
@@ -119,14 +120,14 @@ fn push_run(
     push_end_line(out, net, &finished.values, &finished.cause)?;
     push_occurrences_line(out, finished.occurrences.len() as u64)?;
     push_clock_line(out, finished.clock)?;
-    push_place_lines(out, net, &net.places, &finished.marking)?;
+    push_places(out, trace, finished)?;
     push_ready_line(out, finished.closing.ready)?;
     push_next_line(out, finished.closing.next)?;
     push_monitor_lines(out, &finished.values)?;
     Ok(())
 }
 
-/// Appends the lines of the occurrences and of the journal, unless the trace is off.
+/// Appends the lines of the occurrences and of the journal, where the trace is on.
 fn push_trace(out: &mut String, trace: Trace, finished: &Finished) -> Result<(), Memory>
     requires printable { IsPrintable (net_view finished.now.setup.net.value) (finished_view finished.now) }
     ensures written { OnOk result (string_bytes out.new ≡ string_bytes out.old ++ lines_text (net_view finished.now.setup.net.value) (filter (is_told trace) (trace_lines (finished_view finished.now)))) }
@@ -137,6 +138,21 @@ fn push_trace(out: &mut String, trace: Trace, finished: &Finished) -> Result<(),
             push_schedule_line(out, &finished.journal)?;
         }
         Trace::Off => {}
+        Trace::Brief => {}
+    }
+    Ok(())
+}
+
+/// Appends the lines of the places, unless the report is brief.
+fn push_places(out: &mut String, trace: Trace, finished: &Finished) -> Result<(), Memory>
+    requires printable { IsPrintable (net_view finished.now.setup.net.value) (finished_view finished.now) }
+    ensures written { OnOk result (string_bytes out.new ≡ string_bytes out.old ++ lines_text (net_view finished.now.setup.net.value) (filter (is_told trace) (place_lines (net_view finished.now.setup.net.value).places (finished_view finished.now).marking))) }
+{
+    let net = &*finished.setup.net;
+    match trace {
+        Trace::On => push_place_lines(out, net, &net.places, &finished.marking)?,
+        Trace::Off => push_place_lines(out, net, &net.places, &finished.marking)?,
+        Trace::Brief => {}
     }
     Ok(())
 }

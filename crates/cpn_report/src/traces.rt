@@ -1,10 +1,12 @@
 // How much of a run its report tells.
 
-/// Whether a report has the trace of its run: a line for each occurrence, and the line of the journal.
+/// Which lines of its runs a report has. The trace of a run is a line for each occurrence, and the line of the journal.
 #[derive(Clone, Copy, Debug, PartialEq, Eq)]
 pub enum Trace {
-    /// It has.
+    /// All of them.
     On,
-    /// It leaves these lines out.
+    /// All but the trace.
     Off,
+    /// All but the trace and the lines of places.
+    Brief,
 }

@@ -1,4 +1,5 @@
 mod Readings
+mod ReadDocuments
 mod RefusalCauses
 mod RefusedDocuments
 mod OneReport

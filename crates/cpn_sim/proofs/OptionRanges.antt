@@ -31,7 +31,8 @@ use Rattle.clap.specs.declared.parser.matches.ValueSource.{ValueSource}
 use Rattle.clap.specs.declared.parser.matches.ValueSource.TheVariants.{CommandLine, DefaultValue}
 use Rattle.clap.proofs.FaultLemmas.{leaf_fault}
 use Rattle.clap.proofs.ValueTestLemmas.{accepts-Accepts}
-use Rattle.cpn_sim.specs.Options.{PlainOptions, command_line, number_of, options_in, options_from, trace_of, unless_faulty, value_of, when}
+use Rattle.cpn_sim.specs.Options.{PlainOptions, command_line, mode_of, number_of, options_in, options_from, trace_in, trace_of, unless_faulty, value_of}
+use Rattle.cpn_sim.specs.declared.options.Mode.{Mode}
 
 -- ---- no kinds of errors
 
@@ -461,17 +462,17 @@ record AreNumbersOf (rows : List Row) (options : PlainOptions) : Type 0 where
 
 numbers_are : (rows : List Row) (options : PlainOptions) → options_in rows ≡ Some options → AreNumbersOf rows options
 unfolding options_in
-numbers_are rows options is = by (bytes_eq (value_of (codes "mode") rows) (codes "run")) (trace_of (value_of (codes "trace") rows)) is
+numbers_are rows options is = by (mode_of (value_of (codes "mode") rows)) (trace_of (value_of (codes "trace") rows)) is
   where
-    given : Trace → PlainOptions
-    given trace = record { seed = number_of (codes "seed") rows; workers = number_of (codes "workers") rows; steps = number_of (codes "steps") rows; until = number_of (codes "until") rows; trace = trace }
+    given : Mode → Trace → PlainOptions
+    given mode trace = record { mode = mode; seed = number_of (codes "seed") rows; workers = number_of (codes "workers") rows; steps = number_of (codes "steps") rows; until = number_of (codes "until") rows; trace = trace_in mode trace }
 
-    by : (run : Bool) (trace : Option Trace) → option_and_then (λ _. option_and_then (λ t. Some (given t)) trace) (when run) ≡ Some options → AreNumbersOf rows options
-    by true (Some t) made =
-        let same : given t ≡ options = same_Some (given t) options made in
+    by : (mode : Option Mode) (trace : Option Trace) → option_and_then (λ m. option_and_then (λ t. Some (given m t)) trace) mode ≡ Some options → AreNumbersOf rows options
+    by (Some m) (Some t) made =
+        let same : given m t ≡ options = same_Some (given m t) options made in
         record { workers = sym (ap (λ (o : PlainOptions). o.workers) same); steps = sym (ap (λ (o : PlainOptions). o.steps) same); until = sym (ap (λ (o : PlainOptions). o.until) same) }
-    by true None made = cc
-    by false trace made = cc
+    by (Some m) None made = cc
+    by None trace made = cc
 
 -- The law: options that words give are in range.
 pub options_in_range : (words : List (List ℕ)) (options : PlainOptions) → options_from words ≡ Some options → AreInRange options

@@ -1,4 +1,4 @@
--- What words give, worked out by hand: the default and the value of each option, and the names of the trace.
+-- What words give, worked out by hand: the default and the value of each option, and the names of the mode and of the trace.
 use Rattle.std.proofs.Common.{◌≡◌, ℕ, Bool, true, false, true≢false, List, [], ◌∷◌, Some, None, is_some, refl, sym, ap, inl, inr, codes}
 use Rattle.std.specs.Prelude.{◌⊎◌, if◌then◌else◌, unwrap_or}
 use Rattle.std.specs.Bool.{Decides}
@@ -6,25 +6,31 @@ use Rattle.std.specs.Str.{bytes_eq}
 use Rattle.std.proofs.lemmas.Slice.Eq.{bytes_eq-Decides}
 use Rattle.clap.specs.Faults.{walk_fault, defaults_fault}
 use Rattle.clap.specs.Walk.{walked}
-use Rattle.cpn_sim.specs.Options.{options_from, options_in, trace_of}
+use Rattle.cpn_sim.specs.Options.{options_from, options_in, mode_of, trace_in, trace_of}
+use Rattle.cpn_sim.specs.declared.options.Mode.TheVariants as modes
 use Rattle.cpn_report.specs.declared.traces.Trace.{Trace}
 use Rattle.cpn_report.specs.declared.traces.Trace.TheVariants as traces
 
-no_words : options_from [] ≡ Some (record { seed = 0; workers = 1; steps = 1000; until = 4611686018427387904; trace = traces.On })
-unfolding options_from options_in trace_of walk_fault defaults_fault
+no_words : options_from [] ≡ Some (record { mode = modes.Run; seed = 0; workers = 1; steps = 1000; until = 4611686018427387904; trace = traces.On })
+unfolding options_from options_in mode_of trace_in trace_of walk_fault defaults_fault
 no_words = refl
 
-each_option : options_from (codes "--until" ∷ codes "7" ∷ codes "--trace=off" ∷ codes "--seed" ∷ codes "+5" ∷ codes "--steps" ∷ codes "002" ∷ codes "--workers=1" ∷ codes "--mode" ∷ codes "run" ∷ []) ≡ Some (record { seed = 5; workers = 1; steps = 2; until = 7; trace = traces.Off })
-unfolding options_from options_in trace_of walk_fault defaults_fault walked
+each_option : options_from (codes "--until" ∷ codes "7" ∷ codes "--trace=off" ∷ codes "--seed" ∷ codes "+5" ∷ codes "--steps" ∷ codes "002" ∷ codes "--workers=1" ∷ codes "--mode" ∷ codes "run" ∷ []) ≡ Some (record { mode = modes.Run; seed = 5; workers = 1; steps = 2; until = 7; trace = traces.Off })
+unfolding options_from options_in mode_of trace_in trace_of walk_fault defaults_fault walked
 each_option = refl
 
 trace_yes : options_from (codes "--trace" ∷ codes "yes" ∷ []) ≡ None
-unfolding options_from options_in trace_of walk_fault defaults_fault walked
+unfolding options_from options_in mode_of trace_of walk_fault defaults_fault walked
 trace_yes = refl
 
-mode_large : options_from (codes "--mode" ∷ codes "large" ∷ []) ≡ None
-unfolding options_from options_in trace_of walk_fault defaults_fault walked
+-- in mode large neither a trace nor the places are told, whatever trace is asked for
+mode_large : options_from (codes "--mode" ∷ codes "large" ∷ []) ≡ Some (record { mode = modes.Large; seed = 0; workers = 1; steps = 1000; until = 4611686018427387904; trace = traces.Brief })
+unfolding options_from options_in mode_of trace_in trace_of walk_fault defaults_fault walked
 mode_large = refl
+
+mode_reps : options_from (codes "--mode=reps" ∷ []) ≡ None
+unfolding options_from options_in mode_of trace_of walk_fault defaults_fault walked
+mode_reps = refl
 
 two_workers : options_from (codes "--workers" ∷ codes "2" ∷ []) ≡ None
 unfolding options_from options_in trace_of walk_fault defaults_fault walked

@@ -109,11 +109,11 @@ of_length too_long is = refl
 of_length (bad_document r) is = no_document r statuses.TooLong refl is
 
 -- the refusal of a status of the document is one of the document
-document_of : (refusal : PlainRefusal) (s : Status) → is_of_document s ≡ true → status_of refusal ≡ s → (r : ModelRefusal) × (refusal ≡ bad_document r) × (status_of_document r ≡ s)
-document_of bad_words s its is = let e : false ≡ true = ap is_of_document is ∙ its in absurd cc
-document_of read_fault s its is = let e : false ≡ true = ap is_of_document is ∙ its in absurd cc
-document_of too_long s its is = let e : false ≡ true = ap is_of_document is ∙ its in absurd cc
-document_of (bad_document r) s its is = (r, refl, is)
+of_a_document : (refusal : PlainRefusal) (s : Status) → is_of_document s ≡ true → status_of refusal ≡ s → (r : ModelRefusal) × (refusal ≡ bad_document r) × (status_of_document r ≡ s)
+of_a_document bad_words s its is = let e : false ≡ true = ap is_of_document is ∙ its in absurd cc
+of_a_document read_fault s its is = let e : false ≡ true = ap is_of_document is ∙ its in absurd cc
+of_a_document too_long s its is = let e : false ≡ true = ap is_of_document is ∙ its in absurd cc
+of_a_document (bad_document r) s its is = (r, refl, is)
 
 is_no_report : (refusal : PlainRefusal) → IsReported (status_of refusal) → ⊥
 is_no_report bad_words (inl is) = cc
@@ -172,7 +172,7 @@ module _ (refusal : PlainRefusal) (words : List (List ℕ)) (left : Option (List
   pub document_told : (s : Status) → is_of_document s ≡ true → (s ≡ statuses.Memory → ⊥) → (s ≡ statuses.WriteFault → ⊥) → status ≡ s → (r : ModelRefusal) × HasCause (bad_document r) words left before after × (status_of_document r ≡ s) × Appends old new (model_line r)
   document_told s its not_memory not_write is =
       let same = told s not_memory not_write is in
-      let which = document_of refusal s its same in
+      let which = of_a_document refusal s its same in
       let both = having s (bad_document which.0) is same which.1 in
       (which.0, both.0, which.2, both.1)
 

@@ -1,6 +1,6 @@
 -- What a document that is not read gives: its refusal, with the cause and the status of it, or want of memory.
 use Rattle.std.proofs.Common.{◌≡◌, ℕ, ◌≤◌, List, length, Option, Some, None, IfSome, sym, subst}
-use Rattle.std.specs.Prelude.{option_map, not}
+use Rattle.std.specs.Prelude.{option_map}
 use Rattle.std.specs.Option.{MatchOption}
 use Rattle.cpn_model.specs.Reading.{ModelRefusal, refused}
 use Rattle.cpn_model.specs.Models.{IsModel}

@@ -13,6 +13,7 @@ use Rattle.cpn_io.specs.Outside.{Rose, AppendsProperPrefix}
 use Rattle.std.specs.Io.KnownBytes.{Appends}
 use Rattle.cpn_sim.specs.Limits.{most_bytes}
 use Rattle.cpn_sim.specs.Options.{PlainOptions, options_from}
+use Rattle.cpn_sim.specs.Documents.{ReadsSource}
 use Rattle.cpn_sim.specs.Reported.{Sayings, IsReported, IsReport}
 use Rattle.cpn_sim.specs.declared.statuses.Status.{Status}
 use Rattle.cpn_sim.specs.declared.statuses.Status.TheVariants as statuses
@@ -28,15 +29,15 @@ pub data PlainRefusal : Type 0 where
 abbrev pub GiveOptions : List (List ℕ) → Type 0
 GiveOptions words = (options : PlainOptions) × (options_from words ≡ Some options)
 
--- The cause of each refusal, which lies in the words, in the count of faults of the source, or in the bytes that were left
--- in it, where these are told. Each but the first asks that the words give options, and that of a document that it is not
--- too long.
+-- The cause of each refusal, which lies in the words, in the count of faults of the source, or in the bytes of the document, where these
+-- are told. Each but the first asks that the words give options, those of reading that the document is what the source gives, and that of a
+-- document that it is not too long.
 abbrev pub HasCause : PlainRefusal → List (List ℕ) → Option (List ℕ) → ℕ → ℕ → Type 0
-HasCause bad_words words left before now = options_from words ≡ None
-HasCause read_fault words left before now = GiveOptions words × Rose before now
-HasCause too_long words left before now = GiveOptions words × IfSome left (λ bytes. most_bytes < length bytes)
-HasCause (bad_document refusal) words left before now =
-    GiveOptions words × IfSome left (λ bytes. (length bytes ≤ most_bytes) × IsModel bytes (refused refusal))
+HasCause bad_words words document before now = options_from words ≡ None
+HasCause read_fault words document before now = ReadsSource words × Rose before now
+HasCause too_long words document before now = ReadsSource words × IfSome document (λ bytes. most_bytes < length bytes)
+HasCause (bad_document refusal) words document before now =
+    GiveOptions words × IfSome document (λ bytes. (length bytes ≤ most_bytes) × IsModel bytes (refused refusal))
 
 -- the bytes have at most one reading
 abbrev pub HaveOneReading : List ℕ → Type 0
@@ -44,10 +45,10 @@ HaveOneReading bytes = (reading other : Reading PlainModel) → IsModel bytes re
 
 -- a document that is refused has been read, and has no other reading; of the other refusals nothing is said
 abbrev pub IsReadOnce : PlainRefusal → Option (List ℕ) → Type 0
-IsReadOnce bad_words left = Unit {0}
-IsReadOnce read_fault left = Unit {0}
-IsReadOnce too_long left = Unit {0}
-IsReadOnce (bad_document refusal) left = IfSome left HaveOneReading
+IsReadOnce bad_words document = Unit {0}
+IsReadOnce read_fault document = Unit {0}
+IsReadOnce too_long document = Unit {0}
+IsReadOnce (bad_document refusal) document = IfSome document HaveOneReading
 
 -- the line of a refusal, with its line feed
 abbrev pub error_line : PlainRefusal → List ℕ
@@ -91,9 +92,9 @@ status_of (bad_document refusal) = status_of_document refusal
 -- The text that is to be written: the report of the runs of the document, or the line of a refusal that has its
 -- cause.
 abbrev pub IsToBeWritten : List (List ℕ) → Sayings → Option (List ℕ) → ℕ → ℕ → List ℕ → Type 0
-IsToBeWritten words Says left before now text =
-    (GiveOptions words × IfSome left (λ bytes. (length bytes ≤ most_bytes) × ((status : Status) × IsReport bytes words Says status text)))
-    ⊎ ((refusal : PlainRefusal) × HasCause refusal words left before now × (text ≡ error_line refusal))
+IsToBeWritten words Says document before now text =
+    (GiveOptions words × IfSome document (λ bytes. (length bytes ≤ most_bytes) × ((status : Status) × IsReport bytes words Says status text)))
+    ⊎ ((refusal : PlainRefusal) × HasCause refusal words document before now × (text ≡ error_line refusal))
 
 -- The status is the wanted one, but for want of memory and for faults of the source and of the sink.
 abbrev pub IsOrExcused : Status → Status → Type 0 → Type 0 → Type 0

@@ -3,6 +3,7 @@ pub mod Options
 pub mod Words
 pub mod OptionsView
 pub mod Given
+pub mod Documents
 pub mod Reported
 pub mod Telling
 pub mod AcceptedRuns

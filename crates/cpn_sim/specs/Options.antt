@@ -1,6 +1,6 @@
 -- The options that the program's words give: those that clap reads by the command line below. Source: own
 -- choice, over clap's specification of a simple command.
-use Rattle.std.specs.Prelude.{ℕ, ◌^◌, ◌-◌, Bool, true, if◌then◌else◌, List, [], ◌∷◌, codes, Option, Some, None, option_and_then, unwrap_or}
+use Rattle.std.specs.Prelude.{ℕ, ◌^◌, ◌-◌, true, if◌then◌else◌, List, [], ◌∷◌, codes, Option, Some, None, option_and_then, unwrap_or}
 use Rattle.std.specs.Str.{bytes_eq}
 use Rattle.std.specs.Str.Parse.{digits_value, without_leading_plus}
 use Rattle.cpn_definitions.specs.Times.{last_time}
@@ -11,10 +11,13 @@ use Rattle.clap.specs.declared.builder.action.ArgAction.TheVariants.{Set}
 use Rattle.clap.specs.declared.builder.value_parser.ValueParser.TheVariants as vp
 use Rattle.cpn_report.specs.declared.traces.Trace.{Trace}
 use Rattle.cpn_report.specs.declared.traces.Trace.TheVariants as traces
+use Rattle.cpn_sim.specs.declared.options.Mode.{Mode}
+use Rattle.cpn_sim.specs.declared.options.Mode.TheVariants as modes
 
--- The options: the seed of the draws, how many workers make each run, how many claims the runs may make together, the last
--- time that each may reach, and whether their traces are told.
+-- The options: what the program does; the seed of the draws, which in mode large is the number of the generated net too; how many workers
+-- make each run; how many claims the runs may make together; the last time that each may reach; and which of their lines are told.
 pub record PlainOptions : Type 0 where
+  pub mode : Mode
   pub seed : ℕ
   pub workers : ℕ
   pub steps : ℕ
@@ -47,10 +50,6 @@ infixl 10 ◌>>=◌
 abbrev pub ◌>>=◌ : {A B : Type 0} → Option A → (A → Option B) → Option B
 o >>= f = option_and_then f o
 
--- nothing, if a test passes
-abbrev pub when : Bool → Option (Unit {0})
-when test = if test then Some tt else None
-
 -- the value of an option, as it is written: each has one, by its default if the words give none
 abbrev pub value_of : List ℕ → List Row → List ℕ
 value_of name rows = unwrap_or (first_of name rows) []
@@ -67,17 +66,27 @@ number_of name rows = number_text (value_of name rows)
 unfoldable pub trace_of : List ℕ → Option Trace
 trace_of name = if bytes_eq name (codes "on") then Some traces.On else (if bytes_eq name (codes "off") then Some traces.Off else None)
 
--- The options that the matches give. There is one mode, run.
+-- the mode of a name: run or large
+unfoldable pub mode_of : List ℕ → Option Mode
+mode_of name = if bytes_eq name (codes "run") then Some modes.Run else (if bytes_eq name (codes "large") then Some modes.Large else None)
+
+-- the lines that are told in a mode: in mode run those of the trace that is asked for, and in mode large neither a trace nor the places
+unfoldable pub trace_in : Mode → Trace → Trace
+trace_in modes.Run trace = trace
+trace_in modes.Large trace = traces.Brief
+
+-- The options that the matches give.
 unfoldable pub options_in : List Row → Option PlainOptions
 options_in rows = do
-  run ← when (bytes_eq (value_of (codes "mode") rows) (codes "run"))
+  mode ← mode_of (value_of (codes "mode") rows)
   trace ← trace_of (value_of (codes "trace") rows)
   Some (record {
+    mode = mode;
     seed = number_of (codes "seed") rows;
     workers = number_of (codes "workers") rows;
     steps = number_of (codes "steps") rows;
     until = number_of (codes "until") rows;
-    trace = trace;
+    trace = trace_in mode trace;
   })
 
 -- nothing, where the command has a fault

@@ -13,12 +13,14 @@ ghost use Rattle.cpn_model.specs.Views.{model_view};
 ghost use Rattle.cpn_monitor.specs.Fitting.{FitNet};
 ghost use Rattle.cpn_monitor.specs.Views.{monitors_view};
 ghost use Rattle.cpn_probe.specs.Reported.{HaveReported};
+ghost use Rattle.cpn_sim.specs.Documents.{GeneratesNet, document_of};
 ghost use Rattle.cpn_sim.specs.Limits.{most_bytes};
 ghost use Rattle.cpn_sim.specs.OptionsView.{options_view};
 ghost use Rattle.cpn_sim.specs.Reported.{IsReported, IsReportOf, IsTheReport};
 ghost use Rattle.cpn_sim.specs.Causes.{HasCause, GiveOptions, HaveOneReading, IsReadOnce};
 ghost use Rattle.cpn_sim.specs.RefusalViews.{refusal_view};
 
+use crate::documents::document_bytes;
 use crate::no_options::NoOptions;
 use crate::options::Options;
 use crate::phases::run_phases;
@@ -27,7 +29,7 @@ use crate::statuses::Status;
 use crate::words::options_from;
 use cpn_core::Memory;
 use cpn_edit::Session;
-use cpn_io::{ReadError, Source, read_all};
+use cpn_io::{ReadError, Source};
 use cpn_model::{Model, open};
 use cpn_probe::{Probe, report_all};
 use cpn_runs::Limits;
@@ -40,28 +42,30 @@ pub struct Report {
     pub status: Status,
 }
 
-/// The report of the runs of the document that the source gives, under the options of the words, and of what the probes said of them.
+/// The report of the runs of the document, under the options of the words, and of what the probes said of them. In mode `large` the document
+/// is a generated net; otherwise it is what the source gives.
 pub fn answer<S: Source, P: Probe>(
     alloc: Global,
     words: &[String],
     source: &mut S,
     probes: Vec<P>,
 ) -> Result<Report, Refusal>
-    ensures report { IfOk result (λ report. IfSome (S.left source.old) (λ bytes. (length bytes ≤ most_bytes) × IsTheReport bytes (map string_bytes words.now) (HaveReported P.Notes P.Reports probes.items) report.status (string_bytes report.text))) }
+    ensures report { IfOk result (λ report. IfSome (document_of (map string_bytes words.now) (S.left source.old)) (λ bytes. (length bytes ≤ most_bytes) × IsTheReport bytes (map string_bytes words.now) (HaveReported P.Notes P.Reports probes.items) report.status (string_bytes report.text))) }
     ensures status { IfOk result (λ report. IsReported report.status) }
-    ensures end { OnOk result (IfSome (S.left source.old) (λ _. S.left source.new ≡ Some [])) }
+    ensures end { OnOk result ((GeneratesNet (map string_bytes words.now) → ⊥) → IfSome (S.left source.old) (λ _. S.left source.new ≡ Some [])) }
+    ensures unread { GeneratesNet (map string_bytes words.now) → source.new ≡ source.old }
     ensures options { OnOk result (GiveOptions (map string_bytes words.now)) }
-    ensures cause { IfErr result (λ refusal. MatchOption (refusal_view refusal) (refusal ≡ Refusal.Memory) (λ plain. HasCause plain (map string_bytes words.now) (S.left source.old) (S.faults source.old) (S.faults source.new))) }
-    // What was read has at most one reading.
-    ensures one_reading { OnOk result (IfSome (S.left source.old) HaveOneReading) }
-    ensures read_once { IfErr result (λ refusal. IfSome (refusal_view refusal) (λ plain. IsReadOnce plain (S.left source.old))) }
+    ensures cause { IfErr result (λ refusal. MatchOption (refusal_view refusal) (refusal ≡ Refusal.Memory) (λ plain. HasCause plain (map string_bytes words.now) (document_of (map string_bytes words.now) (S.left source.old)) (S.faults source.old) (S.faults source.new))) }
+    // The document has at most one reading.
+    ensures one_reading { OnOk result (IfSome (document_of (map string_bytes words.now) (S.left source.old)) HaveOneReading) }
+    ensures read_once { IfErr result (λ refusal. IfSome (refusal_view refusal) (λ plain. IsReadOnce plain (document_of (map string_bytes words.now) (S.left source.old)))) }
 {
     let options = match options_from(alloc, words) {
         Ok(options) => options,
         Err(NoOptions::Refused) => return Err(Refusal::Words),
         Err(NoOptions::Memory) => return Err(Refusal::Memory),
     };
-    let bytes = match read_all(alloc, source) {
+    let bytes = match document_bytes(alloc, &options, source) {
         Ok(bytes) => bytes,
         Err(ReadError::Memory) => return Err(Refusal::Memory),
         Err(ReadError::Failed) => return Err(Refusal::Read),

@@ -1,11 +1,12 @@
 //! The program: words and a source in, a report or one error line out.
 //!
-//! `simulate` reads its source to the end, runs the phases of the net, tells its probes, and writes nothing before the whole report, or the
-//! one error line, stands in memory. What the report says is proved to be legal runs of the document; the
+//! `simulate` reads its source to the end, or in mode `large` generates a net, runs the phases of the net, tells its probes, and writes nothing
+//! before the whole report, or the one error line, stands in memory. What the report says is proved to be legal runs of the document; the
 //! crate decides no rule of nets itself.
 #![tactic(auto)]
 
 mod answers;
+mod documents;
 #[cfg(test)]
 mod dropped_probes;
 #[cfg(test)]
@@ -28,7 +29,7 @@ use cpn_io::{Stdin, Stdout};
 use cpn_probe::Probe;
 pub use laws::accepted_runs;
 pub use no_options::NoOptions;
-pub use options::Options;
+pub use options::{Mode, Options};
 pub use simulation::{refuse_words, simulate};
 pub use statuses::{Status, exit_code};
 use std::process::ExitCode;

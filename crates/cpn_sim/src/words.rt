@@ -3,13 +3,13 @@
 ghost use Rattle.std.specs.Prelude.{◌≡◌, ◌≤◌, ◌⊎◌, [], Some, map, string_bytes, IfOk, OnOk, IfErr, false};
 ghost use Rattle.std.specs.Option.{option_map};
 ghost use Rattle.clap.specs.Words.{app_of, fault_of, found_of, matches_of, rows_of, rule_of};
-ghost use Rattle.cpn_sim.specs.Options.{command_line, number_of, number_option, option, options_from, options_in, trace_of, value_of};
+ghost use Rattle.cpn_sim.specs.Options.{command_line, number_of, number_option, option, mode_of, options_from, options_in, trace_in, trace_of, value_of};
 ghost use Rattle.cpn_sim.specs.OptionsView.{options_view};
 ghost use Rattle.cpn_sim.specs.Given.{HasValue, HasValues, IsNumberIn};
 ghost use Rattle.cpn_sim.specs.Words.{IsOfWords};
 
 use crate::no_options::NoOptions;
-use crate::options::Options;
+use crate::options::{Mode, Options};
 use clap::builder::ValueParser;
 use clap::error::ErrorKind;
 use clap::{Arg, ArgAction, ArgMatches, Command};
@@ -137,16 +137,15 @@ fn options_in(matches: &ArgMatches<'_>) -> Option<Options>
     requires { HasValues matches.now }
     ensures { option_map options_view result ≡ options_in (rows_of (found_of matches.now)) }
 {
-    if word_of(matches, "mode") != "run" {
-        return None;
-    }
+    let mode = mode_of(word_of(matches, "mode"))?;
     let trace = trace_of(word_of(matches, "trace"))?;
     Some(Options {
+        mode,
         seed: number_of(matches, SEED),
         workers: number_of(matches, WORKERS),
         steps: number_of(matches, STEPS),
         until: number_of(matches, UNTIL),
-        trace,
+        trace: trace_in(mode, trace),
     })
 }
 
@@ -165,6 +164,29 @@ fn number_of(matches: &ArgMatches<'_>, option: NumberOption) -> u64
     ensures within { (option.least ≤ result) × (result ≤ option.most) }
 {
     matches.get_one::<u64>(option.name).unwrap()
+}
+
+/// What the program does, by its name: `run` or `large`.
+#[tactic(auto, unfolding(crate::specs::Options::mode_of))]
+fn mode_of(name: &str) -> Option<Mode>
+    ensures { result ≡ mode_of name.now }
+{
+    match name {
+        "run" => Some(Mode::Run),
+        "large" => Some(Mode::Large),
+        _ => None,
+    }
+}
+
+/// Which lines are told in the mode, where this trace is asked for.
+#[tactic(auto, unfolding(crate::specs::Options::trace_in))]
+fn trace_in(mode: Mode, trace: Trace) -> Trace
+    ensures { result ≡ trace_in mode trace }
+{
+    match mode {
+        Mode::Run => trace,
+        Mode::Large => Trace::Brief,
+    }
 }
 
 /// Whether the trace is told, by its name: `on` or `off`.

@@ -2,7 +2,9 @@
 use Rattle.std.proofs.Common.{ℕ, List, map, string_bytes, inl, inr, refl, subst}
 use Rattle.std.specs.Io.KnownBytes.{Appends}
 use Rattle.cpn_io.specs.Outside.{AppendsProperPrefix}
+use Rattle.cpn_sim.specs.Documents.{document_of}
 use Rattle.cpn_sim.specs.Causes.{PlainRefusal, HasCause, IsReadOnce, error_line, IsRefused}
+use Rattle.cpn_sim.proofs.ReadDocuments.{read_length}
 use Rattle.cpn_sim.proofs.RefusalCauses.{plain_of, no_report, words_told, read_told, long_told, document_told, refused_words, refused_long, refused_document, refused_complete}
 use Rattle.cpn_sim.specs.declared.statuses.Status.TheVariants as statuses
 use Rattle.cpn_sim.proofs.WrittenReports.{no_other, written as is_written, to_be_written, not_refused_words, not_too_long, not_refused}
@@ -11,7 +13,7 @@ use Rattle.cpn_sim.proofs.simulation.simulate.Goals as goal
 pub returns-in-Ok-write_all : goal.returns-in-Ok-write_all
 returns-in-Ok-write_all g c =
     let words : List (List ℕ) = map string_bytes c.args.words.now in
-    let left = g.S.Source.left c.args.source.now in
+    let left = document_of words (g.S.Source.left c.args.source.now) in
     let old = g.K.Sink.held c.args.sink.now in
     let new = g.K.Sink.held c.write_all.new.sink in
     let status = c.in-Ok.report.status in
@@ -23,7 +25,8 @@ returns-in-Ok-write_all g c =
     record {
       done = λ is. is_written words _ left statuses.Done status text old new reported is appended;
       run_fault = λ is. is_written words _ left statuses.RunFault status text old new reported is appended;
-      read_to_end = λ _. c.in-Ok.ensures.end;
+      read_to_end = λ _ reads. c.in-Ok.ensures.end reads;
+      unread = c.answer.ensures.unread;
       words = λ is. no_other status statuses.BadWords is_of refl is;
       read = λ is. no_other status statuses.ReadFault is_of refl is;
       long = λ is. no_other status statuses.TooLong is_of refl is;
@@ -47,7 +50,7 @@ returns-in-Ok-write_all g c =
 pub returns-in-Ok-clause-write_part : goal.returns-in-Ok-clause-write_part
 returns-in-Ok-clause-write_part g c = λ is.
     let words : List (List ℕ) = map string_bytes c.args.words.now in
-    let left = g.S.Source.left c.args.source.now in
+    let left = document_of words (g.S.Source.left c.args.source.now) in
     let text : List ℕ = string_bytes c.in-Ok.report.text in
     let P : List ℕ → Type 0 = λ bytes. AppendsProperPrefix (g.K.Sink.held c.args.sink.now) (g.K.Sink.held c.write_all.new.sink) bytes in
     (text, to_be_written words _ left _ _ c.in-Ok.report.status text c.in-Ok.ensures.options c.in-Ok.ensures.report, subst P c.as_bytes.ensures.value c.in-Err-write_all.ensures.err)
@@ -55,7 +58,7 @@ returns-in-Ok-clause-write_part g c = λ is.
 pub returns-in-Ok-line_of : goal.returns-in-Ok-line_of
 returns-in-Ok-line_of g c =
     let words : List (List ℕ) = map string_bytes c.args.words.now in
-    let left = g.S.Source.left c.args.source.now in
+    let left = document_of words (g.S.Source.left c.args.source.now) in
     let before = g.S.Source.faults c.args.source.now in
     let after = g.S.Source.faults c.answer.new.source in
     let old = g.K.Sink.held c.args.sink.now in
@@ -71,10 +74,11 @@ returns-in-Ok-line_of g c =
     record {
       done = λ is. absurd (no_report plain words left before after c.refuse.result old new faults now cause once written (inl is));
       run_fault = λ is. absurd (no_report plain words left before after c.refuse.result old new faults now cause once written (inr is));
-      read_to_end = λ is. absurd (no_report plain words left before after c.refuse.result old new faults now cause once written is);
+      read_to_end = λ is _. absurd (no_report plain words left before after c.refuse.result old new faults now cause once written is);
+      unread = c.answer.ensures.unread;
       words = λ is. (words_told plain words left before after c.refuse.result old new faults now cause once written is).0;
       read = λ is. (read_told plain words left before after c.refuse.result old new faults now cause once written is).0;
-      long = λ is. (long_told plain words left before after c.refuse.result old new faults now cause once written is).0;
+      long = λ is. read_length words _ (long_told plain words left before after c.refuse.result old new faults now cause once written is).0;
       document = λ is. let told = document_told plain words left before after c.refuse.result old new faults now cause once written statuses.BadDocument refl (λ e. cc) (λ e. cc) is in (told.1.0, (told.0, told.2, told.3, told.1.1));
       inscription = λ is. let told = document_told plain words left before after c.refuse.result old new faults now cause once written statuses.BadInscription refl (λ e. cc) (λ e. cc) is in (told.1.0, (told.0, told.2, told.3, told.1.1));
       net = λ is. let told = document_told plain words left before after c.refuse.result old new faults now cause once written statuses.BadNet refl (λ e. cc) (λ e. cc) is in (told.1.0, (told.0, told.2, told.3, told.1.1));
