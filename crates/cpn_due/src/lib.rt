@@ -16,3 +16,4 @@ mod summaries;
 mod trees;
 
 pub use due::Due;
+pub use order::compare_elements;

@@ -5,7 +5,7 @@ ghost use Rattle.cpn_definitions.specs.Enabled.{element_cmp};
 ghost use Rattle.cpn_core.specs.Elements.{element_view};
 ghost use Rattle.cpn_due.specs.Marked.{plain_marked, marked_cmp, marked_at, are_due, are_not_due, least_time};
 
-use crate::order::compare;
+use crate::order::compare_elements;
 use cpn_core::{Element, EnabledElement};
 use std::cmp::Ordering;
 
@@ -23,14 +23,15 @@ impl Marked {
     pub(crate) fn is_before(&self, other: &Marked) -> bool
         ensures exact { result ≡ is_lt (marked_cmp (plain_marked self.now) (plain_marked other.now)) }
     {
-        compare(&self.element.entry.element, &other.element.entry.element) == Ordering::Less
+        compare_elements(&self.element.entry.element, &other.element.entry.element)
+            == Ordering::Less
     }
 
     /// How an element compares with its own.
     pub(crate) fn order_of(&self, element: &Element) -> Ordering
         ensures exact { result ≡ element_cmp (element_view element.now) (plain_marked self.now).enabled.entry.element }
     {
-        compare(element, &self.element.entry.element)
+        compare_elements(element, &self.element.entry.element)
     }
 
     /// The item, marked also where its time is not above the clock.

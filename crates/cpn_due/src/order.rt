@@ -7,7 +7,7 @@ use cpn_core::{Binding, Element};
 use std::cmp::Ordering;
 
 /// How two elements compare: by transition, then by the values of its variables in declaration order.
-pub(crate) fn compare(element: &Element, other: &Element) -> Ordering
+pub fn compare_elements(element: &Element, other: &Element) -> Ordering
     ensures exact { result ≡ element_cmp (element_view element.now) (element_view other.now) }
 {
     let by_transition = element.transition.cmp(&other.transition);

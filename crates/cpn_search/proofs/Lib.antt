@@ -1,11 +1,11 @@
 mod ValuesOfTokens
 mod TrialSteps
-mod LeastTimes
+pub mod LeastTimes
 mod EnabledBelow
 mod KnownTransitions
 mod Transitions
 mod SearchStates
-mod FoundBindings
+pub mod FoundBindings
 mod DifferentEnds
 mod TurnedSearches
 mod BindingOrder

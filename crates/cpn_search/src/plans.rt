@@ -1,11 +1,12 @@
 //! The plans of the searches of a net, which are made once and serve for each marking.
-ghost use Rattle.std.specs.Prelude.{◌≡◌, map, length, IfOk, OnOk};
+ghost use Rattle.std.specs.Prelude.{◌≡◌, ◌<◌, map, length, IfOk, OnOk, OnErr};
 ghost use Rattle.std.specs.List.{AllByRecursion};
 ghost use Rattle.cpn_definitions.specs.Enabled.{Enabled};
+ghost use Rattle.cpn_definitions.specs.Net.{PlainNet};
 ghost use Rattle.cpn_definitions.specs.Sound.{IsSound, IsMarking};
 ghost use Rattle.cpn_core.specs.Elements.{enabled_view, HasItsNeeds};
 ghost use Rattle.cpn_core.specs.Nets.{net_view};
-ghost use Rattle.cpn_search.specs.PlannedNets.{ArePlansFrom, IsPlanned};
+ghost use Rattle.cpn_search.specs.PlannedNets.{IsPlan, ArePlansFrom, IsPlanned, IsPlannedBut};
 
 use crate::plan::Plan;
 use crate::searching::{push_elements, search_by};
@@ -33,6 +34,32 @@ impl Plans {
     {
         let plans = plans_of(alloc, net)?;
         Ok(Plans { plans })
+    }
+
+    /// The plan of the transition of a number.
+    pub fn plan(&self, t: u32) -> &Plan
+        requires in_range { t < length self.now.plans.items }
+        ensures plan { (n : PlainNet) → IsPlanned n self.now → IsPlan n t result.now }
+    {
+        &self.plans[t as usize]
+    }
+
+    /// Makes the plan of a transition anew, after which the plans are those of the net; until then they may be wrong for that
+    /// transition. A net may be changed so in a transition's guard.
+    ///
+    /// # Errors
+    ///
+    /// `Memory` where memory is wanted; the plans are then as they were.
+    pub fn renew(&mut self, alloc: Global, net: &Net, t: u32) -> Result<(), Memory>
+        requires sound { IsSound (net_view net.now) }
+        requires in_range { t < length net.now.transitions.items }
+        requires planned { IsPlannedBut t (net_view net.now) self.old }
+        ensures planned { OnOk result (IsPlanned (net_view net.now) self.new) }
+        ensures unchanged { OnErr result (self.new ≡ self.old) }
+    {
+        let plan = Plan::of(alloc, net, t)?;
+        self.plans[t as usize] = plan;
+        Ok(())
     }
 
     /// The enabled elements of their net, as `enabled` of the net lists them: each binding element that is covered at some time not

@@ -22,6 +22,7 @@ pub mod CountedTries
 pub mod PinnedStages
 pub mod PinnedEnds
 pub mod CountedPinned
-mod StandingValues
+pub mod NeededTerms
+pub mod StandingValues
 mod FullRows
 mod PinnedRows

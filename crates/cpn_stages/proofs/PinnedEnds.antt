@@ -5,7 +5,7 @@ use Rattle.cpn_definitions.specs.Value.{PlainValue}
 use Rattle.cpn_definitions.specs.Lists.{Rises}
 use Rattle.cpn_definitions.specs.Marking.{Marking}
 use Rattle.cpn_definitions.specs.Inscription.{PlainPattern}
-use Rattle.cpn_definitions.specs.Net.{BindingTerm, PlainTransition, PlainNet, transition_at}
+use Rattle.cpn_definitions.specs.Net.{BindingTerm, PlainArc, PlainTransition, PlainNet, transition_at}
 use Rattle.cpn_definitions.specs.Bindable.{binding_terms, AreClosed}
 use Rattle.cpn_definitions.specs.Occurrence.{PlainElement, covered}
 use Rattle.cpn_definitions.proofs.RisingLists.{IsIn, in_from_contains, contains_from_in, in_append_right, in_append_cases, in_map_from, in_flat_map, in_flat_from}
@@ -31,13 +31,23 @@ no_term_further n t left (by_equation x e ∷ stages) place p (next_equation lef
 no_term_further n t left (by_size x ∷ stages) place p (next_small left' x' stages' none small further) (inl same) = cc
 no_term_further n t left (by_size x ∷ stages) place p (next_small left' x' stages' none small further) (inr h) = no_term_further n t (those_without (x ∷ []) left) stages place p further h
 
-abbrev place_of : ℕ → Stage → ℕ
+abbrev pub place_of : ℕ → Stage → ℕ
 place_of k (by_term place p) = place
 place_of k stage = k
 
 abbrev pattern_of : PlainPattern → Stage → PlainPattern
 pattern_of q (by_term place p) = p
 pattern_of q stage = q
+
+-- the term that was pulled is a binding term of the transition, on the place
+pub pulled_term : (n : PlainNet) (t : PlainTransition) (all : List Stage) (place : ℕ) (v : PlainValue) (stages : List Stage) → AreStages n t all → (is : IsPulled place v all stages)
+    → (arc : PlainArc) × IsIn arc t.inputs × ((term : BindingTerm) × IsIn term (binding_terms arc.expr) × (by_term arc.place term.pattern ≡ by_term place is.pattern))
+pulled_term n t all place v stages are is =
+    let here : IsIn (by_term place is.pattern) (term_stages t ++ are.further) = subst (IsIn (by_term place is.pattern)) are.are (subst (IsIn (by_term place is.pattern)) (sym is.were) (in_append_right is.front (by_term place is.pattern ∷ is.back) (by_term place is.pattern) (inl refl))) in
+    let term : IsIn (by_term place is.pattern) (term_stages t) = ⊎_elim (λ g. g) (λ g. absurd (no_term_further n t _ are.further place is.pattern are.follow g)) (in_append_cases (term_stages t) are.further (by_term place is.pattern) here) in
+    let arc = in_flat_from terms_at t.inputs (by_term place is.pattern) term in
+    let one = in_map_from (λ (k : BindingTerm). by_term arc.0.place k.pattern) (binding_terms arc.0.expr) (by_term place is.pattern) arc.2 in
+    (arc.0, arc.1, one)
 
 module _ (n : PlainNet) (m : Marking) (t : PlainTransition) (all : List Stage) (listed : Rises nat_cmp t.vars) (are : AreStages n t all) (place : ℕ) (v : PlainValue) (stages : List Stage) (is : IsPulled place v all stages) where
   -- what pulled stages reach gives each variable a value
@@ -50,17 +60,16 @@ module _ (n : PlainNet) (m : Marking) (t : PlainTransition) (all : List Stage) (
   -- and in it the term has the value
   pub pulled_with : (b : PlainPartial) → IsReached n m t stages b → HasTermWith t place v (bound_in b)
   pulled_with b reached =
-      let here : IsIn (by_term place is.pattern) (term_stages t ++ are.further) = subst (IsIn (by_term place is.pattern)) are.are (subst (IsIn (by_term place is.pattern)) (sym is.were) (in_append_right is.front (by_term place is.pattern ∷ is.back) (by_term place is.pattern) (inl refl))) in
-      let term : IsIn (by_term place is.pattern) (term_stages t) = ⊎_elim (λ g. g) (λ g. absurd (no_term_further n t _ are.further place is.pattern are.follow g)) (in_append_cases (term_stages t) are.further (by_term place is.pattern) here) in
-      let arc = in_flat_from terms_at t.inputs (by_term place is.pattern) term in
-      let one = in_map_from (λ (k : BindingTerm). by_term arc.0.place k.pattern) (binding_terms arc.0.expr) (by_term place is.pattern) arc.2 in
+      let of_term = pulled_term n t all place v stages are is in
+      let arc : PlainArc = of_term.0 in
+      let one = of_term.2 in
       let has : IsInstance b is.pattern v = (subst (AllByRecursion (Holds n m b)) is.are reached.hold).0.1 in
       record {
-        arc = arc.0;
-        is_input = contains_from_in t.inputs arc.0 arc.1;
+        arc = arc;
+        is_input = contains_from_in t.inputs arc of_term.1;
         from_it = ap (place_of place) one.2;
         term = one.0;
-        is_term = contains_from_in (binding_terms arc.0.expr) one.0 one.1;
+        is_term = contains_from_in (binding_terms arc.expr) one.0 one.1;
         has_value = subst (λ c. IsInstance c one.0.pattern v) (sym (whole_again b (pulled_whole b reached))) (subst (λ q. IsInstance b q v) (sym (ap (pattern_of is.pattern) one.2)) has);
       }
 

@@ -1,0 +1,11 @@
+pub mod Touched
+pub mod Retimed
+pub mod Added
+pub mod UpdateWork
+pub mod Clocks
+pub mod WatcherOrder
+pub mod Waiting
+pub mod Watchers
+pub mod Readers
+pub mod WatchedElements
+pub mod Index
