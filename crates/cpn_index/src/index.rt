@@ -1,6 +1,8 @@
 //! The index of enabled elements.
 ghost use Rattle.std.specs.Prelude.{◌≡◌, ℕ, ◌+◌, ◌<◌, ◌≤◌, ◌==◌, List, [], length, option_map, slice_get, Some, IfOk, OnOk, OnErr};
 ghost use Rattle.cpn_definitions.specs.Enabled.{PlainEntry, Enabled, next_time, ready};
+ghost use Rattle.cpn_definitions.specs.Marking.{Marking};
+ghost use Rattle.cpn_definitions.specs.Net.{PlainNet};
 ghost use Rattle.cpn_definitions.specs.Sound.{IsSound, IsMarking};
 ghost use Rattle.cpn_core.specs.Nets.{net_view};
 ghost use Rattle.cpn_core.specs.Elements.{enabled_view, HasItsNeeds};
@@ -135,6 +137,7 @@ impl Index {
         requires not_back { clock_in self.old ≤ clock }
         ensures moved { clock_in self.new ≡ clock }
         ensures kept { kept_in self.new ≡ kept_in self.old }
+        ensures index { (n : PlainNet) (m : Marking) → IsIndexOf n m self.old → IsIndexOf n m self.new }
     {
         self.elements.take_due(clock);
     }
