@@ -1,11 +1,10 @@
 -- What the calls on a book answer of the state that its journal leads to.
-use Rattle.std.proofs.Common.{◌≡◌, ◌≢◌, ℕ, ◌%◌, ◌<◌, true, false, List, [], ◌∷◌, ◌++◌, length, map, take, Option, Some, None, refl, sym, ap, ◌∙◌, subst, arith, slice_get}
+use Rattle.std.proofs.Common.{zero, suc, ◌≡◌, ◌≢◌, ℕ, ◌%◌, ◌<◌, true, false, List, [], ◌∷◌, ◌++◌, length, map, take, Option, Some, None, refl, sym, ap, ◌∙◌, subst, arith, slice_get}
 use Rattle.std.specs.Option.{option_map, is_some}
 use Rattle.std.specs.List.{count_by, list_any}
 use Rattle.std.proofs.lemmas.List.{take-map, length-map}
 use Rattle.std.proofs.lemmas.Option.{same_Some, slice_get-map}
 use Rattle.std.proofs.Math.Seq.{take-append_seam}
-use Rattle.cpn_core.specs.Elements.{enabled_view}
 use Rattle.cpn_definitions.specs.Enabled.{PlainEntry, ready}
 use Rattle.cpn_definitions.proofs.ListItems.{last_is_at}
 use Rattle.cpn_draw.specs.Draw.{word}
@@ -21,7 +20,7 @@ use Rattle.cpn_book.specs.Held.{held_from}
 use Rattle.cpn_book.proofs.MadeClaims.{IsNextClaim, may_claim}
 use Rattle.cpn_book.proofs.OpenClaims.{open_count_is, some_counted}
 use Rattle.cpn_book.specs.Answers.{IsTicket, AnswersClaim, MayClaimNext, GoesOn, AnswersAdvance}
-use Rattle.cpn_book.specs.Books.{setup_in, journal_in, is_spent_in, InState, IsBook, IsRunning}
+use Rattle.cpn_book.specs.Books.{index_in, setup_in, journal_in, is_spent_in, InState, IsBook, IsRunning}
 use Rattle.cpn_book.specs.Standings.{HasCommitted, job_for, cut_view}
 use Rattle.cpn_book.specs.States.{open_claims, IsFull, AreReady, claimed_job}
 use Rattle.cpn_book.specs.Steps.{Follows, IsSpentFrom, Moves}
@@ -36,7 +35,6 @@ use Rattle.cpn_book.proofs.ClaimedStandings.{stands_at, uncut_in, counted}
 use Rattle.cpn_book.proofs.CountedClaims.{heads_are}
 use Rattle.cpn_book.proofs.NextTimes.{next_is_least, no_next_is_dead}
 use Rattle.cpn_book.proofs.RunningBooks.{in_state, unclaimed_is, enabled_in, are_ready, spent_is_book}
-use Rattle.cpn_book.proofs.ReadyEntries.{item_at}
 
 -- ---- the events of a call
 
@@ -74,6 +72,12 @@ job_kept book running number claim at =
     ap (λ js. slice_get js number) (running.at.at.jobs ∙ ap (map (job_for (setup_in book).net)) (heads_are (setup_in book).start running.at.at.state.claims (log_view book.standing.log) running.at.at.told.has))
     ∙ slice_get-map (job_for (setup_in book).net) (map head_of running.at.at.state.claims) number
     ∙ ap (option_map (job_for (setup_in book).net)) (slice_get-map head_of running.at.at.state.claims number ∙ ap (option_map head_of) at)
+
+-- there is an item at an index within a list
+item_at : {A : Type 0} (xs : List A) (i : ℕ) → i < length xs → (x : A) × (slice_get xs i ≡ Some x)
+item_at [] i lt = absurd (omega arith)
+item_at (x ∷ xs) zero lt = (x, refl)
+item_at (x ∷ xs) (suc i) lt = item_at xs i (omega arith)
 
 module _ (book : Book) (running : IsRunning book) where
   number_is : length running.at.at.state.claims ≡ claims_made (log_view book.standing.log)
@@ -118,22 +122,22 @@ module _ (book : Book) (running : IsRunning book) where
           in_state book running (λ state. AnswersClaim (setup_in book) state seat (claims.Busy number)) (state_uncut, goes_on.1, held_is seat known (Some number) at)
 
       -- nothing is ready
-      pub nothing : (seat ready_now held : ℕ) → seat < (setup_in book).limits.seats → slice_get book.standing.held.items seat ≡ Some None → ready_now ≡ length (ready book.standing.clock (map enabled_view book.listed.items)) → ready_now ≡ 0
+      pub nothing : (seat ready_now held : ℕ) → seat < (setup_in book).limits.seats → slice_get book.standing.held.items seat ≡ Some None → ready_now ≡ length (ready book.standing.clock (index_in book)) → ready_now ≡ 0
           → held ≡ count_by is_some book.standing.held.items → InState book (λ state. AnswersClaim (setup_in book) state seat (claims.Nothing held))
       nothing seat ready_now held known at are none held_are =
           in_state book running (λ state. AnswersClaim (setup_in book) state seat (claims.Nothing held))
           (state_uncut, goes_on.1, held_is seat known None at, are_ready book running 0 (sym none ∙ are), held_are ∙ open_is)
 
       -- a ticket is due
-      pub due : (seat : ℕ) → seat < (setup_in book).limits.seats → slice_get book.standing.held.items seat ≡ Some None → claims_made (log_view book.standing.log) < (setup_in book).limits.steps → 0 < length (ready book.standing.clock (map enabled_view book.listed.items))
+      pub due : (seat : ℕ) → seat < (setup_in book).limits.seats → slice_get book.standing.held.items seat ≡ Some None → claims_made (log_view book.standing.log) < (setup_in book).limits.steps → 0 < length (ready book.standing.clock (index_in book))
           → InState book (λ state. MayClaimNext (setup_in book) state seat)
       due seat known at below some = in_state book running (λ state. MayClaimNext (setup_in book) state seat) (_, may_claim (setup_in book) (journal_in book) running.at.at.state (log_view book.standing.log) (log_view book.standing.log) book.standing.held.items (stands_at (setup_in book) book.standing running.at) seat drawn.0 next)
         where
-          some_then : 0 < length (ready running.at.at.state.clock (map enabled_view book.listed.items))
-          some_then = subst (λ (t : ℕ). 0 < length (ready t (map enabled_view book.listed.items))) running.at.at.clock some
+          some_then : 0 < length (ready running.at.at.state.clock (index_in book))
+          some_then = subst (λ (t : ℕ). 0 < length (ready t (index_in book))) running.at.at.clock some
 
-          drawn : (x : PlainEntry) × IsDrawn (setup_in book).seed (length running.at.at.state.claims) (ready running.at.at.state.clock (map enabled_view book.listed.items)) x
-          drawn = item_at (ready running.at.at.state.clock (map enabled_view book.listed.items)) (word (setup_in book).seed (length running.at.at.state.claims) % length (ready running.at.at.state.clock (map enabled_view book.listed.items))) (omega (arith, some_then))
+          drawn : (x : PlainEntry) × IsDrawn (setup_in book).seed (length running.at.at.state.claims) (ready running.at.at.state.clock (index_in book)) x
+          drawn = item_at (ready running.at.at.state.clock (index_in book)) (word (setup_in book).seed (length running.at.at.state.claims) % length (ready running.at.at.state.clock (index_in book))) (omega (arith, some_then))
 
           next : IsNextClaim (setup_in book) running.at.at.state (log_view book.standing.log) seat drawn.0
           next = record {
@@ -141,7 +145,7 @@ module _ (book : Book) (running : IsRunning book) where
             below_limit = (let n = number_is in omega (arith, n, below));
             known = known;
             had_none = held_is seat known None at;
-            entries = map enabled_view book.listed.items;
+            entries = index_in book;
             enabled = enabled_in book running;
             drawn_is = drawn.1;
           }
@@ -149,10 +153,10 @@ module _ (book : Book) (running : IsRunning book) where
       -- ---- a move of the clock
 
       -- something is ready
-      pub some_ready : (number : ℕ) → number ≡ length (ready book.standing.clock (map enabled_view book.listed.items)) → 0 < number → InState book (λ state. AnswersAdvance (setup_in book) state moves.Ready)
+      pub some_ready : (number : ℕ) → number ≡ length (ready book.standing.clock (index_in book)) → 0 < number → InState book (λ state. AnswersAdvance (setup_in book) state moves.Ready)
       some_ready number are some = in_state book running (λ state. AnswersAdvance (setup_in book) state moves.Ready) (goes_on, (number, are_ready book running number are, some))
 
-      module _ (none_ready : length (ready book.standing.clock (map enabled_view book.listed.items)) ≡ 0) where
+      module _ (none_ready : length (ready book.standing.clock (index_in book)) ≡ 0) where
         none_are : AreReady (setup_in book) running.at.at.state 0
         none_are = are_ready book running 0 (sym none_ready)
 
@@ -168,10 +172,10 @@ module _ (book : Book) (running : IsRunning book) where
             in_state book running (λ state. AnswersAdvance (setup_in book) state (moves.Moved time)) (m.0.at.at.state, happens_last (setup_in book) (journal_in book) (clock_moved time) running.at.at.state m.0.at.at.state running.at.at.told.reached after)
         moves_answer none_open new (moves.Until time) m =
             in_state book running (λ state. AnswersAdvance (setup_in book) state (moves.Until time))
-            (goes_on, (none_are, sym open_is ∙ none_open), ((log_view book.standing.log).unclaimed, unclaimed_is book running, next_is_least (setup_in book).net (log_view book.standing.log).unclaimed running.at.at.state.clock time (map enabled_view book.listed.items) (enabled_in book running) m.1), m.2)
+            (goes_on, (none_are, sym open_is ∙ none_open), ((log_view book.standing.log).unclaimed, unclaimed_is book running, next_is_least (setup_in book).net (log_view book.standing.log).unclaimed running.at.at.state.clock time (index_in book) (enabled_in book running) m.1), m.2)
         moves_answer none_open new moves.Dead m =
             in_state book running (λ state. AnswersAdvance (setup_in book) state moves.Dead)
-            (goes_on, (none_are, sym open_is ∙ none_open), ((log_view book.standing.log).unclaimed, unclaimed_is book running, no_next_is_dead (setup_in book).net (log_view book.standing.log).unclaimed running.at.at.state.clock (map enabled_view book.listed.items) (enabled_in book running) m.1))
+            (goes_on, (none_are, sym open_is ∙ none_open), ((log_view book.standing.log).unclaimed, unclaimed_is book running, no_next_is_dead (setup_in book).net (log_view book.standing.log).unclaimed running.at.at.state.clock (index_in book) (enabled_in book running) m.1))
         moves_answer none_open new (moves.Open number) m = absurd m
         moves_answer none_open new moves.Ready m = absurd m
         moves_answer none_open new moves.StepLimit m = absurd m
@@ -226,4 +230,4 @@ module _ (old mid new : Book) (is : IsBook old) (follows : Follows old mid) (spe
   -- and it is a book still
   pub spent_still : is_spent_in new ≡ true → IsBook new
   spent_still now =
-      spent_is_book old new is (ap (λ (b : Book). b.setup) spent.book ∙ follows.setup) (ap (λ (b : Book). b.works) spent.book ∙ follows.works) (ap (λ (b : Book). b.plans) spent.book ∙ follows.plans) (ap (λ (b : Book). b.opening) spent.book ∙ follows.opening) events_back committed_still now
+      spent_is_book old new is (ap (λ (b : Book). b.setup) spent.book ∙ follows.setup) (ap (λ (b : Book). b.works) spent.book ∙ follows.works) (ap (λ (b : Book). b.opening) spent.book ∙ follows.opening) events_back committed_still now

@@ -1,6 +1,6 @@
 -- How many claims are committed: one more where the next is done and no monitor has stopped the run, and no more where one has, where the next
 -- is not done, or where one is open.
-use Rattle.std.proofs.Common.{◌≡◌, ℕ, zero, suc, ◌+◌, ◌<◌, Bool, true, false, List, [], ◌∷◌, ◌++◌, length, take, Option, Some, None, refl, sym, ap, ◌∙◌, subst, arith, append_assoc, slice_get}
+use Rattle.std.proofs.Common.{◌≡◌, ℕ, suc, ◌+◌, ◌<◌, Bool, true, false, List, [], ◌∷◌, ◌++◌, length, take, Option, Some, None, refl, sym, ap, ◌∙◌, subst, arith, append_assoc}
 use Rattle.std.specs.Option.{is_some}
 use Rattle.cpn_definitions.specs.Marking.{Marking}
 use Rattle.cpn_log.specs.Logs.{PlainLog, begin_done}

@@ -32,3 +32,12 @@ module _ (setup : PlainSetup) (s : Standing) (number : ℕ) (job : Job) (needs :
 -- what is committed stands where only the draw is another
 pub still_drawn : (setup : PlainSetup) (s new : Standing) → StillCommitted setup (undrawn setup s) new → StillCommitted setup s new
 still_drawn setup s new still = record { committed = still.committed; more = still.more; occurrences = still.occurrences }
+
+-- the same claim, as it is carried on
+pub drawn_as
+    : (setup : PlainSetup) (s : Standing) (number now : ℕ) (job job_now : PlainJob) (needs needs_now : List Needed) → now ≡ number → job_now ≡ job → needs_now ≡ needs
+    → IsDrawnClaim setup s number job needs → IsDrawnClaim setup s now job_now needs_now
+drawn_as setup s number now job job_now needs needs_now numbers jobs same drawn =
+    let by_job : IsDrawnClaim setup s number job_now needs = subst (λ (j : PlainJob). IsDrawnClaim setup s number j needs) (sym jobs) drawn in
+    let by_number : IsDrawnClaim setup s now job_now needs = subst (λ (k : ℕ). IsDrawnClaim setup s k job_now needs) (sym numbers) by_job in
+    subst (λ (ns : List Needed). IsDrawnClaim setup s now job_now ns) (sym same) by_number

@@ -1,6 +1,5 @@
 mod MovedBooks
 mod NextTimes
-mod ReadyEntries
 mod SoonestTimes
 mod CountedClaims
 mod CommittedClaims
@@ -17,6 +16,9 @@ mod NextClaims
 mod NotedStandings
 mod OwedCuts
 mod OpenNumbers
+mod CopiedNeeds
+mod ToldChanges
+mod IndexedBooks
 mod RunningBooks
 mod BoundedBooks
 mod GoingAlone

@@ -1,11 +1,12 @@
 -- A book that moves its clock, and the bounds that each book keeps.
-use Rattle.std.proofs.Common.{◌≡◌, ◌≢◌, ℕ, ◌<◌, ◌≤◌, [], ◌∷◌, ◌++◌, length, map, Option, Some, None, refl, sym, ap, subst, arith, slice_get}
+use Rattle.std.proofs.Common.{◌≡◌, ◌≢◌, ℕ, ◌<◌, ◌≤◌, List, [], ◌∷◌, ◌++◌, length, Option, Some, None, refl, sym, ap, subst, arith, slice_get}
 use Rattle.std.specs.Option.{is_some}
 use Rattle.std.specs.List.{AllByRecursion, count_by}
 use Rattle.std.specs.Prelude.{MatchOption}
-use Rattle.cpn_core.specs.Elements.{enabled_view}
-use Rattle.cpn_definitions.specs.Enabled.{Enabled, ready, next_time}
+use Rattle.cpn_definitions.specs.Enabled.{PlainEntry, Enabled, ready, next_time}
 use Rattle.cpn_definitions.specs.Sound.{IsMarking}
+use Rattle.cpn_index.specs.Index.{kept_in, clock_in, listed_in, IsIndexOf}
+use Rattle.cpn_index.specs.declared.index.Index.{Index}
 use Rattle.cpn_log.specs.Logs.{claims_made}
 use Rattle.cpn_log.specs.LogViews.{log_view}
 use Rattle.cpn_monitor.specs.Fitting.{AreMeasured, MayClose}
@@ -23,12 +24,13 @@ use Rattle.cpn_book.proofs.LoggedClaims.{unclaimed_left}
 use Rattle.cpn_book.proofs.MovedClocks.{stands_moved}
 use Rattle.cpn_book.proofs.OccurredClaims.{all_committed}
 use Rattle.cpn_book.proofs.OpenClaims.{none_held_where_none}
-use Rattle.cpn_book.specs.Books.{setup_in, journal_in, InState, IsBook, IsRunning, shown}
+use Rattle.cpn_book.specs.Books.{setup_in, journal_in, index_in, InState, IsBook, IsRunning, shown}
 use Rattle.cpn_book.specs.Standings.{IsAt, committed_of, events_in}
 use Rattle.cpn_book.specs.declared.books.Book.{Book}
 use Rattle.cpn_book.specs.declared.standings.Standing.{Standing}
 use Rattle.cpn_book.proofs.ClaimedStandings.{stands_at, uncut_in, counted}
-use Rattle.cpn_book.proofs.NextTimes.{next_is_least, none_is_covered, enabled_then, some_are_ready}
+use Rattle.cpn_book.proofs.IndexedBooks.{enabled_now, listed_then}
+use Rattle.cpn_book.proofs.NextTimes.{next_is_least, none_is_covered, some_are_ready}
 use Rattle.cpn_book.proofs.RunningBooks.{shows_run}
 
 -- ---- bounds
@@ -49,11 +51,11 @@ claims_below setup s is playable not_all =
 -- ---- the move
 
 -- the next time is not before the clock
-pub next_not_before : (book : Book) (time : ℕ) → IsRunning book → next_time (map enabled_view book.listed.items) ≡ Some time → book.standing.clock ≤ time
-next_not_before book time running next = (next_is_least (setup_in book).net (log_view book.standing.log).unclaimed book.standing.clock time (map enabled_view book.listed.items) running.enabled next).not_before
+pub next_not_before : (book : Book) (time : ℕ) → IsRunning book → next_time (index_in book) ≡ Some time → book.standing.clock ≤ time
+next_not_before book time running next = (next_is_least (setup_in book).net (log_view book.standing.log).unclaimed book.standing.clock time (index_in book) (enabled_now book running) next).not_before
 
 -- monitors may count until the next time
-pub may_close : (book : Book) (time : ℕ) → IsBook book → IsRunning book → next_time (map enabled_view book.listed.items) ≡ Some time → time ≤ book.setup.limits.until → MayClose (setup_in book).functions (setup_in book).monitors (values_view book.standing.values) time
+pub may_close : (book : Book) (time : ℕ) → IsBook book → IsRunning book → next_time (index_in book) ≡ Some time → time ≤ book.setup.limits.until → MayClose (setup_in book).functions (setup_in book).monitors (values_view book.standing.values) time
 may_close book time is running next in_time = record {
   run = run_of (setup_in book) book.standing.clock (committed_of running.at.at.state book.standing);
   measured = running.at.at.measured;
@@ -61,36 +63,41 @@ may_close book time is running next in_time = record {
   in_time = (let until = is.playable.until in omega (arith, until, in_time));
 }
 
-module _ (book : Book) (time : ℕ) (running : IsRunning book) (none_ready : length (ready book.standing.clock (map enabled_view book.listed.items)) ≡ 0) (none_open : count_by is_some book.standing.held.items ≡ 0)
-    (uncut : book.standing.cut ≡ None) (below : claims_made (log_view book.standing.log) < book.setup.limits.steps) (next : next_time (map enabled_view book.listed.items) ≡ Some time) (in_time : time ≤ book.setup.limits.until) where
+module _ (book : Book) (time : ℕ) (running : IsRunning book) (none_ready : length (ready book.standing.clock (index_in book)) ≡ 0) (none_open : count_by is_some book.standing.held.items ≡ 0)
+    (uncut : book.standing.cut ≡ None) (below : claims_made (log_view book.standing.log) < book.setup.limits.steps) (next : next_time (index_in book) ≡ Some time) (in_time : time ≤ book.setup.limits.until) where
   free : (seat : ℕ) → seat < (setup_in book).limits.seats → slice_get book.standing.held.items seat ≡ Some None
   free seat lt = none_held_where_none book.standing.held.items none_open seat (let long = running.at.at.told.holds.each in omega (arith, lt, long))
 
   abbrev clock_is : book.standing.clock ≡ running.at.at.state.clock
   clock_is = running.at.at.clock
 
-  enabled : Enabled (setup_in book).net (log_view book.standing.log).unclaimed running.at.at.state.clock (map enabled_view book.listed.items)
-  enabled = subst (λ (t : ℕ). Enabled (setup_in book).net (log_view book.standing.log).unclaimed t (map enabled_view book.listed.items)) clock_is running.enabled
+  enabled : Enabled (setup_in book).net (log_view book.standing.log).unclaimed running.at.at.state.clock (index_in book)
+  enabled = subst (λ (t : ℕ). Enabled (setup_in book).net (log_view book.standing.log).unclaimed t (index_in book)) clock_is (enabled_now book running)
 
-  nothing_ready : length (ready running.at.at.state.clock (map enabled_view book.listed.items)) ≡ 0
-  nothing_ready = subst (λ (t : ℕ). length (ready t (map enabled_view book.listed.items)) ≡ 0) clock_is none_ready
+  nothing_ready : length (ready running.at.at.state.clock (index_in book)) ≡ 0
+  nothing_ready = subst (λ (t : ℕ). length (ready t (index_in book)) ≡ 0) clock_is none_ready
 
   stands : StandsAt (setup_in book) (journal_in book ++ clock_moved time ∷ []) (record running.at.at.state { clock = time }) (log_view book.standing.log) book.standing.held.items
   stands =
       stands_moved (setup_in book) (journal_in book) running.at.at.state (log_view book.standing.log) book.standing.held.items (stands_at (setup_in book) book.standing running.at) free time
       (uncut_in (setup_in book) book.standing running.at.at uncut)
       (let same = counted (setup_in book) book.standing running.at.at in omega (arith, same, below))
-      (none_is_covered (setup_in book).net (log_view book.standing.log).unclaimed running.at.at.state.clock (map enabled_view book.listed.items) enabled nothing_ready)
-      (next_is_least (setup_in book).net (log_view book.standing.log).unclaimed running.at.at.state.clock time (map enabled_view book.listed.items) enabled next)
+      (none_is_covered (setup_in book).net (log_view book.standing.log).unclaimed running.at.at.state.clock (index_in book) enabled nothing_ready)
+      (next_is_least (setup_in book).net (log_view book.standing.log).unclaimed running.at.at.state.clock time (index_in book) enabled next)
       in_time
 
   -- all claims are committed
   all_in : (log_view book.standing.log).claims ≡ []
   all_in = all_committed (setup_in book) (journal_in book) running.at.at.state (log_view book.standing.log) book.standing.held.items (stands_at (setup_in book) book.standing running.at) free
 
-  -- something is ready then
-  pub moved_ready : 0 < length (ready time (map enabled_view book.listed.items))
-  moved_ready = some_are_ready (setup_in book).net (log_view book.standing.log).unclaimed running.at.at.state.clock time (map enabled_view book.listed.items) enabled next
+  -- by the index that has moved to it
+  module _ (index : Index) (kept : kept_in index ≡ kept_in book.index) (at_time : clock_in index ≡ time) where
+    listed_now : listed_in index ≡ index_in book
+    listed_now = listed_then book.index index time kept at_time (let own = running.clock in let from = next_not_before book time running next in omega (arith, own, from)) next
+
+    -- something is ready then
+    pub moved_ready : 0 < length (ready time (listed_in index))
+    moved_ready = subst (λ (es : List PlainEntry). 0 < length (ready time es)) (sym listed_now) (some_are_ready (setup_in book).net (log_view book.standing.log).unclaimed running.at.at.state.clock time (index_in book) enabled next)
 
   module _ (s : Standing) (events : events_in s ≡ journal_in book ++ clock_moved time ∷ [])
       (closed : AreMeasured (setup_in book).functions (setup_in book).monitors (run_of (setup_in book) time (committed_of running.at.at.state book.standing)) (values_view s.values)) where
@@ -117,12 +124,12 @@ module _ (book : Book) (time : ℕ) (running : IsRunning book) (none_ready : len
         }
 
     -- and the run is under way
-    pub moved_runs : IsRunning (record book { standing = moved_standing })
-    moved_runs = record {
+    pub moved_runs : (index : Index) → kept_in index ≡ kept_in book.index → clock_in index ≡ time → IsIndexOf (setup_in book).net (log_view book.standing.log).unclaimed index → IsRunning (record book { standing = moved_standing; index = index })
+    moved_runs index kept at_time is = record {
       at = moved_at;
-      enabled = enabled_then (setup_in book).net (log_view book.standing.log).unclaimed running.at.at.state.clock time (map enabled_view book.listed.items) enabled next;
-      needs = running.needs;
-      room = λ none. let some = moved_ready in let zero = ap length none in absurd (omega (arith, some, zero));
+      index = is;
+      clock = at_time;
+      room = λ none. let some = moved_ready index kept at_time in let zero = ap length none in absurd (omega (arith, some, zero));
     }
 
 -- ---- the end

@@ -1,12 +1,11 @@
 -- The next claim is committed and its occurrence noted: where the run stands then.
-use Rattle.std.proofs.Common.{Global, ◌≡◌, ℕ, ◌+◌, ◌≤◌, List, [], ◌∷◌, ◌++◌, length, map, Option, Some, None, refl, sym, ap, ◌∙◌, subst, arith, length-append}
+use Rattle.std.proofs.Common.{Global, ◌≡◌, ℕ, ◌+◌, ◌≤◌, List, [], ◌∷◌, ◌++◌, length, map, Option, Some, None, sym, ap, ◌∙◌, subst, arith, length-append}
 use Rattle.std.proofs.Math.Path.{ap₂}
 use Rattle.std.specs.Prelude.{Vec}
 use Rattle.cpn_core.specs.Elements.{element_view}
 use Rattle.cpn_core.specs.Occurrences.{occurrence_view}
 use Rattle.cpn_core.specs.declared.occurrences.Occurrence.{Occurrence}
 use Rattle.cpn_definitions.specs.Legal.{PlainOccurrence}
-use Rattle.cpn_definitions.specs.Marking.{Marking}
 use Rattle.cpn_definitions.specs.Occurrence.{PlainElement}
 use Rattle.cpn_definitions.proofs.ListItems.{map_more}
 use Rattle.cpn_log.specs.Kept.{IsKept}

@@ -1,5 +1,5 @@
 -- Which cut is owed where no more can be committed.
-use Rattle.std.proofs.Common.{inl, ◌≡◌, ℕ, ◌+◌, append_assoc, [], ◌∷◌, ◌++◌, length, take, Option, Some, None, sym, ap, ◌∙◌, subst, slice_get}
+use Rattle.std.proofs.Common.{inl, ◌≡◌, ℕ, append_assoc, [], ◌∷◌, ◌++◌, length, take, Option, Some, None, sym, ap, ◌∙◌, subst, slice_get}
 use Rattle.std.specs.Option.{option_map, option_or}
 use Rattle.std.proofs.lemmas.List.{append-nil}
 use Rattle.cpn_log.specs.Logs.{PlainLog}

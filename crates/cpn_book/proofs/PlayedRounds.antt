@@ -44,7 +44,7 @@ pub follows_round
     → IsMovedFrom old moved
     → drawn ≡ record moved.standing { draw = drawn.draw }
     → StillCommitted (setup_in moved) drawn played
-    → new ≡ record moved { standing = played; listed = new.listed }
+    → new ≡ record moved { standing = played; index = new.index }
     → (more : List PlainEvent)
     → journal_in new ≡ journal_in old ++ more
     → Follows old new
@@ -56,7 +56,6 @@ follows_round old moved new drawn played is same still now more events =
     record {
       setup = ap (λ (b : Book). b.setup) now ∙ setups;
       works = ap (λ (b : Book). b.works) now ∙ ap (λ (b : Book). b.works) is.book;
-      plans = ap (λ (b : Book). b.plans) now ∙ ap (λ (b : Book). b.plans) is.book;
       opening = ap (λ (b : Book). b.opening) now ∙ ap (λ (b : Book). b.opening) is.book;
       spent = ap (λ (b : Book). b.spent) now ∙ ap (λ (b : Book). b.spent) is.book;
       more = more;
@@ -73,7 +72,6 @@ pub follows_itself : (book : Book) → IsBook book → Follows book book
 follows_itself book is = record {
   setup = refl;
   works = refl;
-  plans = refl;
   opening = refl;
   spent = refl;
   more = [];
@@ -85,7 +83,7 @@ follows_itself book is = record {
 pub follows_still
     : (old new : Book)
     → IsBook old
-    → new ≡ record old { standing = new.standing; listed = new.listed }
+    → new ≡ record old { standing = new.standing; index = new.index }
     → (more : List PlainEvent) × (journal_in new ≡ journal_in old ++ more)
     → (log_view new.standing.log).committed ≡ (log_view old.standing.log).committed
     → (log_view new.standing.log).settled ≡ (log_view old.standing.log).settled
@@ -94,7 +92,6 @@ pub follows_still
 follows_still old new is same more committed settled occurrences = record {
   setup = ap (λ (b : Book). b.setup) same;
   works = ap (λ (b : Book). b.works) same;
-  plans = ap (λ (b : Book). b.plans) same;
   opening = ap (λ (b : Book). b.opening) same;
   spent = ap (λ (b : Book). b.spent) same;
   more = more.0;

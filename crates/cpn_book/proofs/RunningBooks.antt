@@ -4,7 +4,6 @@ use Rattle.std.specs.Option.{option_map, is_some}
 use Rattle.std.specs.List.{count_by, list_any}
 use Rattle.std.specs.Prelude.{MatchOption}
 use Rattle.std.proofs.lemmas.Option.{same_Some}
-use Rattle.cpn_core.specs.Elements.{enabled_view}
 use Rattle.cpn_definitions.specs.Enabled.{Enabled, ready, next_time, IsDead}
 use Rattle.cpn_definitions.specs.Legal.{LeastTime, PlainOccurrence}
 use Rattle.cpn_definitions.specs.Marking.{Marking}
@@ -25,9 +24,7 @@ use Rattle.cpn_runs.proofs.States.{one_state, least_is_unique}
 use Rattle.cpn_book.proofs.LoggedClaims.{unclaimed_left}
 use Rattle.cpn_book.proofs.OpenClaims.{none_held_where_none}
 use Rattle.cpn_book.proofs.MovedClocks.{none_open, ends_by_cut, ends_without, run_is}
-use Rattle.cpn_search.specs.PlannedNets.{IsPlanned}
-use Rattle.cpn_search.specs.declared.plans.Plans.{Plans}
-use Rattle.cpn_book.specs.Books.{setup_in, journal_in, works_in, committed_in, is_spent_in, InState, IsRunning, IsBook, shown}
+use Rattle.cpn_book.specs.Books.{setup_in, journal_in, index_in, works_in, committed_in, is_spent_in, InState, IsRunning, IsBook, shown}
 use Rattle.cpn_book.specs.Shown.{outlook_at}
 use Rattle.cpn_book.specs.Standings.{HasCommitted, cut_view}
 use Rattle.cpn_book.specs.States.{IsIndex, AreReady}
@@ -37,6 +34,7 @@ use Rattle.cpn_book.specs.declared.standings.Cut.{Cut}
 use Rattle.cpn_book.proofs.ClaimedStandings.{stands_at, uncut_in, counted}
 use Rattle.cpn_book.proofs.CommittedStandings.{values_are_in, committed_are, has_committed_at}
 use Rattle.cpn_book.proofs.CountedClaims.{first_are}
+use Rattle.cpn_book.proofs.IndexedBooks.{enabled_now}
 use Rattle.cpn_book.proofs.NextTimes.{no_next_is_dead, next_is_least}
 
 module _ (book : Book) (running : IsRunning book) where
@@ -57,18 +55,18 @@ module _ (book : Book) (running : IsRunning book) where
       settled_of : ℕ → Option Marking
       settled_of k = marking_left (setup_in book).start (take k running.at.at.state.claims)
 
-  -- its index is listed anew
-  pub enabled_in : Enabled (setup_in book).net (log_view book.standing.log).unclaimed running.at.at.state.clock (map enabled_view book.listed.items)
-  enabled_in = subst (λ (t : ℕ). Enabled (setup_in book).net (log_view book.standing.log).unclaimed t (map enabled_view book.listed.items)) running.at.at.clock running.enabled
+  -- its index is that of the state
+  pub enabled_in : Enabled (setup_in book).net (log_view book.standing.log).unclaimed running.at.at.state.clock (index_in book)
+  enabled_in = subst (λ (t : ℕ). Enabled (setup_in book).net (log_view book.standing.log).unclaimed t (index_in book)) running.at.at.clock (enabled_now book running)
 
-  pub index : IsIndex (setup_in book) running.at.at.state (map enabled_view book.listed.items)
+  pub index : IsIndex (setup_in book) running.at.at.state (index_in book)
   index = record { marking = (log_view book.standing.log).unclaimed; marking_is = unclaimed_is; enabled = enabled_in }
 
-  pub are_ready : (number : ℕ) → number ≡ length (ready book.standing.clock (map enabled_view book.listed.items)) → AreReady (setup_in book) running.at.at.state number
-  are_ready number is = (map enabled_view book.listed.items, index, is ∙ ap (λ (t : ℕ). length (ready t (map enabled_view book.listed.items))) running.at.at.clock)
+  pub are_ready : (number : ℕ) → number ≡ length (ready book.standing.clock (index_in book)) → AreReady (setup_in book) running.at.at.state number
+  are_ready number is = (index_in book, index, is ∙ ap (λ (t : ℕ). length (ready t (index_in book))) running.at.at.clock)
 
 -- a book that follows another and is not spent is a book
-module _ (old new : Book) (is : IsBook old) (setup : new.setup ≡ old.setup) (works : new.works ≡ old.works) (plans : new.plans ≡ old.plans) (opening : new.opening ≡ old.opening) where
+module _ (old new : Book) (is : IsBook old) (setup : new.setup ≡ old.setup) (works : new.works ≡ old.works) (opening : new.opening ≡ old.opening) where
   same_setup : setup_in old ≡ setup_in new
   same_setup = ap setup_view (sym setup)
 
@@ -81,12 +79,6 @@ module _ (old new : Book) (is : IsBook old) (setup : new.setup ≡ old.setup) (w
       let Q : List PlainWork → Type 0 = λ ws. AreWorks (setup_in old).net ws in
       subst P same_setup (subst Q (ap (λ ws. map (λ work. work_view work.value) ws.items) (sym works)) is.works)
 
-  planned_still : IsPlanned (setup_in new).net new.plans
-  planned_still =
-      let P : PlainSetup → Type 0 = λ s. IsPlanned s.net new.plans in
-      let Q : Plans → Type 0 = λ ps. IsPlanned (setup_in old).net ps in
-      subst P same_setup (subst Q (sym plans) is.planned)
-
   opening_still : HasOutlook (setup_in new) (setup_in new).start (setup_in new).clock (outlook_view new.opening)
   opening_still =
       let P : PlainSetup → Type 0 = λ s. HasOutlook s s.start s.clock (outlook_view new.opening) in
@@ -97,7 +89,6 @@ module _ (old new : Book) (is : IsBook old) (setup : new.setup ≡ old.setup) (w
   running_is_book running = record {
     playable = playable_still;
     works = works_still;
-    planned = planned_still;
     opening = opening_still;
     state = running.at.at.state;
     reached = running.at.at.told.reached;
@@ -110,7 +101,6 @@ module _ (old new : Book) (is : IsBook old) (setup : new.setup ≡ old.setup) (w
   spent_is_book journal committed spent = record {
     playable = playable_still;
     works = works_still;
-    planned = planned_still;
     opening = opening_still;
     state = is.state;
     reached =
@@ -158,18 +148,18 @@ module _ (book : Book) (is : IsBook book) (running : IsRunning book) (none_held 
       not_all all = let n = number_is in absurd (omega (arith, n, all, below))
 
       -- dead
-      pub by_death : next_time (map enabled_view book.listed.items) ≡ None → EndsBy (setup_in book) running.at.at.state dead
-      by_death none = ends dead (not_all, ((log_view book.standing.log).unclaimed, unclaimed_is book running, no_next_is_dead (setup_in book).net (log_view book.standing.log).unclaimed running.at.at.state.clock (map enabled_view book.listed.items) (enabled_in book running) none))
+      pub by_death : next_time (index_in book) ≡ None → EndsBy (setup_in book) running.at.at.state dead
+      by_death none = ends dead (not_all, ((log_view book.standing.log).unclaimed, unclaimed_is book running, no_next_is_dead (setup_in book).net (log_view book.standing.log).unclaimed running.at.at.state.clock (index_in book) (enabled_in book running) none))
 
-      least : (time : ℕ) → next_time (map enabled_view book.listed.items) ≡ Some time → LeastTime (setup_in book).net (log_view book.standing.log).unclaimed running.at.at.state.clock time
-      least time next = next_is_least (setup_in book).net (log_view book.standing.log).unclaimed running.at.at.state.clock time (map enabled_view book.listed.items) (enabled_in book running) next
+      least : (time : ℕ) → next_time (index_in book) ≡ Some time → LeastTime (setup_in book).net (log_view book.standing.log).unclaimed running.at.at.state.clock time
+      least time next = next_is_least (setup_in book).net (log_view book.standing.log).unclaimed running.at.at.state.clock time (index_in book) (enabled_in book running) next
 
       -- past its time
-      pub by_time : (time : ℕ) → next_time (map enabled_view book.listed.items) ≡ Some time → (setup_in book).limits.until < time → EndsBy (setup_in book) running.at.at.state (until_passed time)
+      pub by_time : (time : ℕ) → next_time (index_in book) ≡ Some time → (setup_in book).limits.until < time → EndsBy (setup_in book) running.at.at.state (until_passed time)
       by_time time next past = ends (until_passed time) (not_all, past, ((log_view book.standing.log).unclaimed, unclaimed_is book running, least time next))
 
       -- and otherwise by no cause
-      pub by_none : (time : ℕ) → next_time (map enabled_view book.listed.items) ≡ Some time → time ≤ (setup_in book).limits.until → (cause : PlainEnd) → EndsBy (setup_in book) running.at.at.state cause → ⊥
+      pub by_none : (time : ℕ) → next_time (index_in book) ≡ Some time → time ≤ (setup_in book).limits.until → (cause : PlainEnd) → EndsBy (setup_in book) running.at.at.state cause → ⊥
       by_none time next in_time cause ends_so = split cause (subst (λ (o : Option PlainCut). MatchOption o (HasCause (setup_in book) running.at.at.state cause) (λ cut. cause ≡ cut.cause)) no_cut ends_so.has_cause)
         where
           marking_of : (m : Marking) → unclaimed_in (setup_in book) running.at.at.state ≡ Some m → m ≡ (log_view book.standing.log).unclaimed
@@ -194,10 +184,11 @@ module _ (book : Book) (is : IsBook book) (running : IsRunning book) (none_held 
   pub shows_run : (cause : PlainEnd) → EndsBy (setup_in book) running.at.at.state cause → IsRun (setup_in book) (shown book cause)
   shows_run cause ends_so =
       let start = marking_is_start (setup_in book) is.playable.marking in
-      let closing : HasOutlook (setup_in book) (log_view book.standing.log).unclaimed running.at.at.state.clock (outlook_at running.at.at.state.clock (map enabled_view book.listed.items)) = record { entries = map enabled_view book.listed.items; enabled = enabled_in book running; ready_count_is = refl; next_is = refl } in
-      let run = run_is (setup_in book) (journal_in book) running.at.at.state (log_view book.standing.log) book.standing.held.items (stands_at (setup_in book) book.standing running.at) free start cause (outlook_view book.opening) (outlook_at running.at.at.state.clock (map enabled_view book.listed.items)) ends_so is.opening closing in
-      let shown_at : List PlainOccurrence → ℕ → List PlainMonitorValue → PlainFinished = λ os t vs. record { opening = outlook_view book.opening; journal = journal_in book; occurrences = os; marking = (log_view book.standing.log).unclaimed; clock = t; cause = cause; closing = outlook_at t (map enabled_view book.listed.items); values = vs } in
+      let closing : HasOutlook (setup_in book) (log_view book.standing.log).unclaimed running.at.at.state.clock (outlook_at running.at.at.state.clock (index_in book)) = record { entries = index_in book; enabled = enabled_in book running; ready_count_is = refl; next_is = refl } in
+      let run = run_is (setup_in book) (journal_in book) running.at.at.state (log_view book.standing.log) book.standing.held.items (stands_at (setup_in book) book.standing running.at) free start cause (outlook_view book.opening) (outlook_at running.at.at.state.clock (index_in book)) ends_so is.opening closing in
+      let shown_at : List PlainOccurrence → ℕ → ℕ → List PlainMonitorValue → PlainFinished = λ os t u vs. record { opening = outlook_view book.opening; journal = journal_in book; occurrences = os; marking = (log_view book.standing.log).unclaimed; clock = t; cause = cause; closing = outlook_at u (index_in book); values = vs } in
       let values : values_view book.standing.values ≡ values_in (setup_in book) running.at.at.state = values_are_in (setup_in book) book.standing running.at is.playable in
-      subst (λ t. IsRun (setup_in book) (shown_at (committed_in book) t (values_view book.standing.values))) (sym running.at.at.clock)
-      (subst (λ os. IsRun (setup_in book) (shown_at os running.at.at.state.clock (values_view book.standing.values))) (sym (committed_are (setup_in book) book.standing running.at))
-      (subst (λ vs. IsRun (setup_in book) (shown_at (committed_occurrences (setup_in book) running.at.at.state) running.at.at.state.clock vs)) (sym values) run))
+      subst (λ u. IsRun (setup_in book) (shown_at (committed_in book) book.standing.clock u (values_view book.standing.values))) (sym (running.clock ∙ running.at.at.clock))
+      (subst (λ t. IsRun (setup_in book) (shown_at (committed_in book) t running.at.at.state.clock (values_view book.standing.values))) (sym running.at.at.clock)
+      (subst (λ os. IsRun (setup_in book) (shown_at os running.at.at.state.clock running.at.at.state.clock (values_view book.standing.values))) (sym (committed_are (setup_in book) book.standing running.at))
+      (subst (λ vs. IsRun (setup_in book) (shown_at (committed_occurrences (setup_in book) running.at.at.state) running.at.at.state.clock running.at.at.state.clock vs)) (sym values) run)))

@@ -4,12 +4,11 @@ use Rattle.std.specs.Prelude.{IfSome}
 use Rattle.std.specs.Option.{option_map}
 use Rattle.std.proofs.lemmas.List.{length-map}
 use Rattle.std.proofs.lemmas.Option.{same_Some, slice_get-map}
-use Rattle.std.specs.List.{AllByRecursion}
-use Rattle.cpn_core.specs.Elements.{enabled_view, HasItsNeeds}
 use Rattle.cpn_core.specs.Nets.{net_view, transition_view}
 use Rattle.cpn_core.specs.declared.nets.Net.{Net}
 use Rattle.cpn_definitions.specs.Enabled.{Enabled}
 use Rattle.cpn_definitions.specs.Marking.{Marking}
+use Rattle.cpn_index.specs.Index.{clock_in, IsIndexOf}
 use Rattle.cpn_jobs.specs.Work.{PlainWork, work_of}
 use Rattle.cpn_log.specs.LogViews.{log_view}
 use Rattle.cpn_log.specs.Logs.{PlainLog}
@@ -17,14 +16,14 @@ use Rattle.cpn_runs.specs.FinishedViews.{outlook_view}
 use Rattle.cpn_runs.specs.Playable.{IsPlayable}
 use Rattle.cpn_runs.specs.Run.{Outlook, HasOutlook}
 use Rattle.cpn_book.specs.StandingRuns.{IsTold}
-use Rattle.cpn_search.specs.PlannedNets.{IsPlanned}
-use Rattle.cpn_book.specs.Books.{setup_in, works_in, IsBook}
+use Rattle.cpn_book.specs.Books.{setup_in, index_in, works_in, IsBook, IsRunning}
 use Rattle.cpn_book.specs.Shown.{outlook_at}
 use Rattle.cpn_book.specs.Standings.{IsAt, events_in}
 use Rattle.cpn_book.specs.Works.{AreWorks}
 use Rattle.cpn_book.specs.declared.books.Book.{Book}
 use Rattle.cpn_book.specs.declared.standings.Standing.{Standing}
 use Rattle.cpn_book.proofs.CommittedStandings.{has_committed_at}
+use Rattle.cpn_book.proofs.IndexedBooks.{listed_is_enabled}
 
 -- the works that are made for a net are its works
 pub works_are : {A : Type 0} (view : A → PlainWork) (ws : List A) (net : Net) → length ws ≡ length net.transitions.items → ((t : ℕ) → IfSome (slice_get ws t) (λ w. view w ≡ work_of (net_view net) t)) → AreWorks (net_view net) (map view ws)
@@ -42,14 +41,13 @@ pub record HasStarted (book : Book) (s : Standing) : Type 0 where
   pub playable : IsPlayable (setup_in book)
   pub starts : IsAt (setup_in book) s
   pub works : AreWorks (setup_in book).net (works_in book)
-  pub planned : IsPlanned (setup_in book).net book.plans
   pub clock : s.clock ≡ (setup_in book).clock
   pub marking : (log_view s.log).unclaimed ≡ (setup_in book).start
   pub standing : book.standing ≡ record s { journal = book.standing.journal }
   pub events : events_in book.standing ≡ events_in s
-  pub enabled : Enabled (setup_in book).net (log_view s.log).unclaimed (setup_in book).clock (map enabled_view book.listed.items)
-  pub needs : AllByRecursion (HasItsNeeds (setup_in book).net) book.listed.items
-  pub opening : outlook_view book.opening ≡ outlook_at (setup_in book).clock (map enabled_view book.listed.items)
+  pub index : IsIndexOf (setup_in book).net (log_view s.log).unclaimed book.index
+  pub at_clock : clock_in book.index ≡ (setup_in book).clock
+  pub opening : outlook_view book.opening ≡ outlook_at (setup_in book).clock (index_in book)
   pub room : vec_len book.standing.journal < vec_capacity book.standing.journal
 
 module _ (book : Book) (s : Standing) (did : HasStarted book s) where
@@ -73,28 +71,31 @@ module _ (book : Book) (s : Standing) (did : HasStarted book s) where
   starts_at : IsAt (setup_in book) book.standing
   starts_at = subst (IsAt (setup_in book)) (sym did.standing) starts_so
 
-  enabled_now : Enabled (setup_in book).net (log_view book.standing.log).unclaimed book.standing.clock (map enabled_view book.listed.items)
-  enabled_now =
-      let clock : (setup_in book).clock ≡ book.standing.clock = sym did.clock ∙ ap (λ (t : Standing). t.clock) (sym did.standing) in
-      let log : log_view s.log ≡ log_view book.standing.log = ap (λ (t : Standing). log_view t.log) (sym did.standing) in
-      subst (λ (l : PlainLog). Enabled (setup_in book).net l.unclaimed book.standing.clock (map enabled_view book.listed.items)) log
-      (subst (λ (t : ℕ). Enabled (setup_in book).net (log_view s.log).unclaimed t (map enabled_view book.listed.items)) clock did.enabled)
+  same_log : log_view s.log ≡ log_view book.standing.log
+  same_log = ap (λ (t : Standing). log_view t.log) (sym did.standing)
+
+  runs : IsRunning book
+  runs = record {
+    at = starts_at;
+    index = subst (λ (l : PlainLog). IsIndexOf (setup_in book).net l.unclaimed book.index) same_log did.index;
+    clock = did.at_clock ∙ sym did.clock ∙ ap (λ (t : Standing). t.clock) (sym did.standing);
+    room = λ none. did.room;
+  }
 
   pub started : IsBook book
   started = record {
     playable = did.playable;
     works = did.works;
-    planned = did.planned;
     opening =
         subst (λ (o : Outlook). HasOutlook (setup_in book) (setup_in book).start (setup_in book).clock o) (sym did.opening)
         (record {
-          entries = map enabled_view book.listed.items;
-          enabled = subst (λ (m : Marking). Enabled (setup_in book).net m (setup_in book).clock (map enabled_view book.listed.items)) did.marking did.enabled;
+          entries = index_in book;
+          enabled = subst (λ (m : Marking). Enabled (setup_in book).net m (setup_in book).clock (index_in book)) did.marking (listed_is_enabled (setup_in book).net (log_view s.log).unclaimed (setup_in book).clock book.index did.index did.at_clock);
           ready_count_is = refl;
           next_is = refl;
         });
     state = starts_at.at.state;
     reached = starts_at.at.told.reached;
     committed = has_committed_at (setup_in book) book.standing starts_at.at;
-    running = λ unspent. record { at = starts_at; enabled = enabled_now; needs = did.needs; room = λ none. did.room };
+    running = λ unspent. runs;
   }

@@ -1,8 +1,7 @@
 -- What a book stands for, and what it keeps true. Source: own choice.
 use Rattle.std.specs.Prelude.{◌≡◌, ◌<◌, Bool, false, List, [], map, vec_len, vec_capacity}
-use Rattle.std.specs.List.{AllByRecursion}
-use Rattle.cpn_core.specs.Elements.{enabled_view, HasItsNeeds}
-use Rattle.cpn_definitions.specs.Enabled.{PlainEntry, Enabled, ready}
+use Rattle.cpn_definitions.specs.Enabled.{PlainEntry, ready}
+use Rattle.cpn_index.specs.Index.{clock_in, listed_in, IsIndexOf}
 use Rattle.cpn_jobs.specs.Views.{work_view}
 use Rattle.cpn_jobs.specs.Work.{PlainWork}
 use Rattle.cpn_log.specs.LogViews.{log_view}
@@ -12,7 +11,6 @@ use Rattle.cpn_runs.specs.Run.{HasOutlook, PlainFinished}
 use Rattle.cpn_definitions.specs.Legal.{PlainOccurrence}
 use Rattle.cpn_runs.specs.State.{PlainSetup, PlainEvent, PlainState, PlainEnd, IsState}
 use Rattle.cpn_runs.specs.FinishedViews.{setup_view, outlook_view}
-use Rattle.cpn_search.specs.PlannedNets.{IsPlanned}
 use Rattle.cpn_book.specs.Standings.{events_in, occurrences_in, IsAt, HasCommitted}
 use Rattle.cpn_book.specs.Works.{AreWorks}
 use Rattle.cpn_book.specs.Shown.{outlook_at}
@@ -26,9 +24,9 @@ setup_in book = setup_view book.setup
 abbrev pub journal_in : Book → List PlainEvent
 journal_in book = events_in book.standing
 
--- its list of what is enabled
+-- what its index has as enabled, from its clock on
 abbrev pub index_in : Book → List PlainEntry
-index_in book = map enabled_view book.listed.items
+index_in book = listed_in book.index
 
 -- its committed occurrences
 abbrev pub committed_in : Book → List PlainOccurrence
@@ -46,20 +44,19 @@ is_spent_in book = book.spent
 abbrev pub InState : Book → (PlainState → Type 0) → Type 0
 InState book P = (state : PlainState) → IsState (setup_in book) (journal_in book) state → P state
 
--- A book that is not spent: its run stands where the journal leads, what is enabled in the unclaimed marking is listed with what it
--- needs, and where nothing is ready there is room for the move of the clock.
+-- A book that is not spent: its run stands where the journal leads, its index is that of the net and the unclaimed marking, at the clock,
+-- and where nothing is ready there is room for the move of the clock.
 pub record IsRunning (book : Book) : Type 0 where
   pub at : IsAt (setup_in book) book.standing
-  pub enabled : Enabled (setup_in book).net (log_view book.standing.log).unclaimed book.standing.clock (map enabled_view book.listed.items)
-  pub needs : AllByRecursion (HasItsNeeds (setup_in book).net) book.listed.items
-  pub room : ready book.standing.clock (map enabled_view book.listed.items) ≡ [] → vec_len book.standing.journal < vec_capacity book.standing.journal
+  pub index : IsIndexOf (setup_in book).net (log_view book.standing.log).unclaimed book.index
+  pub clock : clock_in book.index ≡ book.standing.clock
+  pub room : ready book.standing.clock (index_in book) ≡ [] → vec_len book.standing.journal < vec_capacity book.standing.journal
 
--- A book: from a setup that a run may start from, with the work and the plan of each transition and the outlook at the start. Its journal leads to
+-- A book: from a setup that a run may start from, with the work of each transition and the outlook at the start. Its journal leads to
 -- a state, and what was committed stands, also where the book is spent.
 pub record IsBook (book : Book) : Type 0 where
   pub playable : IsPlayable (setup_in book)
   pub works : AreWorks (setup_in book).net (works_in book)
-  pub planned : IsPlanned (setup_in book).net book.plans
   pub opening : HasOutlook (setup_in book) (setup_in book).start (setup_in book).clock (outlook_view book.opening)
   pub state : PlainState
   pub reached : IsState (setup_in book) (journal_in book) state
@@ -75,6 +72,6 @@ shown book cause = record {
   marking = (log_view book.standing.log).unclaimed;
   clock = book.standing.clock;
   cause = cause;
-  closing = outlook_at book.standing.clock (map enabled_view book.listed.items);
+  closing = outlook_at (clock_in book.index) (index_in book);
   values = values_view book.standing.values;
 }

@@ -11,6 +11,7 @@ pub mod Answers
 pub mod OneAnswers
 pub mod GoingAlone
 pub mod Steps
+pub mod Telling
 pub mod Held
 pub mod Logged
 pub mod StandingRuns

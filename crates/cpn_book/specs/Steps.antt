@@ -1,12 +1,11 @@
 -- What the steps of a book's calls keep, and what they change. Source: own choice.
-use Rattle.std.specs.Prelude.{◌≡◌, ℕ, ◌<◌, ◌≤◌, true, List, ◌++◌, ◌∷◌, [], map, Some, None}
-use Rattle.cpn_core.specs.Elements.{enabled_view}
+use Rattle.std.specs.Prelude.{◌≡◌, ℕ, ◌<◌, ◌≤◌, true, List, ◌++◌, ◌∷◌, [], Some, None}
 use Rattle.cpn_definitions.specs.Enabled.{next_time}
 use Rattle.cpn_log.specs.Logs.{claims_made}
 use Rattle.cpn_log.specs.LogViews.{log_view}
 use Rattle.cpn_runs.specs.State.{PlainEvent, clock_moved}
 use Rattle.cpn_book.specs.Standings.{StillCommitted}
-use Rattle.cpn_book.specs.Books.{setup_in, journal_in, IsRunning}
+use Rattle.cpn_book.specs.Books.{setup_in, journal_in, index_in, IsRunning}
 use Rattle.cpn_book.specs.declared.books.Book.{Book}
 use Rattle.cpn_book.specs.declared.answers.Advanced.{Advanced}
 use Rattle.cpn_book.specs.declared.answers.Advanced.TheVariants as moves
@@ -15,7 +14,6 @@ use Rattle.cpn_book.specs.declared.answers.Advanced.TheVariants as moves
 pub record Follows (old new : Book) : Type 0 where
   pub setup : new.setup ≡ old.setup
   pub works : new.works ≡ old.works
-  pub plans : new.plans ≡ old.plans
   pub opening : new.opening ≡ old.opening
   pub spent : new.spent ≡ old.spent
   pub more : List PlainEvent
@@ -24,12 +22,12 @@ pub record Follows (old new : Book) : Type 0 where
 
 -- A book like another but for its clock and its journal, and what its monitors measure.
 pub record IsMovedFrom (old new : Book) : Type 0 where
-  pub book : new ≡ record old { standing = new.standing }
+  pub book : new ≡ record old { standing = new.standing; index = new.index }
   pub standing : new.standing ≡ record old.standing { clock = new.standing.clock; journal = new.standing.journal; values = new.standing.values }
 
--- A book like another, but that it is spent, without a list of what is enabled, and for its journal.
+-- A book like another, but that it is spent, and for its index and its journal.
 pub record IsSpentFrom (old new : Book) : Type 0 where
-  pub book : new ≡ record old { spent = true; standing = new.standing; listed = new.listed }
+  pub book : new ≡ record old { spent = true; standing = new.standing; index = new.index }
   pub standing : new.standing ≡ record old.standing { journal = new.standing.journal }
 
 -- A run that goes on, where no claim is open: no cut stands, fewer claims were made than may be, and the next time is one that it may
@@ -38,15 +36,15 @@ pub record MayGoOn (book : Book) : Type 0 where
   pub uncut : book.standing.cut ≡ None
   pub below : claims_made (log_view book.standing.log) < book.setup.limits.steps
   pub time : ℕ
-  pub next : next_time (map enabled_view book.listed.items) ≡ Some time
+  pub next : next_time (index_in book) ≡ Some time
   pub in_time : time ≤ book.setup.limits.until
 
 -- the answer where nothing is ready and no claim is open
 abbrev pub Moves : Book → Book → Advanced → Type 0
 Moves old new (moves.Moved time) =
-    IsRunning new × IsMovedFrom old new × (journal_in new ≡ journal_in old ++ clock_moved time ∷ []) × (next_time (map enabled_view old.listed.items) ≡ Some time) × (time ≤ old.setup.limits.until)
-Moves old new (moves.Until time) = (new ≡ old) × (next_time (map enabled_view old.listed.items) ≡ Some time) × (old.setup.limits.until < time)
-Moves old new moves.Dead = (new ≡ old) × (next_time (map enabled_view old.listed.items) ≡ None)
+    IsRunning new × IsMovedFrom old new × (journal_in new ≡ journal_in old ++ clock_moved time ∷ []) × (next_time (index_in old) ≡ Some time) × (time ≤ old.setup.limits.until)
+Moves old new (moves.Until time) = (new ≡ old) × (next_time (index_in old) ≡ Some time) × (old.setup.limits.until < time)
+Moves old new moves.Dead = (new ≡ old) × (next_time (index_in old) ≡ None)
 Moves old new (moves.Open number) = ⊥
 Moves old new moves.Ready = ⊥
 Moves old new moves.StepLimit = ⊥

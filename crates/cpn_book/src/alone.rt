@@ -3,7 +3,6 @@
 ghost use Rattle.std.specs.Prelude.{◌≡◌, ◌≢◌, ℕ, ◌+◌, ◌<◌, ◌≤◌, ◌++◌, Some, None, false, List, [], length, map, slice_get, IfOk, OnOk, vec_len, vec_capacity};
 ghost use Rattle.std.specs.List.{count_by};
 ghost use Rattle.std.specs.Option.{is_some};
-ghost use Rattle.cpn_core.specs.Elements.{enabled_view};
 ghost use Rattle.cpn_definitions.specs.Enabled.{ready};
 ghost use Rattle.cpn_log.specs.Logs.{claims_made};
 ghost use Rattle.cpn_log.specs.LogViews.{log_view};
@@ -13,20 +12,22 @@ ghost use Rattle.cpn_runs.specs.Run.{IsRun};
 ghost use Rattle.cpn_runs.specs.State.{PlainEvent, wants_memory};
 ghost use Rattle.cpn_runs.specs.FinishedViews.{setup_view, finished_view};
 ghost use Rattle.cpn_book.specs.Bounds.{EndsInBounds};
-ghost use Rattle.cpn_book.specs.Books.{setup_in, journal_in, is_spent_in, InState, IsBook, IsRunning};
+ghost use Rattle.cpn_book.specs.Books.{setup_in, journal_in, index_in, is_spent_in, InState, IsBook, IsRunning};
 ghost use Rattle.cpn_book.specs.Standings.{IsAt, StillCommitted, events_in};
 ghost use Rattle.cpn_book.specs.GoingAlone.{AreCompletions, AreRounds, GivesNoneBack, GoesOnAloneTo};
+ghost use Rattle.cpn_book.specs.Telling.{TellsOn};
+ghost use Rattle.cpn_tmset.specs.ChangedViews.{changes_view};
 ghost use Rattle.cpn_book.specs.Steps.{Follows, IsMovedFrom, MayGoOn};
 
 use crate::books::Book;
 use crate::claiming::{DrawnClaim, draw_claim};
 use crate::completing::complete_claim;
 use crate::occurring::play_drawn;
-use crate::outlooks::next_time;
 use crate::standings::Standing;
 use crate::tickets::Ticket;
 use cpn_core::Memory;
 use cpn_runs::{Finished, Setup};
+use cpn_tmset::Changes;
 use std::alloc::Global;
 
 impl Book {
@@ -83,8 +84,9 @@ impl Book {
         if self.standing.open() == 0 {
             return Ok(());
         }
-        complete_all(self.alloc, &self.setup, &mut self.standing)?;
-        self.search()
+        let mut told = Changes::new(self.alloc);
+        complete_all(self.alloc, &self.setup, &mut self.standing, &mut told)?;
+        self.follow(&told)
     }
 
     // The next claim and its completion, of seat 0, where no claim is open and the run has no end.
@@ -100,18 +102,26 @@ impl Book {
         ensures rounds { OnOk result ((more : List PlainEvent) × (journal_in self.new ≡ journal_in self.old ++ more) × AreRounds more × GivesNoneBack (setup_in self.old) (journal_in self.old) more) }
     {
         self.reach_next_time();
-        let DrawnClaim { ticket, needs } = draw_claim(
+        let DrawnClaim { ticket, position } = draw_claim(
             self.alloc,
             &self.setup,
             &self.works,
-            &mut self.listed,
+            &self.index,
             &mut self.standing,
         )?;
         let Ok(done) = ticket.evaluate() else {
             return Err(Memory);
         };
-        play_drawn(self.alloc, &self.setup, &mut self.standing, done, needs)?;
-        self.search()
+        let mut told = Changes::new(self.alloc);
+        play_drawn(
+            self.alloc,
+            &self.setup,
+            &mut self.standing,
+            done,
+            &self.index.ready(position).needs,
+            &mut told,
+        )?;
+        self.follow(&told)
     }
 
     // Moves the clock to the next time, unless something is ready.
@@ -121,51 +131,61 @@ impl Book {
         requires none_open { count_by is_some self.old.standing.held.items ≡ 0 }
         requires goes_on { MayGoOn self.old }
         ensures running { IsRunning self.new }
-        ensures ready { 0 < length (ready self.new.standing.clock (map enabled_view self.new.listed.items)) }
+        ensures ready { 0 < length (ready self.new.standing.clock (index_in self.new)) }
         ensures events { (more : List PlainEvent) × (journal_in self.new ≡ journal_in self.old ++ more) × AreRounds more × GivesNoneBack (setup_in self.old) (journal_in self.old) more }
         ensures same { IsMovedFrom self.old self.new }
     {
         if self.ready() > 0 {
             return;
         }
-        if let Some(time) = next_time(&self.listed) {
+        if let Some(time) = self.index.next_time() {
             self.move_to(time);
         }
     }
 }
 
-/// Completes the open claims, in order of number.
-fn complete_all(alloc: Global, setup: &Setup, standing: &mut Standing) -> Result<(), Memory>
+/// Completes the open claims, in order of number, and adds what is added and put back to what is told.
+fn complete_all(
+    alloc: Global,
+    setup: &Setup,
+    standing: &mut Standing,
+    told: &mut Changes,
+) -> Result<(), Memory>
     requires playable { IsPlayable (setup_view setup.now) }
     requires at { IsAt (setup_view setup.now) standing.old }
     ensures at { OnOk result (IsAt (setup_view setup.now) standing.new) }
+    ensures clock { standing.new.clock ≡ standing.old.clock }
     ensures none_open { OnOk result (count_by is_some standing.new.held.items ≡ 0) }
     ensures room { OnOk result (vec_len standing.new.journal < vec_capacity standing.new.journal) }
     ensures completions { OnOk result ((more : List PlainEvent) × (events_in standing.new ≡ events_in standing.old ++ more) × ((limit : ℕ) × AreCompletions 0 limit more) × GivesNoneBack (setup_view setup.now) (events_in standing.old) more) }
+    ensures told { OnOk result (TellsOn (changes_view told.old) (changes_view told.new) (log_view standing.old.log).unclaimed (log_view standing.new.log).unclaimed) }
     ensures committed { StillCommitted (setup_view setup.now) standing.old standing.new }
 {
     standing.journal.reserve(1)?;
     for number in 0..standing.log.len() {
-        complete_number(alloc, setup, standing, number)?;
+        complete_number(alloc, setup, standing, number, told)?;
     }
     Ok(())
 }
 
-/// Completes the claim of a number, if it is open.
+/// Completes the claim of a number, if it is open, and adds what is added and put back to what is told.
 fn complete_number(
     alloc: Global,
     setup: &Setup,
     standing: &mut Standing,
     number: u64,
+    told: &mut Changes,
 ) -> Result<(), Memory>
     requires playable { IsPlayable (setup_view setup.now) }
     requires at { IsAt (setup_view setup.now) standing.old }
     requires room { vec_len standing.old.journal < vec_capacity standing.old.journal }
     ensures at { OnOk result (IsAt (setup_view setup.now) standing.new) }
+    ensures clock { standing.new.clock ≡ standing.old.clock }
     ensures few { OnOk result (claims_made (log_view standing.new.log) ≤ claims_made (log_view standing.old.log)) }
     ensures frees { OnOk result ((s k : ℕ) → slice_get standing.new.held.items s ≡ Some (Some k) → (slice_get standing.old.held.items s ≡ Some (Some k)) × (k ≢ number)) }
     ensures room { OnOk result (vec_len standing.new.journal < vec_capacity standing.new.journal) }
     ensures completions { OnOk result ((more : List PlainEvent) × (events_in standing.new ≡ events_in standing.old ++ more) × AreCompletions number (number + 1) more × GivesNoneBack (setup_view setup.now) (events_in standing.old) more) }
+    ensures told { OnOk result (TellsOn (changes_view told.old) (changes_view told.new) (log_view standing.old.log).unclaimed (log_view standing.new.log).unclaimed) }
     ensures committed { StillCommitted (setup_view setup.now) standing.old standing.new }
 {
     let Some(job) = standing.open_job(number) else {
@@ -176,5 +196,5 @@ fn complete_number(
     let Ok(done) = Ticket::new(alloc, number, job).evaluate() else {
         return Err(Memory);
     };
-    complete_claim(alloc, setup, standing, seat, done)
+    complete_claim(alloc, setup, standing, seat, done, told)
 }

@@ -3,7 +3,6 @@
 ghost use Rattle.std.specs.Prelude.{◌≡◌, ◌≢◌, ◌<◌, ◌≤◌, ◌++◌, Some, None, true, false, List, [], ◌∷◌, length, map, take, slice_get, IfOk, OnOk, OnErr, vec_len, vec_capacity};
 ghost use Rattle.std.specs.List.{count_by};
 ghost use Rattle.std.specs.Option.{is_some};
-ghost use Rattle.cpn_core.specs.Elements.{enabled_view};
 ghost use Rattle.cpn_definitions.specs.Enabled.{next_time, ready};
 ghost use Rattle.cpn_jobs.specs.Views.{job_view};
 ghost use Rattle.cpn_log.specs.Logs.{claims_made};
@@ -19,18 +18,21 @@ ghost use Rattle.cpn_book.specs.Standings.{IsAt};
 ghost use Rattle.cpn_book.specs.Steps.{Follows, IsMovedFrom, IsSpentFrom, Moves};
 ghost use Rattle.cpn_book.specs.Tickets.{number_of, job_of, evaluated_number, evaluated_job};
 ghost use Rattle.cpn_book.specs.declared.standings.Cut.{Cut};
-ghost use Rattle.cpn_search.specs.PlannedNets.{IsPlanned};
+ghost use Rattle.cpn_index.specs.Index.{clock_in, MayFollow};
+ghost use Rattle.cpn_tmset.specs.ChangedViews.{changes_view};
 
 use crate::answers::{Advanced, Claimed, Completed, Finish};
 use crate::claiming::open_claim;
 use crate::completing::complete_claim;
-use crate::outlooks::{next_time, outlook, ready_count};
+use crate::following::follow_told;
+use crate::outlooks::outlook;
 use crate::standings::{Standing, at_start};
 use crate::tickets::{Evaluated, Ticket};
-use cpn_core::{EnabledElement, Memory};
+use cpn_core::Memory;
+use cpn_index::Index;
 use cpn_jobs::{Work, works_of};
 use cpn_runs::{Event, Outlook, Setup};
-use cpn_search::Plans;
+use cpn_tmset::Changes;
 use std::alloc::Global;
 use std::sync::Arc;
 
@@ -50,8 +52,7 @@ pub struct Book {
     pub(crate) works: Vec<Arc<Work>>,
     pub(crate) standing: Standing,
     pub(crate) opening: Outlook,
-    pub(crate) plans: Plans,
-    pub(crate) listed: Vec<EnabledElement>,
+    pub(crate) index: Index,
     pub(crate) spent: bool,
 }
 
@@ -71,17 +72,15 @@ impl Book {
         let works = works_of(alloc, &setup.net)?;
         let mut standing = at_start(alloc, &setup)?;
         standing.journal.reserve(1)?;
-        let plans = Plans::of(alloc, &setup.net)?;
-        let listed = plans.enabled(alloc, &setup.net, standing.log.unclaimed(), setup.clock)?;
-        let opening = outlook(&listed, setup.clock);
+        let index = Index::build(alloc, &setup.net, standing.log.unclaimed(), setup.clock)?;
+        let opening = outlook(&index);
         Ok(Book {
             alloc,
             setup,
             works,
             standing,
             opening,
-            plans,
-            listed,
+            index,
             spent: false,
         })
     }
@@ -227,7 +226,7 @@ impl Book {
         requires uncut { self.old.standing.cut ≡ None }
         requires below { claims_made (log_view self.old.standing.log) < self.old.setup.limits.steps }
         requires free { slice_get self.old.standing.held.items seat ≡ Some None }
-        requires some { 0 < length (ready self.old.standing.clock (map enabled_view self.old.listed.items)) }
+        requires some { 0 < length (ready self.old.standing.clock (index_in self.old)) }
         ensures running { OnOk result (IsRunning self.new) }
         ensures events { IfOk result (λ ticket. journal_in self.new ≡ journal_in self.old ++ claim_made seat (number_of ticket) ∷ []) }
         ensures number { IfOk result (λ ticket. number_of ticket ≡ claims_made (log_view self.old.standing.log)) }
@@ -235,15 +234,17 @@ impl Book {
         ensures follows { Follows self.old self.new }
         ensures committed { committed_in self.new ≡ committed_in self.old }
     {
+        let mut told = Changes::new(self.alloc);
         let ticket = open_claim(
             self.alloc,
             &self.setup,
             &self.works,
-            &mut self.listed,
+            &self.index,
             &mut self.standing,
             seat,
+            &mut told,
         )?;
-        self.search()?;
+        self.follow(&told)?;
         Ok(ticket)
     }
 
@@ -278,8 +279,16 @@ impl Book {
         ensures events { OnOk result (AddsCompletion (setup_in self.old) seat (evaluated_number done) self.old.standing self.new.standing) }
         ensures follows { Follows self.old self.new }
     {
-        complete_claim(self.alloc, &self.setup, &mut self.standing, seat, done)?;
-        self.search()?;
+        let mut told = Changes::new(self.alloc);
+        complete_claim(
+            self.alloc,
+            &self.setup,
+            &mut self.standing,
+            seat,
+            done,
+            &mut told,
+        )?;
+        self.follow(&told)?;
         Ok(Completed::Done)
     }
 
@@ -287,13 +296,13 @@ impl Book {
     fn move_clock(&mut self) -> Advanced
         requires kept { IsBook self.old }
         requires running { IsRunning self.old }
-        requires none_ready { length (ready self.old.standing.clock (map enabled_view self.old.listed.items)) ≡ 0 }
+        requires none_ready { length (ready self.old.standing.clock (index_in self.old)) ≡ 0 }
         requires none_open { count_by is_some self.old.standing.held.items ≡ 0 }
         requires uncut { self.old.standing.cut ≡ None }
         requires below { claims_made (log_view self.old.standing.log) < self.old.setup.limits.steps }
         ensures moves { Moves self.old self.new result }
     {
-        let Some(time) = next_time(&self.listed) else {
+        let Some(time) = self.index.next_time() else {
             return Advanced::Dead;
         };
         if self.setup.limits.until < time {
@@ -307,51 +316,51 @@ impl Book {
     pub(crate) fn move_to(&mut self, time: u64)
         requires kept { IsBook self.old }
         requires running { IsRunning self.old }
-        requires none_ready { length (ready self.old.standing.clock (map enabled_view self.old.listed.items)) ≡ 0 }
+        requires none_ready { length (ready self.old.standing.clock (index_in self.old)) ≡ 0 }
         requires none_open { count_by is_some self.old.standing.held.items ≡ 0 }
         requires uncut { self.old.standing.cut ≡ None }
         requires below { claims_made (log_view self.old.standing.log) < self.old.setup.limits.steps }
-        requires next { next_time (map enabled_view self.old.listed.items) ≡ Some time }
+        requires next { next_time (index_in self.old) ≡ Some time }
         requires in_time { time ≤ self.old.setup.limits.until }
         ensures running { IsRunning self.new }
         ensures events { journal_in self.new ≡ journal_in self.old ++ clock_moved time ∷ [] }
-        ensures ready { 0 < length (ready self.new.standing.clock (map enabled_view self.new.listed.items)) }
+        ensures ready { 0 < length (ready self.new.standing.clock (index_in self.new)) }
         ensures same { IsMovedFrom self.old self.new }
     {
         self.standing.journal.push_reserved(Event::Move { time });
         self.setup.monitors.close(&mut self.standing.values, time);
         self.standing.clock = time;
+        self.index.advance_to(time);
     }
 
     /// How many elements are ready.
     pub(crate) fn ready(&self) -> u64
-        ensures { result ≡ length (ready self.now.standing.clock (map enabled_view self.now.listed.items)) }
+        requires clock { clock_in self.now.index ≡ self.now.standing.clock }
+        ensures { result ≡ length (ready self.now.standing.clock (index_in self.now)) }
     {
-        ready_count(&self.listed, self.standing.clock)
+        self.index.ready_len()
     }
 
-    /// Lists again what is enabled in the unclaimed marking, by the plans of the net.
-    pub(crate) fn search(&mut self) -> Result<(), Memory>
+    /// The index follows the unclaimed marking: what changed there since is told.
+    pub(crate) fn follow(&mut self, told: &Changes) -> Result<(), Memory>
         requires playable { IsPlayable (setup_in self.old) }
-        requires planned { IsPlanned (setup_in self.old).net self.old.plans }
         requires at { IsAt (setup_in self.old) self.old.standing }
+        requires follows { MayFollow (setup_in self.old).net (log_view self.old.standing.log).unclaimed (changes_view told.now) self.old.index }
+        requires clock { clock_in self.old.index ≡ self.old.standing.clock }
         requires room { vec_len self.old.standing.journal < vec_capacity self.old.standing.journal }
         ensures running { OnOk result (IsRunning self.new) }
         ensures standing { self.new.standing ≡ self.old.standing }
-        ensures same { self.new ≡ record self.old { listed = self.new.listed } }
+        ensures same { self.new ≡ record self.old { index = self.new.index } }
     {
-        let marking = self.standing.log.unclaimed();
-        let clock = self.standing.clock;
-        self.plans.enabled_into(
-            self.alloc,
+        follow_told(
+            &mut self.index,
             &self.setup.net,
-            marking,
-            clock,
-            &mut self.listed,
+            self.standing.log.unclaimed(),
+            told,
         )
     }
 
-    /// The book is spent: its journal is the one of so many events that it was, and its list of what is enabled is dropped.
+    /// The book is spent: its journal is the one of so many events that it was, and its index keeps nothing.
     pub(crate) fn spend(&mut self, events: usize)
         ensures spent { is_spent_in self.new ≡ true }
         ensures index_gone { index_in self.new ≡ [] }
@@ -359,7 +368,7 @@ impl Book {
         ensures same { IsSpentFrom self.old self.new }
     {
         self.standing.journal.truncate(events);
-        self.listed.clear();
+        self.index.clear();
         self.spent = true;
     }
 }

@@ -40,6 +40,7 @@ pub(crate) fn commit_all(
     requires may { MayCommit (setup_view setup.now) standing.old }
     ensures no_more { IfOk result (λ stop. CommitsNoMore (setup_view setup.now) standing.new stop) }
     ensures made { OnOk result (claims_made (log_view standing.new.log) ≡ claims_made (log_view standing.old.log)) }
+    ensures unclaimed { OnOk result ((log_view standing.new.log).unclaimed ≡ (log_view standing.old.log).unclaimed) }
     ensures clock { standing.new.clock ≡ standing.old.clock }
     ensures journal { standing.new.journal ≡ standing.old.journal }
     ensures cut { standing.new.cut ≡ standing.old.cut }
@@ -62,6 +63,7 @@ fn commit_next(alloc: Global, setup: &Setup, standing: &mut Standing) -> Result<
     requires may { MayCommit (setup_view setup.now) standing.old }
     ensures leads { IfOk result (λ commit. CommitLeads (setup_view setup.now) standing.old standing.new commit) }
     ensures made { OnOk result (claims_made (log_view standing.new.log) ≡ claims_made (log_view standing.old.log)) }
+    ensures unclaimed { OnOk result ((log_view standing.new.log).unclaimed ≡ (log_view standing.old.log).unclaimed) }
     ensures clock { standing.new.clock ≡ standing.old.clock }
     ensures journal { standing.new.journal ≡ standing.old.journal }
     ensures cut { standing.new.cut ≡ standing.old.cut }

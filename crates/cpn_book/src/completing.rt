@@ -10,6 +10,7 @@ ghost use Rattle.cpn_jobs.specs.Views.{job_view};
 ghost use Rattle.cpn_log.specs.Kept.{IsKept};
 ghost use Rattle.cpn_log.specs.Logs.{claims_made, standings, stands_open, with_status};
 ghost use Rattle.cpn_log.specs.LogViews.{log_view, jobs_in};
+ghost use Rattle.cpn_tmset.specs.ChangedViews.{changes_view};
 ghost use Rattle.cpn_runs.specs.FinishedViews.{setup_view};
 ghost use Rattle.cpn_runs.specs.Playable.{IsPlayable};
 ghost use Rattle.cpn_runs.specs.State.{PlainEvent, claim_completed};
@@ -17,6 +18,7 @@ ghost use Rattle.cpn_runs.specs.GivingBack.{OnlyGivenBack};
 ghost use Rattle.cpn_book.specs.Committing.{MayCommit, AddsCompletion};
 ghost use Rattle.cpn_book.specs.Evaluations.{outcome_of, status_by};
 ghost use Rattle.cpn_book.specs.Standings.{IsAt, StillCommitted, cut_view, events_in};
+ghost use Rattle.cpn_book.specs.Telling.{TellsOn};
 ghost use Rattle.cpn_book.specs.Tickets.{evaluated_number, evaluated_job};
 
 use crate::committing::commit_all;
@@ -26,16 +28,18 @@ use crate::tickets::Evaluated;
 use cpn_core::{EvalFault, Memory, Outputs};
 use cpn_log::Log;
 use cpn_runs::{Event, Setup};
+use cpn_tmset::Changes;
 use std::alloc::Global;
 
 /// Completes the claim that a seat holds: with its outputs, or with their fault. Then what can be committed is committed, and a cut
-/// that is owed is made. It leaves room in the journal for one event more.
+/// that is owed is made. It leaves room in the journal for one event more, and adds what is added and put back to what is told.
 pub(crate) fn complete_claim(
     alloc: Global,
     setup: &Setup,
     standing: &mut Standing,
     seat: u32,
     done: Evaluated,
+    told: &mut Changes,
 ) -> Result<(), Memory>
     requires playable { IsPlayable (setup_view setup.now) }
     requires at { IsAt (setup_view setup.now) standing.old }
@@ -49,12 +53,13 @@ pub(crate) fn complete_claim(
     ensures few { OnOk result (claims_made (log_view standing.new.log) ≤ claims_made (log_view standing.old.log)) }
     ensures frees { OnOk result ((s k : ℕ) → slice_get standing.new.held.items s ≡ Some (Some k) → (slice_get standing.old.held.items s ≡ Some (Some k)) × (k ≢ evaluated_number done)) }
     ensures room { OnOk result (vec_len standing.new.journal < vec_capacity standing.new.journal) }
+    ensures told { OnOk result (TellsOn (changes_view told.old) (changes_view told.new) (log_view standing.old.log).unclaimed (log_view standing.new.log).unclaimed) }
     ensures committed { StillCommitted (setup_view setup.now) standing.old standing.new }
 {
     standing.journal.reserve(3)?;
-    fill_claim(setup, standing, seat, done)?;
+    fill_claim(setup, standing, seat, done, told)?;
     let stop = commit_all(alloc, setup, standing)?;
-    make_owed_cut(standing, stop)
+    make_owed_cut(standing, stop, told)
 }
 
 /// The claim that a seat holds is done, with its outputs or with their fault.
@@ -63,6 +68,7 @@ fn fill_claim(
     standing: &mut Standing,
     seat: u32,
     done: Evaluated,
+    told: &mut Changes,
 ) -> Result<(), Memory>
     requires playable { IsPlayable (setup_view setup.now) }
     requires at { IsAt (setup_view setup.now) standing.old }
@@ -78,10 +84,11 @@ fn fill_claim(
     ensures made { OnOk result (claims_made (log_view standing.new.log) ≡ claims_made (log_view standing.old.log)) }
     ensures capacity { vec_capacity standing.new.journal ≡ vec_capacity standing.old.journal }
     ensures len { OnOk result (vec_len standing.new.journal ≡ vec_len standing.old.journal + 1) }
+    ensures told { OnOk result (TellsOn (changes_view told.old) (changes_view told.new) (log_view standing.old.log).unclaimed (log_view standing.new.log).unclaimed) }
     ensures committed { StillCommitted (setup_view setup.now) standing.old standing.new }
 {
     let Evaluated { number, result, .. } = done;
-    complete_in(&mut standing.log, number, result)?;
+    complete_in(&mut standing.log, number, result, told)?;
     standing.held[seat as usize] = None;
     standing.journal.push_reserved(Event::Done { seat, number });
     Ok(())
@@ -92,6 +99,7 @@ fn complete_in(
     log: &mut Log,
     number: u64,
     outcome: Result<Outputs, EvalFault>,
+    told: &mut Changes,
 ) -> Result<(), Memory>
     requires kept { IsKept (log_view log.old) }
     requires open { slice_get (standings (log_view log.old)) number ≡ Some stands_open }
@@ -102,10 +110,12 @@ fn complete_in(
     ensures committed { (log_view log.new).committed ≡ (log_view log.old).committed }
     ensures settled { (log_view log.new).settled ≡ (log_view log.old).settled }
     ensures kept { OnOk result (IsKept (log_view log.new)) }
+    ensures told { OnOk result (TellsOn (changes_view told.old) (changes_view told.new) (log_view log.old).unclaimed (log_view log.new).unclaimed) }
 {
     match outcome {
         Ok(outputs) => {
-            log.fill(number, outputs)?;
+            let changes = log.fill(number, outputs)?;
+            told.append(changes)?;
         }
         Err(fault) => log.fail(number, fault),
     }

@@ -11,7 +11,7 @@ ghost use Rattle.cpn_book.specs.Books.{setup_in, journal_in, shown, InState, IsB
 ghost use Rattle.cpn_book.specs.Steps.{MayGoOn};
 
 use crate::books::Book;
-use crate::outlooks::{next_time, outlook};
+use crate::outlooks::outlook;
 use crate::standings::Standing;
 use cpn_runs::{End, Finished};
 
@@ -45,7 +45,7 @@ impl Book {
         if self.standing.log.len() == self.setup.limits.steps {
             return Some(End::Steps);
         }
-        let Some(time) = next_time(&self.listed) else {
+        let Some(time) = self.index.next_time() else {
             return Some(End::Dead);
         };
         if self.setup.limits.until < time {
@@ -60,7 +60,7 @@ impl Book {
         ensures shown { finished_view result ≡ shown self (end_view cause) }
         ensures setup { setup_view result.setup ≡ setup_in self }
     {
-        let closing = outlook(&self.listed, self.standing.clock);
+        let closing = outlook(&self.index);
         let Book {
             setup,
             standing,

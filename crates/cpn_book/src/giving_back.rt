@@ -13,6 +13,7 @@ use crate::books::Book;
 use crate::cutting::cut_for_memory;
 use crate::tickets::Ticket;
 use cpn_core::Memory;
+use cpn_tmset::Changes;
 
 impl Book {
     /// Gives back the claim that a seat holds, for want of memory: the claim and all after it are removed. Claims before it may still be
@@ -85,7 +86,8 @@ impl Book {
         ensures follows { Follows self.old self.new }
         ensures committed { committed_in self.new ≡ committed_in self.old }
     {
-        cut_for_memory(&mut self.standing, number)?;
-        self.search()
+        let mut told = Changes::new(self.alloc);
+        cut_for_memory(&mut self.standing, number, &mut told)?;
+        self.follow(&told)
     }
 }

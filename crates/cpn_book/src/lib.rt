@@ -14,6 +14,7 @@ mod committing;
 mod completing;
 mod cutting;
 mod ends;
+mod following;
 mod giving_back;
 mod laws;
 mod occurring;

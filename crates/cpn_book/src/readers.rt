@@ -14,7 +14,6 @@ ghost use Rattle.cpn_book.specs.Books.{setup_in, journal_in, is_spent_in, InStat
 ghost use Rattle.cpn_book.specs.States.{AreReady, IsNextTime, open_claims};
 
 use crate::books::Book;
-use crate::outlooks::next_time;
 use cpn_monitor::Values14;
 use cpn_runs::{Event, Setup};
 use cpn_tmset::Marking;
@@ -90,7 +89,7 @@ impl Book {
         requires unspent { is_spent_in self.now ≡ false }
         ensures { InState self.now (λ state. IsNextTime (setup_in self.now) state result) }
     {
-        next_time(&self.listed)
+        self.index.next_time()
     }
 
     /// The events so far, in the order in which they happened. It is asked of a book that is not spent.

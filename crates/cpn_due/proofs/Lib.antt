@@ -3,6 +3,7 @@ mod DueLaws
 mod DueRows
 mod KeptElements
 mod MarkedItems
+mod FirstItems
 mod RankedItems
 mod RisingSides
 mod SummaryLaws

@@ -1,6 +1,6 @@
 -- The enabled elements of a marking that are kept, and which of them are ready at a clock. Source: own choice; what is ready, and
 -- the next time, are the definitions'.
-use Rattle.std.specs.Prelude.{ℕ, not, Bool, nat_le, List, map, find, Option}
+use Rattle.std.specs.Prelude.{ℕ, ◌==◌, not, Bool, nat_le, List, map, find, Option}
 use Rattle.std.specs.List.{filter, list_any}
 use Rattle.std.specs.Ordering.{is_eq}
 use Rattle.std.specs.declared.cmp.Ordering.{Ordering}
@@ -49,3 +49,7 @@ without e elements = filter (λ x. not (is_of e x)) elements
 -- those whose earliest time is not above the clock
 abbrev pub due_at : ℕ → List PlainEnabled → List PlainEnabled
 due_at clock elements = filter (λ x. nat_le x.entry.earliest clock) elements
+
+-- the first one of a transition
+abbrev pub first_of : ℕ → List PlainEnabled → Option PlainEnabled
+first_of t elements = find (λ x. x.entry.element.transition == t) elements

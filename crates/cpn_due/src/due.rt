@@ -3,7 +3,7 @@ ghost use Rattle.std.specs.Prelude.{◌≡◌, ◌+◌, ◌-◌, ◌<◌, ◌≤
 ghost use Rattle.cpn_definitions.specs.Lists.{Rises, with_item};
 ghost use Rattle.cpn_definitions.specs.Enabled.{next_time};
 ghost use Rattle.cpn_core.specs.Elements.{element_view, enabled_view};
-ghost use Rattle.cpn_due.specs.Due.{plain_enabled, entries_in, enabled_cmp, is_kept, kept_of, without, due_at};
+ghost use Rattle.cpn_due.specs.Due.{plain_enabled, entries_in, enabled_cmp, is_kept, kept_of, without, first_of, due_at};
 
 use crate::inserting::insert;
 use crate::marked::Marked;
@@ -142,6 +142,13 @@ impl Due {
         ensures exact { result ≡ is_kept (element_view element.now) self.now.elements }
     {
         self.tree.contains(element)
+    }
+
+    /// The first element of a transition, in order; `None` where there is none.
+    pub fn first_of(&self, transition: u32) -> Option<&EnabledElement>
+        ensures first { option_map (λ x. plain_enabled x.now) result ≡ first_of transition self.now.elements }
+    {
+        self.tree.first_of(transition)
     }
 
     /// The least earliest time of all elements, also of those that are due; `None` where there is none.

@@ -1,5 +1,6 @@
 //! Enabled elements that are marked where they are due.
-ghost use Rattle.std.specs.Prelude.{◌≡◌, [], ◌∷◌, length};
+ghost use Rattle.std.specs.Prelude.{◌≡◌, [], ◌∷◌, length, option_map};
+ghost use Rattle.cpn_due.specs.Due.{plain_enabled, first_of};
 ghost use Rattle.std.specs.Ordering.{is_lt};
 ghost use Rattle.cpn_definitions.specs.Enabled.{element_cmp};
 ghost use Rattle.cpn_core.specs.Elements.{element_view};
@@ -61,5 +62,22 @@ impl Marked {
         } else {
             Some(self.element.entry.earliest)
         }
+    }
+
+    /// The number of its transition.
+    pub(crate) fn transition(&self) -> u32
+        ensures exact { result ≡ (plain_marked self.now).enabled.entry.element.transition }
+    {
+        self.element.entry.element.transition
+    }
+
+    /// Its element, if that is of the transition.
+    pub(crate) fn if_of(&self, transition: u32) -> Option<&EnabledElement>
+        ensures exact { option_map (λ x. plain_enabled x.now) result ≡ first_of transition ((plain_marked self.now).enabled ∷ []) }
+    {
+        if self.transition() == transition {
+            return Some(&self.element);
+        }
+        None
     }
 }

@@ -1,7 +1,7 @@
 //! What is found in a tree.
-ghost use Rattle.std.specs.Prelude.{◌≡◌, ◌<◌, Some, length, slice_get};
+ghost use Rattle.std.specs.Prelude.{◌≡◌, ◌<◌, Some, length, slice_get, option_map};
 ghost use Rattle.cpn_core.specs.Elements.{element_view};
-ghost use Rattle.cpn_due.specs.Due.{plain_enabled, is_kept};
+ghost use Rattle.cpn_due.specs.Due.{plain_enabled, is_kept, first_of};
 ghost use Rattle.cpn_due.specs.Marked.{are_due, enabled_in};
 
 use crate::trees::{Node, Tree};
@@ -20,6 +20,25 @@ impl Tree {
                 Ordering::Equal => true,
                 Ordering::Greater => sides.right.contains(element),
             },
+        }
+    }
+
+    /// The first item of a transition; `None` where there is none.
+    pub(crate) fn first_of(&self, transition: u32) -> Option<&EnabledElement>
+        ensures first { option_map (λ x. plain_enabled x.now) result ≡ first_of transition (enabled_in self.now.items) }
+    {
+        match &self.node {
+            Node::Leaf => None,
+            Node::Fork(sides, root, _) => {
+                let here = root.transition();
+                if here < transition {
+                    return sides.right.first_of(transition);
+                }
+                match sides.left.first_of(transition) {
+                    Some(found) => Some(found),
+                    None => root.if_of(transition),
+                }
+            }
         }
     }
 

@@ -73,11 +73,11 @@ none_kept e (y ∷ xs) x none h = split (is_of e y) refl none h (λ is there. no
 pub none_of : (e : PlainElement) (xs : List PlainEnabled) (x : PlainEnabled) → kept_of e xs ≡ None → IsIn x xs → is_of e x ≡ true → ⊥
 none_of e xs x none h of = not_both (is_of e x) of (none_kept e xs x none h)
 
-not_true : (b : Bool) → not b ≡ true → b ≡ false
+pub not_true : (b : Bool) → not b ≡ true → b ≡ false
 not_true false is = refl
 not_true true is = cc
 
-not_false : (b : Bool) → b ≡ false → not b ≡ true
+pub not_false : (b : Bool) → b ≡ false → not b ≡ true
 not_false false is = refl
 not_false true is = cc
 

@@ -1,12 +1,15 @@
 mod UntouchedElements
 mod TouchedElements
-mod ClockedLists
+pub mod ClockedLists
 mod UpdateBounds
 mod KeptLists
 mod RetimedLists
 mod GoneEntries
 mod WaitingLists
 mod TakenOut
+mod OtherTransitions
+mod OtherGuards
+mod GuardedElements
 mod ToldViews
 mod NumberSets
 mod ReadyElements

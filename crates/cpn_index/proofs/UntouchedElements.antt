@@ -7,8 +7,8 @@ use Rattle.cpn_definitions.specs.Net.{PlainNet}
 use Rattle.cpn_definitions.specs.Occurrence.{PlainElement, Needed, needs_of, thresholds, threshold_in, are_covered, may_occur, covered}
 use Rattle.cpn_definitions.specs.Enabled.{PlainEntry, IsEarliest}
 use Rattle.cpn_definitions.proofs.RisingLists.{IsIn}
-use Rattle.cpn_tmset.specs.Changed.{PlainChange, is_told, AreChanges}
-use Rattle.cpn_index.specs.Touched.{OthersStay, touches, is_touched}
+use Rattle.cpn_tmset.specs.Changed.{PlainChange, is_told, OthersStay, AreChanges}
+use Rattle.cpn_index.specs.Touched.{touches, is_touched}
 
 -- where all that changed is told, and perhaps more, others stay
 pub others_stay : (told : List PlainChange) (old new : Marking) → AreChanges old new told → OthersStay told old new

@@ -9,9 +9,9 @@ use Rattle.cpn_definitions.specs.Outcome.{Outcome, gives_and}
 use Rattle.cpn_definitions.specs.Occurrence.{Needed, covered}
 use Rattle.cpn_definitions.specs.Enabled.{PlainEntry, entry_cmp, IsEarliest, Enabled}
 use Rattle.cpn_definitions.proofs.RisingLists.{IsIn, in_from_contains, contains_from_in, in_map, in_map_from, rises_mapped}
-use Rattle.cpn_tmset.specs.Changed.{PlainChange, is_told}
+use Rattle.cpn_tmset.specs.Changed.{PlainChange, is_told, OthersStay}
 use Rattle.cpn_due.specs.Due.{PlainEnabled, entries_in, enabled_cmp, is_kept}
-use Rattle.cpn_index.specs.Touched.{OthersStay, touches, is_touched, ReadsToldOtherwise}
+use Rattle.cpn_index.specs.Touched.{touches, is_touched, ReadsToldOtherwise}
 use Rattle.cpn_index.specs.Retimed.{IsOfNet, AreRetimed}
 use Rattle.cpn_index.specs.Added.{HaveMore, HaveAll, IsOfTransition, HasTermAt}
 use Rattle.cpn_index.proofs.KeptLists.{kept_entry, kept_from}

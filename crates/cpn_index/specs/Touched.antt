@@ -1,17 +1,12 @@
 -- Which elements a change of a marking touches. Source: own choice.
-use Rattle.std.specs.Prelude.{◌≡◌, ℕ, Bool, true, false, List}
+use Rattle.std.specs.Prelude.{◌≡◌, ℕ, Bool, true, List}
 use Rattle.std.specs.List.{list_any}
 use Rattle.cpn_definitions.specs.Value.{PlainValue}
-use Rattle.cpn_definitions.specs.Marking.{Marking, tokens_at, stamps}
 use Rattle.cpn_definitions.specs.Outcome.{gives_and}
 use Rattle.cpn_definitions.specs.Net.{PlainTransition, PlainNet}
 use Rattle.cpn_definitions.specs.Occurrence.{PlainElement, Needed, needs_of}
 use Rattle.cpn_tmset.specs.Changed.{PlainChange, is_told}
 use Rattle.cpn_stages.specs.Reading.{ReadsOtherwise}
-
--- Others stay: each value on a place that is not told has the same stamps in both markings.
-abbrev pub OthersStay : List PlainChange → Marking → Marking → Type 0
-OthersStay told old new = (p : ℕ) (v : PlainValue) → is_told p v told ≡ false → stamps v (tokens_at new p) ≡ stamps v (tokens_at old p)
 
 -- whether one of the needs is for a value that is told on its place
 abbrev pub touches : List PlainChange → List Needed → Bool

@@ -1,7 +1,7 @@
 -- The enabled elements that an index keeps, and which of them wait for a value on a place. Source: own choice.
-use Rattle.std.specs.Prelude.{◌≡◌, ℕ, Bool, ◌&&◌, ◌||◌, List}
+use Rattle.std.specs.Prelude.{◌≡◌, ℕ, ◌==◌, Bool, not, ◌&&◌, ◌||◌, List}
 use Rattle.std.specs.Coded.{Coded, code_by, coded×, coded_ℕ, coded_list}
-use Rattle.std.specs.List.{list_any}
+use Rattle.std.specs.List.{filter, list_any}
 use Rattle.std.proofs.Common.{refl}
 use Rattle.cpn_definitions.specs.Value.{PlainValue}
 use Rattle.cpn_definitions.specs.Occurrence.{PlainElement}
@@ -31,3 +31,7 @@ AreWatched elements watchers = (p : ℕ) (v : PlainValue) (e : PlainElement) →
 -- Just those that wait are watched, and the one more.
 abbrev pub AreWatchedWith : PlainEnabled → List PlainEnabled → Watchers → Type 0
 AreWatchedWith x elements watchers = (p : ℕ) (v : PlainValue) (e : PlainElement) → is_watched watchers p v e ≡ ((is_of e x && is_needed p v x.needs) || waits elements p v e)
+
+-- those of other transitions
+abbrev pub of_others : ℕ → List PlainEnabled → List PlainEnabled
+of_others t elements = filter (λ x. not (x.entry.element.transition == t)) elements

@@ -6,10 +6,10 @@ ghost use Rattle.cpn_definitions.specs.Occurrence.{PlainElement};
 ghost use Rattle.cpn_definitions.specs.Enabled.{next_time};
 ghost use Rattle.cpn_core.specs.Elements.{element_view};
 ghost use Rattle.cpn_core.specs.Views.{value_view};
-ghost use Rattle.cpn_due.specs.Due.{PlainEnabled, plain_enabled, entries_in, enabled_cmp, is_kept, due_at};
+ghost use Rattle.cpn_due.specs.Due.{PlainEnabled, plain_enabled, entries_in, enabled_cmp, is_kept, without, due_at};
 ghost use Rattle.cpn_index.specs.Added.{AreAdded};
 ghost use Rattle.cpn_index.specs.Retimed.{IsBack, IsTakenAnew};
-ghost use Rattle.cpn_index.specs.WatchedElements.{waits, AreWatched, AreWatchedWith};
+ghost use Rattle.cpn_index.specs.WatchedElements.{of_others, waits, AreWatched, AreWatchedWith};
 ghost use Rattle.cpn_index.specs.Waiting.{same_element};
 ghost use Rattle.cpn_index.specs.Watchers.{places_of};
 
@@ -67,6 +67,23 @@ impl WatchedElements {
         ensures places { self.new.places ≡ self.old.places }
     {
         match add_each(&mut self.due, &mut self.watchers, elements) {
+            Ok(()) => Ok(()),
+            Err(Memory) => {
+                self.due.clear();
+                self.watchers.clear();
+                Err(Memory)
+            }
+        }
+    }
+
+    /// Takes out the elements of a transition. After `Memory` there is no element any longer.
+    pub(crate) fn remove_of(&mut self, transition: u32) -> Result<(), Memory>
+        ensures others { OnOk result (self.new.elements ≡ of_others transition self.old.elements) }
+        ensures gone { OnErr result (self.new.elements ≡ []) }
+        ensures clock { self.new.clock ≡ self.old.clock }
+        ensures places { self.new.places ≡ self.old.places }
+    {
+        match remove_each(&mut self.due, &mut self.watchers, transition) {
             Ok(()) => Ok(()),
             Err(Memory) => {
                 self.due.clear();
@@ -233,5 +250,41 @@ fn put_back(
             watchers.unwatch(&needs, entry.element);
             true
         }
+    }
+}
+
+// Takes out the elements of the transition, and lets them wait no longer. After `Memory` some of them may still be there.
+fn remove_each(due: &mut Due, watchers: &mut Watchers, transition: u32) -> Result<(), Memory>
+    requires in_order { Rises enabled_cmp due.old.elements }
+    requires watched { AreWatched due.old.elements watchers.old }
+    ensures others { OnOk result (due.new.elements ≡ of_others transition due.old.elements) }
+    ensures in_order { Rises enabled_cmp due.new.elements }
+    ensures watched { AreWatched due.new.elements watchers.new }
+    ensures clock { due.new.clock ≡ due.old.clock }
+    ensures places { places_of watchers.new ≡ places_of watchers.old }
+{
+    while let Some(first) = due.first_of(transition) {
+        let element = first.entry.element.clone()?;
+        take_out(due, watchers, &element);
+    }
+    Ok(())
+}
+
+// Takes the element out, if it is there, and lets it wait no longer.
+fn take_out(due: &mut Due, watchers: &mut Watchers, element: &Element)
+    requires in_order { Rises enabled_cmp due.old.elements }
+    requires watched { AreWatched due.old.elements watchers.old }
+    ensures others { due.new.elements ≡ without (element_view element.now) due.old.elements }
+    ensures in_order { Rises enabled_cmp due.new.elements }
+    ensures watched { AreWatched due.new.elements watchers.new }
+    ensures clock { due.new.clock ≡ due.old.clock }
+    ensures places { places_of watchers.new ≡ places_of watchers.old }
+{
+    match due.remove(element) {
+        Some(enabled) => {
+            let EnabledElement { entry, needs } = enabled;
+            watchers.unwatch(&needs, entry.element);
+        }
+        None => {}
     }
 }

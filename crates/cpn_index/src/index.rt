@@ -8,8 +8,7 @@ ghost use Rattle.cpn_core.specs.Nets.{net_view};
 ghost use Rattle.cpn_core.specs.Elements.{enabled_view, HasItsNeeds};
 ghost use Rattle.cpn_tmset.specs.ChangedViews.{change_views, changes_view};
 ghost use Rattle.cpn_due.specs.Due.{plain_enabled, entries_in, due_at};
-ghost use Rattle.cpn_index.specs.Clocks.{from_clock_on};
-ghost use Rattle.cpn_index.specs.Index.{kept_in, clock_in, IsIndexOf, MayFollow};
+ghost use Rattle.cpn_index.specs.Index.{kept_in, clock_in, listed_in, IsIndexOf, MayFollow, MaySetGuard};
 ghost use Rattle.cpn_index.specs.UpdateWork.{IsUpdateWork};
 
 use crate::elements::WatchedElements;
@@ -17,7 +16,7 @@ use crate::readers::Readers;
 use crate::retiming::retime_all;
 use crate::searching::{add_found_with_each, add_read_otherwise};
 use cpn_core::{EnabledElement, Memory, Net};
-use cpn_search::{Plans, Steps};
+use cpn_search::{Plans, Steps, enabled_of};
 use cpn_tmset::{Change, Changes, Marking};
 use std::alloc::Global;
 use std::sync::ledger::Ledger;
@@ -91,6 +90,14 @@ impl Index {
         }
     }
 
+    /// Takes out all elements, as where memory is wanted: it is then an index of no marking. The clock stays. It takes no memory.
+    pub fn clear(&mut self)
+        ensures gone { kept_in self.new ≡ [] }
+        ensures clock { clock_in self.new ≡ clock_in self.old }
+    {
+        self.elements.clear();
+    }
+
     // Follows a change, and answers how many elements are enabled then; after `Memory` nothing is known of what is kept.
     fn follow<L: Ledger>(
         &mut self,
@@ -132,6 +139,49 @@ impl Index {
         Ok(elements.len())
     }
 
+    /// Follows a change of the guard of a transition: the index was that of the marking and of a net that is the same but for the guard and
+    /// the variables of the transition, and is then that of the net. It searches for the elements of this transition alone; those of
+    /// the others stay.
+    ///
+    /// # Errors
+    ///
+    /// `Memory` where memory is wanted: the index is then empty.
+    pub fn set_guard(&mut self, net: &Net, marking: &Marking, t: u32) -> Result<(), Memory>
+        requires sound { IsSound (net_view net.now) }
+        requires marking { IsMarking (net_view net.now).places marking.now }
+        requires in_range { t < length net.now.transitions.items }
+        requires sets { MaySetGuard (net_view net.now) marking.now t self.old }
+        ensures set { OnOk result (IsIndexOf (net_view net.now) marking.now self.new) }
+        ensures gone { OnErr result (kept_in self.new ≡ []) }
+        ensures clock { clock_in self.new ≡ clock_in self.old }
+    {
+        match self.renew(net, marking, t) {
+            Ok(()) => Ok(()),
+            Err(Memory) => {
+                self.elements.clear();
+                Err(Memory)
+            }
+        }
+    }
+
+    // Makes the plan of the transition anew, and puts what is enabled of it in the place of its elements; after `Memory` nothing is
+    // known of what is kept.
+    fn renew(&mut self, net: &Net, marking: &Marking, t: u32) -> Result<(), Memory>
+        requires sound { IsSound (net_view net.now) }
+        requires marking { IsMarking (net_view net.now).places marking.now }
+        requires in_range { t < length net.now.transitions.items }
+        requires sets { MaySetGuard (net_view net.now) marking.now t self.old }
+        ensures set { OnOk result (IsIndexOf (net_view net.now) marking.now self.new) }
+        ensures clock { clock_in self.new ≡ clock_in self.old }
+    {
+        let alloc = self.alloc;
+        self.plans.renew(alloc, net, t)?;
+        self.elements.remove_of(t)?;
+        let found = enabled_of(alloc, net, marking, t)?;
+        self.elements.add_all(found)?;
+        Ok(())
+    }
+
     /// Moves the clock. No element comes or goes by that.
     pub fn advance_to(&mut self, clock: u64)
         requires not_back { clock_in self.old ≤ clock }
@@ -158,14 +208,14 @@ impl Index {
 
     /// How many elements are ready at the clock.
     pub fn ready_len(&self) -> u64
-        ensures number { result ≡ length (ready (clock_in self.now) (from_clock_on (clock_in self.now) (entries_in (kept_in self.now)))) }
+        ensures number { result ≡ length (ready (clock_in self.now) (listed_in self.now)) }
     {
         self.elements.ready_len()
     }
 
     /// The element at a position, from 0, among those that are ready at the clock, in order.
     pub fn ready(&self, k: u64) -> &EnabledElement
-        requires within { k < length (ready (clock_in self.now) (from_clock_on (clock_in self.now) (entries_in (kept_in self.now)))) }
+        requires within { k < length (ready (clock_in self.now) (listed_in self.now)) }
         ensures element { slice_get (due_at (clock_in self.now) (kept_in self.now)) k ≡ Some (plain_enabled result.now) }
     {
         self.elements.ready(k)
@@ -173,7 +223,7 @@ impl Index {
 
     /// The least time, from the clock on, at which an element is covered; `None` where none is covered at any time.
     pub fn next_time(&self) -> Option<u64>
-        ensures next { result ≡ next_time (from_clock_on (clock_in self.now) (entries_in (kept_in self.now))) }
+        ensures next { result ≡ next_time (listed_in self.now) }
     {
         let first = self.elements.first_time()?;
         Some(first.max(self.elements.clock()))

@@ -1,6 +1,7 @@
 mod ChangeOrder
 mod EachOnce
 mod ToldItems
+mod ToldExchanges
 mod StampLists
 mod TouchedStamps
 pub mod LeftMarkings

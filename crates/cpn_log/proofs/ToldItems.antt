@@ -10,7 +10,7 @@ use Rattle.cpn_log.proofs.EachOnce.{each_once_more}
 use Rattle.cpn_definitions.proofs.ListItems.{map_more}
 
 -- the items up to one more, each seen by another
-seen_more : {X Y : Type 0} (f : X → Y) (xs : List X) (i : ℕ) (x : X) → i < length xs → x ≡ get_or xs i x → map f (take (i + 1) xs) ≡ map f (take i xs) ++ f x ∷ []
+pub seen_more : {X Y : Type 0} (f : X → Y) (xs : List X) (i : ℕ) (x : X) → i < length xs → x ≡ get_or xs i x → map f (take (i + 1) xs) ≡ map f (take i xs) ++ f x ∷ []
 seen_more f xs i x within is = ap (map f) (take_more xs i x within ∙ ap (λ y. take i xs ++ y ∷ []) (sym is)) ∙ map_more f (take i xs) x
 
 -- one more is told

@@ -17,6 +17,7 @@ use Rattle.cpn_definitions.proofs.RicherMarkings.{covered_in_turn, sorted_subtra
 use Rattle.cpn_runs.specs.HoleRun.{PlainClaim, added, after_claim}
 use Rattle.cpn_runs.proofs.FilledRuns.{sorted_after}
 use Rattle.cpn_tmset.specs.Changed.{PlainChange, change_cmp, is_change, is_told, AreChanges}
+use Rattle.cpn_tmset.proofs.ToldChanges.{told_joined}
 use Rattle.cpn_log.specs.Gathered.{each_once, same_stamps, differs, need_change, made_change, touched_by, touched}
 use Rattle.cpn_log.specs.Exchanges.{after_claims}
 use Rattle.cpn_log.proofs.ChangeOrder.{needs_stand_in_order}
@@ -24,14 +25,6 @@ use Rattle.cpn_log.proofs.EachOnce.{told_once, rises_once, filtered_in_order}
 use Rattle.cpn_log.proofs.StampLists.{same_stamps_true, same_stamps_refl, fewer_by}
 
 -- ---- what is needed and made for a value on a place
-
-pub told_joined : (p : ℕ) (v : PlainValue) (cs ds : List PlainChange) → is_told p v (cs ++ ds) ≡ (is_told p v cs || is_told p v ds)
-told_joined p v [] ds = refl
-told_joined p v (c ∷ cs) ds = split (is_change p v c) (told_joined p v cs ds)
-  where
-    split : (b : Bool) → is_told p v (cs ++ ds) ≡ (is_told p v cs || is_told p v ds) → (b || is_told p v (cs ++ ds)) ≡ ((b || is_told p v cs) || is_told p v ds)
-    split true rest = refl
-    split false rest = rest
 
 none_needed : (latest : Needed → ℕ) (p : ℕ) (v : PlainValue) (needs : List Needed) → is_told p v (map need_change needs) ≡ false → thresholds_for latest p v needs ≡ []
 none_needed latest p v [] h = refl

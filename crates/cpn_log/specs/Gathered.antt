@@ -1,8 +1,9 @@
 -- How changes are gathered: those of needs, of outputs, and of all that claims take and add; each once. Source: own choice.
-use Rattle.std.specs.Prelude.{ℕ, ◌==◌, Bool, true, false, ◌&&◌, not, if◌then◌else◌, List, [], ◌∷◌, ◌++◌, map}
+use Rattle.std.specs.Prelude.{◌≡◌, ℕ, ◌==◌, Bool, true, false, ◌&&◌, not, if◌then◌else◌, List, [], ◌∷◌, ◌++◌, map}
+use Rattle.std.specs.List.{AllByRecursion}
 use Rattle.cpn_definitions.specs.Marking.{Marking, tokens_at, stamps}
 use Rattle.cpn_definitions.specs.Occurrence.{Needed, Made}
-use Rattle.cpn_tmset.specs.Changed.{PlainChange, is_change}
+use Rattle.cpn_tmset.specs.Changed.{PlainChange, is_change, is_told}
 use Rattle.cpn_runs.specs.HoleRun.{PlainClaim, added}
 
 -- whether they are the same place and value
@@ -53,3 +54,7 @@ touched_by claim = map need_change claim.needs ++ map made_change (added claim.s
 abbrev pub touched : List PlainClaim → List PlainChange
 touched [] = []
 touched (claim ∷ claims) = touched_by claim ++ touched claims
+
+-- each of the items is told
+abbrev pub AreTold : List PlainChange → List PlainChange → Type 0
+AreTold items told = AllByRecursion (λ item. is_told item.place item.value told ≡ true) items

@@ -4,7 +4,7 @@ ghost use Rattle.std.specs.Prelude.{◌≤◌, length};
 
 use crate::claims::{Claim, Course};
 use crate::filling::put_ahead;
-use crate::gathered::{changes_among, changes_of_needs, changes_of_outputs};
+use crate::gathered::{changes_among, changes_of_exchange, changes_of_needs, changes_of_outputs};
 use crate::markings::Markings;
 use crate::replay::replayed;
 use crate::states::ClaimState;
@@ -39,7 +39,7 @@ impl Log {
     ghost use Rattle.cpn_definitions.specs.Times.{last_time};
     ghost use Rattle.cpn_core.specs.Elements.{element_view};
     ghost use Rattle.cpn_core.specs.Faults.{fault_view};
-    ghost use Rattle.cpn_tmset.specs.Changed.{AreChanges};
+    ghost use Rattle.cpn_tmset.specs.Changed.{AreChanges, OthersStay};
     ghost use Rattle.cpn_tmset.specs.ChangedViews.{changes_view};
     ghost use Rattle.cpn_tmset.specs.Limits.{HaveRoomFor};
     ghost use Rattle.cpn_runs.specs.Bounds.{most_steps};
@@ -99,15 +99,15 @@ impl Log {
     }
 
     /// Where all claims are committed, one claim more, of a seat on a job: it takes its needs, is done with its outputs and is
-    /// committed. The log is then as after `push`, `fill` and `commit_one`, and nothing is told of changes. Only one marking is kept
-    /// meanwhile, so after `Memory` nothing is known of the log.
+    /// committed. The log is then as after `push`, `fill` and `commit_one`. It tells each value on a place that is taken or added, also one
+    /// that is put back as it was. Only one marking is kept meanwhile, so after `Memory` nothing is known of the log.
     pub fn occur(
         &mut self,
         seat: u32,
         job: Arc<Job>,
         needs: &Needs,
         outputs: Outputs,
-    ) -> Result<(), Memory>
+    ) -> Result<Changes, Memory>
         requires kept { IsKept (log_view self.old) }
         requires all_committed { (log_view self.old).claims ≡ [] }
         requires room { claims_made (log_view self.old) < most_steps }
@@ -117,7 +117,9 @@ impl Log {
         ensures occurred { OnOk result (log_view self.new ≡ with_occurred (log_view self.old) (made_and_done seat (element_view job.value.element.value) job.value.time needs.now outputs)) }
         ensures jobs { OnOk result (jobs_in self.new ≡ jobs_in self.old ++ job.value ∷ []) }
         ensures kept { OnOk result (IsKept (log_view self.new)) }
+        ensures changes { IfOk result (λ changes. OthersStay (changes_view changes) (log_view self.old).unclaimed (log_view self.new).unclaimed) }
     {
+        let changes = changes_of_exchange(self.alloc, needs, &outputs)?;
         self.markings.exchange(needs, job.time, outputs)?;
         self.claims.push(Claim {
             seat,
@@ -127,7 +129,7 @@ impl Log {
             course: Course::Done(Outputs::new(self.alloc)),
         })?;
         self.committed = self.claims.len();
-        Ok(())
+        Ok(changes)
     }
 
     /// Completes an open claim with its outputs, which it adds at its own place in the claim order: each of them is carried past what

@@ -121,7 +121,7 @@ fn fill(
 }
 
 // Takes numbers on places, at the least time at which they are covered, and puts a number on a place, as a claim that is committed
-// at once; whether they are covered at any time.
+// at once, and what is told of that; `None` where they are covered at no time.
 fn occur(
     alloc: Global,
     log: &mut Log,
@@ -129,7 +129,7 @@ fn occur(
     place: u32,
     made: i64,
     stamp: u64,
-) -> Result<bool, Memory>
+) -> Result<Option<Changes>, Memory>
     requires kept { IsKept (log_view log.old) }
     requires all { (log_view log.old).claims ≡ [] }
     ensures kept { OnOk result (IsKept (log_view log.new)) }
@@ -137,10 +137,10 @@ fn occur(
 {
     let needs = needs_of(alloc, numbers)?;
     let Some(time) = log.unclaimed().earliest(&needs) else {
-        return Ok(false);
+        return Ok(None);
     };
     if log.len() >= MANY || time > LAST {
-        return Ok(false);
+        return Ok(None);
     }
     let mut outputs = Outputs::new(alloc);
     outputs.add(Made {
@@ -148,8 +148,8 @@ fn occur(
         value: Value::Int(made),
         stamp,
     })?;
-    log.occur(0, job_at(alloc, time)?, &needs, outputs)?;
-    Ok(true)
+    let changes = log.occur(0, job_at(alloc, time)?, &needs, outputs)?;
+    Ok(Some(changes))
 }
 
 // Fails an open claim, and cuts at it.
@@ -271,8 +271,8 @@ fn occur_behind_a_commit(alloc: Global, text: &mut String) -> Result<Log, Memory
     fill(alloc, &mut log, 0, 0, 7, 2)?;
     show(text, &mut log)?;
     if all_are_committed(&log) {
-        let done = occur(alloc, &mut log, &[(0, 7)], 0, 7, 4)?;
-        write!(text, "{done} ")?;
+        let changes = occur(alloc, &mut log, &[(0, 7)], 0, 7, 4)?;
+        tell(text, &changes)?;
     }
     Ok(log)
 }
@@ -294,7 +294,7 @@ fn a_claim_is_committed_at_once(rt: HostRuntime) -> Result<(), Fail> {
     show(&mut text, &mut log)?;
     assert_eq!(rt;
         text.as_str(),
-        "@0 @2 | true @0 @2 | true @2 @4 | false @2 @4 | 0:7 @4 | false @2 @4 | "
+        "@0 @2 | true @0 @2 | 0:7 @2 @4 | false @2 @4 | 0:7 @4 | false @2 @4 | "
     );
     assert_eq!(rt; log.len(), 3);
     assert_eq!(rt; log.committed(), 2);

@@ -3,8 +3,22 @@
 #![tactic(auto)]
 
 #[cfg(test)]
+mod documents;
+#[cfg(test)]
 mod elements;
+#[cfg(test)]
+mod followed;
+#[cfg(test)]
+mod held;
+#[cfg(test)]
+mod many;
+#[cfg(test)]
+mod nets;
 #[cfg(test)]
 mod rows;
 #[cfg(test)]
+mod searches;
+#[cfg(test)]
 mod sizes;
+#[cfg(test)]
+mod telling;

@@ -32,26 +32,15 @@ struct Table {
 pub fn play(alloc: Global, setup: Setup, brought: Hand, schedule: &str) -> Result<String, Refusal>
     requires shown { IsShownSetup (setup_view setup) }
 {
-    let book = Book::start(alloc, setup)?;
     let mut table = Table {
         alloc,
         out: String::from_str(alloc, HEAD)?,
         own: Hand::new(alloc),
         brought,
     };
+    let book = Book::start(alloc, setup)?;
     push_row(&mut table.out, "start", "begun", &book)?;
-    let mut run = Some(book);
-    let mut place = 0u64;
-    for line in schedule.lines() {
-        place = place.saturating_add(1);
-        if is_idle(line) {
-            continue;
-        }
-        let Some(book) = run.take() else {
-            return Err(refused(place, "the run has ended"));
-        };
-        run = table.line(book, place, line.trim())?;
-    }
+    table.lines(book, schedule)?;
     Ok(table.out)
 }
 
@@ -71,6 +60,32 @@ pub fn tickets_of(alloc: Global, setup: Setup) -> Result<Hand, Memory>
 }
 
 impl Table {
+    /// Plays the lines of the schedule, one after another.
+    fn lines(&mut self, book: Book, schedule: &str) -> Result<(), Refusal>
+        requires shown { IsShown book }
+    {
+        let mut run = Some(book);
+        let mut place = 0u64;
+        for line in schedule.lines() {
+            place = place.saturating_add(1);
+            if !is_idle(line) {
+                run = self.next(run, place, line.trim())?;
+            }
+        }
+        Ok(())
+    }
+
+    /// Plays a line of the schedule, where the run has not ended.
+    fn next(&mut self, run: Option<Book>, place: u64, line: &str) -> Result<Option<Book>, Refusal>
+        requires shown { IfSome run (λ book. IsShown book) }
+        ensures shown { IfOk result (λ run. IfSome run (λ book. IsShown book)) }
+    {
+        match run {
+            None => Err(refused(place, "the run has ended")),
+            Some(book) => self.line(book, place, line),
+        }
+    }
+
     /// Plays a line of the schedule: the book after it, unless the run has ended.
     fn line(&mut self, book: Book, place: u64, line: &str) -> Result<Option<Book>, Refusal>
         requires shown { IsShown book }

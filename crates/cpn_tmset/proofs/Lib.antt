@@ -19,6 +19,7 @@ pub mod TakenAmong
 mod SubtractedNeeds
 mod MultisetNeeds
 pub mod ChangeOrder
+pub mod ToldChanges
 mod ChangedRows
 mod RoomLeft
 mod Rows

@@ -25,8 +25,12 @@ is_change p v change = (p == change.place) && same_value v change.value
 abbrev pub is_told : ℕ → PlainValue → List PlainChange → Bool
 is_told p v changes = list_any (is_change p v) changes
 
+-- Others stay: each value on a place that is not told has the same stamps in both markings. So all that changed is told, and perhaps more.
+abbrev pub OthersStay : List PlainChange → Marking → Marking → Type 0
+OthersStay told old new = (p : ℕ) (v : PlainValue) → is_told p v told ≡ false → stamps v (tokens_at new p) ≡ stamps v (tokens_at old p)
+
 -- Changes: the places and values whose stamps differ in the two markings, and no other, each once, in their order.
 pub record AreChanges (old new : Marking) (changes : List PlainChange) : Type 0 where
   pub rise : Rises change_cmp changes
   pub told : (p : ℕ) (v : PlainValue) → is_told p v changes ≡ true → stamps v (tokens_at new p) ≢ stamps v (tokens_at old p)
-  pub others : (p : ℕ) (v : PlainValue) → is_told p v changes ≡ false → stamps v (tokens_at new p) ≡ stamps v (tokens_at old p)
+  pub others : OthersStay changes old new

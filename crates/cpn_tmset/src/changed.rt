@@ -17,12 +17,13 @@ pub struct Change {
     pub value: Value,
 }
 
-/// The places and values whose time stamps changed, each once, by place and then by value. Whoever gathers them keeps that so.
+/// Places and values whose time stamps changed. Whoever gathers them says whether each stands there once, in what order, and whether all of
+/// them changed.
 ///
 /// Source: own choice.
 #[derive(Drop)]
 pub struct Changes {
-    items: SmallVec<Change, 2>,
+    items: SmallVec<Change, 4>,
 }
 
 impl Changes {
@@ -48,6 +49,16 @@ impl Changes {
         ensures unchanged { OnErr result (changes_view self.new ≡ changes_view self.old) }
     {
         self.items.push(Change { place, value })?;
+        Ok(())
+    }
+
+    /// Appends other changes, in their order. After `Memory` the changes are as they were.
+    pub fn append(&mut self, others: Changes) -> Result<(), Memory>
+        ensures appended { OnOk result (changes_view self.new ≡ changes_view self.old ++ changes_view others) }
+        ensures unchanged { OnErr result (changes_view self.new ≡ changes_view self.old) }
+    {
+        let mut others = others;
+        self.items.append(&mut others.items)?;
         Ok(())
     }
 }

@@ -21,6 +21,8 @@ loop-number-init c =
     let ok = c.in_ok-reserve.ensures.ok in
     record {
       at = at;
+      clock = refl;
+      told = λ m stayed. stayed;
       room = omega (arith, ok);
       few = omega arith;
       closed = λ t k holds. omega arith;
@@ -37,6 +39,8 @@ loop-number-preserved c =
     let few = c.loop-number.invariant.few in
     record {
       at = c.in_ok-complete_number.ensures.at;
+      clock = c.complete_number.ensures.clock ∙ c.loop-number.invariant.clock;
+      told = λ m stayed. c.in_ok-complete_number.ensures.told m (c.loop-number.invariant.told m stayed);
       room = c.in_ok-complete_number.ensures.room;
       few = omega (arith, fewer, few);
       closed = λ t k holds. (let both = c.in_ok-complete_number.ensures.frees t k holds in let le = c.loop-number.invariant.closed t k both.0 in let other : k ≢ c.loop-number.number = both.1 in omega (arith, le, other));

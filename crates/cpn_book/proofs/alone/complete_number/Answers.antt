@@ -75,3 +75,6 @@ returns-clause-completions c =
 
 pub returns-in_default-clause-completions : goal.returns-in_default-clause-completions
 returns-in_default-clause-completions c = ([], sym (append-nil (events_in c.args.standing.now)), omega arith, nothing_gives_none (setup_view c.args.setup.now) (events_in c.args.standing.now))
+
+pub returns-in_default-clause-told : goal.returns-in_default-clause-told
+returns-in_default-clause-told c = λ m stayed. stayed

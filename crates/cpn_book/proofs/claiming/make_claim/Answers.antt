@@ -15,6 +15,8 @@ use Rattle.cpn_book.proofs.ClaimedStandings.{claimed}
 use Rattle.cpn_book.proofs.CommittedStandings.{still_at}
 use Rattle.cpn_book.proofs.CountedClaims.{heads_counted}
 use Rattle.cpn_book.proofs.DrawnClaims.{drawn_now, drawn_element, drawn_in_time, drawn_covered, still_drawn}
+use Rattle.cpn_tmset.specs.ChangedViews.{changes_view}
+use Rattle.cpn_book.proofs.ToldChanges.{tells_more}
 use Rattle.cpn_book.proofs.claiming.make_claim.Goals as goal
 use Rattle.cpn_definitions.proofs.ListItems.{map_more, last_is_at}
 
@@ -52,13 +54,13 @@ returns-clause-at c =
       occurrences = refl;
       values = refl;
       claims =
-          c.in_ok-push.ensures.pushed
+          c.in_ok-changes.ensures.pushed
           ∙ ap (λ e. (log_view old.log).claims ++ opened c.args.seat e job.time c.args.needs ∷ []) (drawn_element s old c.args.number job c.args.needs due)
           ∙ ap (λ t. (log_view old.log).claims ++ opened c.args.seat due.drawn.element t c.args.needs ∷ []) (drawn_now s old c.args.number job c.args.needs due);
       committed = c.push.ensures.committed;
       settled = c.push.ensures.settled;
-      kept = c.in_ok-push.ensures.kept;
-      jobs = ap (map job_view) c.in_ok-push.ensures.jobs ∙ map_more job_view (jobs_in old.log) job;
+      kept = c.in_ok-changes.ensures.kept;
+      jobs = ap (map job_view) c.in_ok-changes.ensures.jobs ∙ map_more job_view (jobs_in old.log) job;
       held = ap (λ k. slice_set old.held.items c.args.seat (Some k)) due.number_is;
       draw = due.next_word;
       events = claim_noted c.reserve.new.self.items old.journal.items c.push_reserved.new.self.items c.args.seat c.args.number c.reserve.ensures.items c.push_reserved.ensures.items ∙ ap (λ k. map event_view old.journal.items ++ claim_made c.args.seat k ∷ []) due.number_is;
@@ -72,7 +74,7 @@ pub returns-clause-job : goal.returns-clause-job
 returns-clause-job c =
     let s = setup_view c.args.setup.now in
     let old = c.args.standing.now in
-    let jobs : map job_view (jobs_in c.push.new.self) ≡ map job_view (jobs_in old.log) ++ job_view c.args.job.value ∷ [] = ap (map job_view) c.in_ok-push.ensures.jobs ∙ map_more job_view (jobs_in old.log) c.args.job.value in
+    let jobs : map job_view (jobs_in c.push.new.self) ≡ map job_view (jobs_in old.log) ++ job_view c.args.job.value ∷ [] = ap (map job_view) c.in_ok-changes.ensures.jobs ∙ map_more job_view (jobs_in old.log) c.args.job.value in
     let long : length (map job_view (jobs_in old.log)) ≡ c.args.number =
     ap length c.requires.drawn.at.at.jobs ∙ length-map (heads (log_view old.log)) (job_for s.net) ∙ heads_counted (log_view old.log) ∙ sym c.requires.drawn.number_is in
     ap (λ js. slice_get js c.args.number) jobs ∙ last_is_at (map job_view (jobs_in old.log)) c.args.number (job_view c.args.job.value) long
@@ -82,10 +84,19 @@ returns-in_err-reserve-clause-committed c =
     let s = setup_view c.args.setup.now in
     still_drawn s c.args.standing.now _ (still_at s (undrawn s c.args.standing.now) _ c.requires.drawn.at.at refl refl refl)
 
-pub returns-in_err-push-clause-committed : goal.returns-in_err-push-clause-committed
-returns-in_err-push-clause-committed c =
+pub returns-in_err-changes-clause-committed : goal.returns-in_err-changes-clause-committed
+returns-in_err-changes-clause-committed c =
     let s = setup_view c.args.setup.now in
     still_drawn s c.args.standing.now _ (still_at s (undrawn s c.args.standing.now) _ c.requires.drawn.at.at c.push.ensures.committed c.push.ensures.settled refl)
+
+pub returns-in_err-append-clause-committed : goal.returns-in_err-append-clause-committed
+returns-in_err-append-clause-committed c =
+    let s = setup_view c.args.setup.now in
+    still_drawn s c.args.standing.now _ (still_at s (undrawn s c.args.standing.now) _ c.requires.drawn.at.at c.push.ensures.committed c.push.ensures.settled refl)
+
+pub returns-clause-told : goal.returns-clause-told
+returns-clause-told c =
+    tells_more (changes_view c.args.told.now) (changes_view c.append.new.self) (changes_view c.in_ok-changes.changes) (log_view c.args.standing.now.log).unclaimed (log_view c.push.new.self).unclaimed c.in_ok-append.ensures.appended c.in_ok-changes.ensures.changes.others
 
 pub returns-clause-committed : goal.returns-clause-committed
 returns-clause-committed c =

@@ -1,5 +1,5 @@
 -- Each commitment leads on, and keeps what was committed before.
-use Rattle.std.proofs.Common.{refl, sym, ◌∙◌, arith}
+use Rattle.std.proofs.Common.{refl, sym}
 use Rattle.cpn_runs.specs.FinishedViews.{setup_view}
 use Rattle.cpn_book.proofs.CommittedStandings.{still_at, still_through}
 use Rattle.cpn_book.proofs.committing.commit_all.Goals as goal
@@ -14,6 +14,7 @@ loop-number-init c = record {
   committed = still_at (setup_view c.args.setup.now) c.args.standing.now c.args.standing.now c.requires.may.told refl refl refl;
   many = sym c.committed-number.ensures;
   made = refl;
+  unclaimed = refl;
   clock = refl;
   journal = refl;
   cut = refl;

@@ -13,6 +13,7 @@ invariant-loop-number l = record {
   committed : StillCommitted (setup_view l.setup) l.initial.standing l.standing;
   many : length (log_view l.standing.log).committed ≡ l._number;
   made : claims_made (log_view l.standing.log) ≡ claims_made (log_view l.initial.standing.log);
+  unclaimed : (log_view l.standing.log).unclaimed ≡ (log_view l.initial.standing.log).unclaimed;
   clock : l.standing.clock ≡ l.initial.standing.clock;
   journal : l.standing.journal ≡ l.initial.standing.journal;
   cut : l.standing.cut ≡ l.initial.standing.cut;

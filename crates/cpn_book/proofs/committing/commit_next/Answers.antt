@@ -17,6 +17,7 @@ use Rattle.cpn_runs.specs.FinishedViews.{setup_view}
 use Rattle.cpn_book.proofs.CommittedStandings.{still_at}
 use Rattle.cpn_book.proofs.NextClaims.{IsNext, next_stands, not_begun, element_next, time_next}
 use Rattle.cpn_book.proofs.NotedStandings.{IsOfNext, next_may_be_noted, next_still, next_goes_on, next_stops, one_committed, made_same}
+use Rattle.cpn_book.proofs.ToldChanges.{still_unclaimed}
 use Rattle.cpn_book.proofs.committing.commit_next.Goals as goal
 
 -- how the next claim stands
@@ -35,7 +36,7 @@ returns-in_default c =
     let log = log_view old.log in
     let next : IsNext log (state_view c.state.result) = next_stands log (state_view c.state.result) (ap (slice_get (standings log)) (sym c.committed-number.ensures) ∙ c.state.ensures) in
     let waits : begin_done log.claims ≡ false = not_begun log (state_view c.state.result) next (other_state c.state.result c.in_default.not-Done) in
-    record { leads = (refl, waits); made = refl; clock = refl; journal = refl; cut = refl; held = refl; committed = still_at (setup_view c.args.setup.now) old old c.requires.may.told refl refl refl }
+    record { leads = (refl, waits); made = refl; unclaimed = refl; clock = refl; journal = refl; cut = refl; held = refl; committed = still_at (setup_view c.args.setup.now) old old c.requires.may.told refl refl refl }
 
 pub returns-then-number-len-clause-committed : goal.returns-then-number-len-clause-committed
 returns-then-number-len-clause-committed c = still_at (setup_view c.args.setup.now) c.args.standing.now _ c.requires.may.told refl refl refl
@@ -146,3 +147,9 @@ returns-in-None-clause-leads c = (
       c.commit_one.new.self (record { committed = c.in_ok-commit_one.ensures.next; kept = c.in_ok-commit_one.ensures.kept; jobs = c.commit_one.ensures.jobs })
       c.note_last.new.standing c.reserve.new.self c.reserve.ensures.items c.note_last.ensures.occurrences c.note_last.ensures.others,
 )
+
+pub returns-in-Some-clause-unclaimed : goal.returns-in-Some-clause-unclaimed
+returns-in-Some-clause-unclaimed c = still_unclaimed c.args.standing.now.log c.commit_one.new.self c.note_last.new.standing (ap (λ (s : Standing). s.log) c.note_last.ensures.others) c.in_ok-commit_one.ensures.next
+
+pub returns-in-None-clause-unclaimed : goal.returns-in-None-clause-unclaimed
+returns-in-None-clause-unclaimed c = still_unclaimed c.args.standing.now.log c.commit_one.new.self c.note_last.new.standing (ap (λ (s : Standing). s.log) c.note_last.ensures.others) c.in_ok-commit_one.ensures.next

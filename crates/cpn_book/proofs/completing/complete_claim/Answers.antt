@@ -11,6 +11,9 @@ use Rattle.cpn_book.specs.Tickets.{evaluated_number}
 use Rattle.cpn_book.proofs.CommittedStandings.{same_but_journal, still_at, still_through}
 use Rattle.cpn_book.proofs.OwedCuts.{told_of, adds_completion}
 use Rattle.cpn_book.proofs.HeldSeats.{where_ok, either, freed}
+use Rattle.cpn_log.specs.LogViews.{log_view}
+use Rattle.cpn_tmset.specs.ChangedViews.{changes_view}
+use Rattle.cpn_book.proofs.ToldChanges.{tells_same}
 use Rattle.cpn_book.proofs.completing.complete_claim.Goals as goal
 
 pub fill_claim-requires-clause-at : goal.fill_claim-requires-clause-at
@@ -49,6 +52,13 @@ returns-clause-frees c =
     freed (setup_view c.args.setup.now).limits.seats c.requires.at.at.state.claims c.args.standing.now.held.items c.requires.at.at.told.holds c.args.seat (evaluated_number c.args.done) c.requires.held s k
     (ap (λ hs. slice_get hs s) (sym filled) ∙ frees s k holds))
     c.make_owed_cut.ensures.frees
+
+pub returns-clause-told : goal.returns-clause-told
+returns-clause-told c =
+    let filled = tells_same (changes_view c.fill_claim.new.told) (log_view c.fill_claim.new.standing.log).unclaimed (log_view c.commit_all.new.standing.log).unclaimed c.in_ok-stop.ensures.unclaimed in
+    where_ok c.make_owed_cut.result _ _
+    (λ cut. λ m stayed. cut m (filled m (c.in_ok-fill_claim.ensures.told m stayed)))
+    c.make_owed_cut.ensures.told
 
 pub returns-clause-committed : goal.returns-clause-committed
 returns-clause-committed c =

@@ -33,6 +33,7 @@ returns-in_default c =
       few = omega arith;
       frees = λ s i holds. holds;
       room = omega (arith, room);
+      told = λ m stayed. stayed;
       committed = λ setup at. still_at setup old old at refl refl refl;
     }
 

@@ -22,7 +22,10 @@ use Rattle.cpn_runs.specs.declared.events.Event.{Event}
 use Rattle.cpn_runs.specs.declared.events.Event.TheVariants as events
 use Rattle.cpn_book.proofs.DrawnClaims.{drawn_in_time, drawn_covered}
 use Rattle.cpn_book.proofs.OccurredStandings.{HasOccurred, done, all_in, few_outputs, marked_now, may_note_now, commits_no_more, still_occurred, one_more}
-use Rattle.cpn_book.proofs.occurring.occur.Goals.{After-drop-needs-inside-2}
+use Rattle.cpn_book.proofs.occurring.occur.Goals.{After-push_reserved-2}
+use Rattle.cpn_tmset.specs.ChangedViews.{changes_view}
+use Rattle.cpn_book.specs.Telling.{TellsOn}
+use Rattle.cpn_book.proofs.ToldChanges.{tells_more}
 use Rattle.cpn_book.proofs.occurring.occur.Goals as goal
 
 -- the occurrence is noted
@@ -42,27 +45,27 @@ events_noted mid old first new number same more last =
     ∙ append_assoc (map event_view old) (claim_made 0 number ∷ []) (claim_completed 0 number ∷ [])
 
 pub occur-requires-clause-all_committed : goal.occur-requires-clause-all_committed
-occur-requires-clause-all_committed c = all_in (setup_view c.args.setup.now) c.args.standing.now c.args.number c.args.job.value c.args.needs c.requires.drawn c.requires.playable c.requires.none_open
+occur-requires-clause-all_committed c = all_in (setup_view c.args.setup.now) c.args.standing.now c.args.number c.args.job.value c.args.needs.now c.requires.drawn c.requires.playable c.requires.none_open
 
 pub occur-requires-clause-in_time : goal.occur-requires-clause-in_time
-occur-requires-clause-in_time c = drawn_in_time (setup_view c.args.setup.now) c.args.standing.now c.args.number c.args.job.value c.args.needs c.requires.drawn c.requires.playable
+occur-requires-clause-in_time c = drawn_in_time (setup_view c.args.setup.now) c.args.standing.now c.args.number c.args.job.value c.args.needs.now c.requires.drawn c.requires.playable
 
 pub occur-requires-clause-covered : goal.occur-requires-clause-covered
-occur-requires-clause-covered c = drawn_covered (setup_view c.args.setup.now) c.args.standing.now c.args.number c.args.job.value c.args.needs c.requires.drawn c.requires.playable
+occur-requires-clause-covered c = drawn_covered (setup_view c.args.setup.now) c.args.standing.now c.args.number c.args.job.value c.args.needs.now c.requires.drawn c.requires.playable
 
 pub occur-requires-clause-few : goal.occur-requires-clause-few
-occur-requires-clause-few c = few_outputs (setup_view c.args.setup.now) c.args.standing.now c.args.number c.args.job.value c.args.needs c.requires.drawn c.requires.playable c.requires.none_open c.args.outputs c.requires.outputs
+occur-requires-clause-few c = few_outputs (setup_view c.args.setup.now) c.args.standing.now c.args.number c.args.job.value c.args.needs.now c.requires.drawn c.requires.playable c.requires.none_open c.args.outputs c.requires.outputs
 
 pub note_last-requires-clause-may : goal.note_last-requires-clause-may
 note_last-requires-clause-may c =
-    may_note_now (setup_view c.args.setup.now) c.args.standing.now c.args.number c.args.job.value c.args.needs c.requires.drawn c.requires.playable c.requires.none_open c.args.outputs c.requires.outputs
-    c.occur.new.self c.in_ok-occur.ensures.occurred c.in_ok-occur.ensures.kept (record { number = c.args.number; time = c.deref.result.now.time; element = c.in_ok-clone.field-0 })
+    may_note_now (setup_view c.args.setup.now) c.args.standing.now c.args.number c.args.job.value c.args.needs.now c.requires.drawn c.requires.playable c.requires.none_open c.args.outputs c.requires.outputs
+    c.occur.new.self c.in_ok-changes.ensures.occurred c.in_ok-changes.ensures.kept (record { number = c.args.number; time = c.deref.result.now.time; element = c.in_ok-clone.field-0 })
     (ap (λ (j : Job). j.time) c.deref.ensures) (ap element_view c.in_ok-clone.ensures.cases ∙ ap (λ (j : Job). element_view j.element.value) c.deref-2.ensures)
 
 -- what the code has done when it answers
 did
-    : (c : After-drop-needs-inside-2)
-    → HasOccurred c.args.standing.now (record c.note_last.new.standing { journal = c.push_reserved-2.new.self }) c.args.number c.args.job.value c.args.needs c.args.outputs
+    : (c : After-push_reserved-2)
+    → HasOccurred c.args.standing.now (record c.note_last.new.standing { journal = c.push_reserved-2.new.self }) c.args.number c.args.job.value c.args.needs.now c.args.outputs
 did c =
     let old = c.args.standing.now in
     let job = c.args.job.value in
@@ -72,39 +75,39 @@ did c =
     let same : c.deref-2.result.now ≡ job = c.deref-2.ensures in
     let element : element_view c.in_ok-clone.field-0.value ≡ element_view job.element.value = ap element_view c.in_ok-clone.ensures.cases ∙ ap (λ (j : Job). element_view j.element.value) same in
     record {
-      log = ap log_view log_same ∙ c.in_ok-occur.ensures.occurred;
-      jobs = ap jobs_in log_same ∙ c.in_ok-occur.ensures.jobs;
-      kept = subst (λ (l : Log). IsKept (log_view l)) (sym log_same) c.in_ok-occur.ensures.kept;
+      log = ap log_view log_same ∙ c.in_ok-changes.ensures.occurred;
+      jobs = ap jobs_in log_same ∙ c.in_ok-changes.ensures.jobs;
+      kept = subst (λ (l : Log). IsKept (log_view l)) (sym log_same) c.in_ok-changes.ensures.kept;
       occurrences = occurrence_noted c.reserve-2.new.self.items old.occurrences.items noted.occurrences.items c.args.number c.deref.result.now.time job.time c.in_ok-clone.field-0 (element_view job.element.value) c.reserve-2.ensures.items c.note_last.ensures.occurrences (ap (λ (j : Job). j.time) c.deref.ensures) element;
       events = events_noted c.reserve.new.self.items old.journal.items c.push_reserved.new.self.items c.push_reserved-2.new.self.items c.args.number c.reserve.ensures.items (c.push_reserved.ensures.items ∙ ap (λ es. es ++ events.Claim 0 c.args.number ∷ []) (ap (λ (s : Standing). s.journal.items) others)) c.push_reserved-2.ensures.items;
       others = ap (λ (s : Standing). record s { journal = c.push_reserved-2.new.self }) others ∙ ap (λ (l : Log). record old { log = l; journal = c.push_reserved-2.new.self; occurrences = noted.occurrences; values = noted.values }) (sym log_same);
     }
 
 -- its occurrence, with the marking after it
-abbrev occurrence_in : After-drop-needs-inside-2 → Occurrence
+abbrev occurrence_in : After-push_reserved-2 → Occurrence
 occurrence_in c = record { number = c.args.number; time = c.deref.result.now.time; element = c.in_ok-clone.field-0 }
 
 marked_in
-    : (c : After-drop-needs-inside-2)
+    : (c : After-push_reserved-2)
     → marked_view (occurrence_in c) (log_view c.occur.new.self).settled
-    ≡ marked_claim (log_view c.args.standing.now.log).settled (done (setup_view c.args.setup.now) c.args.standing.now c.args.number c.args.job.value c.args.needs c.requires.drawn c.requires.playable c.requires.none_open c.args.outputs c.requires.outputs)
+    ≡ marked_claim (log_view c.args.standing.now.log).settled (done (setup_view c.args.setup.now) c.args.standing.now c.args.number c.args.job.value c.args.needs.now c.requires.drawn c.requires.playable c.requires.none_open c.args.outputs c.requires.outputs)
 marked_in c =
     let element : element_view c.in_ok-clone.field-0.value ≡ element_view c.args.job.value.element.value = ap element_view c.in_ok-clone.ensures.cases ∙ ap (λ (j : Job). element_view j.element.value) c.deref-2.ensures in
-    marked_now (setup_view c.args.setup.now) c.args.standing.now c.args.number c.args.job.value c.args.needs c.requires.drawn c.requires.playable c.requires.none_open c.args.outputs c.requires.outputs
-    c.occur.new.self c.in_ok-occur.ensures.occurred c.in_ok-occur.ensures.kept (occurrence_in c) (ap (λ (j : Job). j.time) c.deref.ensures) element
+    marked_now (setup_view c.args.setup.now) c.args.standing.now c.args.number c.args.job.value c.args.needs.now c.requires.drawn c.requires.playable c.requires.none_open c.args.outputs c.requires.outputs
+    c.occur.new.self c.in_ok-changes.ensures.occurred c.in_ok-changes.ensures.kept (occurrence_in c) (ap (λ (j : Job). j.time) c.deref.ensures) element
 
 pub returns-clause-no_more : goal.returns-clause-no_more
 returns-clause-no_more c =
     let s = setup_view c.args.setup.now in
     let old = c.args.standing.now in
-    commits_no_more s old c.args.number c.args.job.value c.args.needs c.requires.drawn c.requires.playable c.requires.none_open c.args.outputs c.requires.outputs _ (did c)
+    commits_no_more s old c.args.number c.args.job.value c.args.needs.now c.requires.drawn c.requires.playable c.requires.none_open c.args.outputs c.requires.outputs _ (did c)
     (marked_view (occurrence_in c) (log_view c.occur.new.self).settled) (marked_in c) c.in_ok-stop.ensures.measured c.in_ok-stop.stop c.in_ok-stop.ensures.stop
 
 pub returns-clause-made : goal.returns-clause-made
 returns-clause-made c =
     let s = setup_view c.args.setup.now in
     let old = c.args.standing.now in
-    one_more s old c.args.number c.args.job.value c.args.needs c.requires.drawn c.requires.playable c.requires.none_open c.args.outputs c.requires.outputs _ (did c)
+    one_more s old c.args.number c.args.job.value c.args.needs.now c.requires.drawn c.requires.playable c.requires.none_open c.args.outputs c.requires.outputs _ (did c)
     (marked_view (occurrence_in c) (log_view c.occur.new.self).settled) (marked_in c) c.in_ok-stop.ensures.measured
 
 pub returns-clause-events : goal.returns-clause-events
@@ -114,5 +117,10 @@ pub returns-clause-committed : goal.returns-clause-committed
 returns-clause-committed c =
     let s = setup_view c.args.setup.now in
     let old = c.args.standing.now in
-    still_occurred s old c.args.number c.args.job.value c.args.needs c.requires.drawn c.requires.playable c.requires.none_open c.args.outputs c.requires.outputs _ (did c)
+    still_occurred s old c.args.number c.args.job.value c.args.needs.now c.requires.drawn c.requires.playable c.requires.none_open c.args.outputs c.requires.outputs _ (did c)
     (marked_view (occurrence_in c) (log_view c.occur.new.self).settled) (marked_in c) c.in_ok-stop.ensures.measured
+
+pub returns-clause-told : goal.returns-clause-told
+returns-clause-told c =
+    subst (λ (l : Log). TellsOn (changes_view c.args.told.now) (changes_view c.append.new.self) (log_view c.args.standing.now.log).unclaimed (log_view l).unclaimed) (sym (ap (λ (s : Standing). s.log) c.note_last.ensures.others))
+    (tells_more (changes_view c.args.told.now) (changes_view c.append.new.self) (changes_view c.in_ok-changes.changes) (log_view c.args.standing.now.log).unclaimed (log_view c.occur.new.self).unclaimed c.in_ok-append.ensures.appended c.in_ok-changes.ensures.changes)

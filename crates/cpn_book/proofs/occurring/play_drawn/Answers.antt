@@ -14,7 +14,7 @@ use Rattle.cpn_book.proofs.occurring.play_drawn.Goals as goal
 use Rattle.cpn_definitions.proofs.ListItems.{set_there}
 
 pub make_claim-requires-clause-free : goal.make_claim-requires-clause-free
-make_claim-requires-clause-free c = free_now (setup_view c.args.setup.now) c.args.standing.now c.args.done.number c.args.done.job.value c.args.needs c.requires.drawn c.requires.playable c.requires.none_open
+make_claim-requires-clause-free c = free_now (setup_view c.args.setup.now) c.args.standing.now c.args.done.number c.args.done.job.value c.args.needs.now c.requires.drawn c.requires.playable c.requires.none_open
 
 pub complete_claim-requires-clause-held : goal.complete_claim-requires-clause-held
 complete_claim-requires-clause-held c =
@@ -72,3 +72,15 @@ returns-in_ok-stop-in-Ok-clause-committed c =
     in_any_case c.make_owed_cut.result _
     (still_through s c.args.standing.now c.occur.new.standing c.make_owed_cut.new.standing c.in_ok-stop-in-Ok.ensures.committed
     (c.make_owed_cut.ensures.committed s (told_of s c.occur.new.standing c.in_ok-stop-in-Ok.stop c.in_ok-stop-in-Ok.ensures.no_more)))
+
+pub returns-in_ok-make_claim-in-Err-clause-told : goal.returns-in_ok-make_claim-in-Err-clause-told
+returns-in_ok-make_claim-in-Err-clause-told c =
+    where_ok c.complete_claim.result _ _
+    (λ completed. λ m stayed. completed m (c.in_ok-make_claim-in-Err.ensures.told m stayed))
+    c.complete_claim.ensures.told
+
+pub returns-in_ok-stop-in-Ok-clause-told : goal.returns-in_ok-stop-in-Ok-clause-told
+returns-in_ok-stop-in-Ok-clause-told c =
+    where_ok c.make_owed_cut.result _ _
+    (λ cut. λ m stayed. cut m (c.in_ok-stop-in-Ok.ensures.told m stayed))
+    c.make_owed_cut.ensures.told

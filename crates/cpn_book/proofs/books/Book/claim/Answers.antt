@@ -1,10 +1,9 @@
 -- What the seat gets is what the book's state has for it.
-use Rattle.std.proofs.Common.{◌<◌, length, map, sym, ◌∙◌, arith}
-use Rattle.cpn_core.specs.Elements.{enabled_view}
+use Rattle.std.proofs.Common.{◌<◌, length, sym, ◌∙◌, arith}
 use Rattle.cpn_definitions.specs.Enabled.{ready}
 use Rattle.cpn_log.specs.Logs.{claims_made}
 use Rattle.cpn_log.specs.LogViews.{log_view}
-use Rattle.cpn_book.specs.Books.{setup_in}
+use Rattle.cpn_book.specs.Books.{index_in, setup_in}
 use Rattle.cpn_book.proofs.AnsweredBooks.{over, full, busy, nothing, due, holds_none, ticket, spent_still, events_back}
 use Rattle.cpn_book.proofs.MovedBooks.{claims_below}
 use Rattle.cpn_book.proofs.books.Book.claim.Goals as goal
@@ -44,7 +43,7 @@ returns-in-Err-clause-due c = λ unspent.
     let book = c.args.self.now in
     let running = c.requires.kept.running c.if-self.false in
     let below : claims_made (log_view c.args.self.now.standing.log) < (setup_in c.args.self.now).limits.steps = claims_below (setup_in book) book.standing running.at c.requires.kept.playable (λ all. c.if-len-self.false (c.len.ensures ∙ all)) in
-    let some : 0 < length (ready c.args.self.now.standing.clock (map enabled_view c.args.self.now.listed.items)) = omega (arith, c.ready.ensures, c.if-ready-eq0.false) in
+    let some : 0 < length (ready c.args.self.now.standing.clock (index_in c.args.self.now)) = omega (arith, c.ready.ensures, c.if-ready-eq0.false) in
     due book running (sym c.is_some.ensures ∙ c.if-is_some.false) (λ all. c.if-len-self.false (c.len.ensures ∙ all)) c.args.seat c.requires.known
     (holds_none book running c.args.seat c.requires.known c.in_default.ensures.held) below some
 

@@ -1,9 +1,8 @@
 -- The cause is one for which the run ends, or there is none.
-use Rattle.std.proofs.Common.{◌≡◌, ap, sym, ◌∙◌, map, Some}
-use Rattle.cpn_core.specs.Elements.{enabled_view}
+use Rattle.std.proofs.Common.{◌≡◌, sym, ◌∙◌, Some}
 use Rattle.cpn_definitions.specs.Enabled.{next_time}
 use Rattle.cpn_runs.specs.State.{PlainEnd, EndsBy, dead, steps_made, until_passed}
-use Rattle.cpn_book.specs.Books.{setup_in}
+use Rattle.cpn_book.specs.Books.{setup_in, index_in}
 use Rattle.cpn_book.proofs.MovedBooks.{claims_below}
 use Rattle.cpn_book.proofs.RunningBooks.{in_state, by_steps, by_death, by_time, by_none}
 use Rattle.cpn_book.proofs.books.Book.end.Goals as goal
@@ -19,13 +18,13 @@ returns-in_default-clause-end c =
     let book = c.args.self.now in
     let below = claims_below (setup_in book) book.standing c.requires.running.at c.requires.kept.playable (λ all. c.if-len-self.false (c.len.ensures ∙ all)) in
     in_state book c.requires.running (λ state. EndsBy (setup_in book) state dead)
-    (by_death book c.requires.kept c.requires.running c.requires.none_open c.requires.uncut below (ap (λ es. next_time (map enabled_view es)) (sym c.deref.ensures.value) ∙ sym c.next_time.ensures ∙ c.in_default.is))
+    (by_death book c.requires.kept c.requires.running c.requires.none_open c.requires.uncut below (sym c.next_time.ensures.next ∙ c.in_default.is))
 
 pub returns-then-self-time-clause-end : goal.returns-then-self-time-clause-end
 returns-then-self-time-clause-end c =
     let book = c.args.self.now in
     let below = claims_below (setup_in book) book.standing c.requires.running.at c.requires.kept.playable (λ all. c.if-len-self.false (c.len.ensures ∙ all)) in
-    let next : next_time (map enabled_view book.listed.items) ≡ Some c.in-Some.time = ap (λ es. next_time (map enabled_view es)) (sym c.deref.ensures.value) ∙ sym c.next_time.ensures ∙ c.in-Some.is in
+    let next : next_time (index_in book) ≡ Some c.in-Some.time = sym c.next_time.ensures.next ∙ c.in-Some.is in
     in_state book c.requires.running (λ state. EndsBy (setup_in book) state (until_passed c.in-Some.time))
     (by_time book c.requires.kept c.requires.running c.requires.none_open c.requires.uncut below c.in-Some.time next c.if-self-time.true)
 
@@ -33,7 +32,7 @@ pub returns-else-self-time-clause-end : goal.returns-else-self-time-clause-end
 returns-else-self-time-clause-end c =
     let book = c.args.self.now in
     let below = claims_below (setup_in book) book.standing c.requires.running.at c.requires.kept.playable (λ all. c.if-len-self.false (c.len.ensures ∙ all)) in
-    let next : next_time (map enabled_view book.listed.items) ≡ Some c.in-Some.time = ap (λ es. next_time (map enabled_view es)) (sym c.deref.ensures.value) ∙ sym c.next_time.ensures ∙ c.in-Some.is in
+    let next : next_time (index_in book) ≡ Some c.in-Some.time = sym c.next_time.ensures.next ∙ c.in-Some.is in
     in_state book c.requires.running (λ state. (cause : PlainEnd) → EndsBy (setup_in book) state cause → ⊥)
     (by_none book c.requires.kept c.requires.running c.requires.none_open c.requires.uncut below c.in-Some.time next c.if-self-time.false)
 
@@ -44,6 +43,6 @@ returns-else-self-time-clause-goes_on c = λ none.
       uncut = c.requires.uncut;
       below = claims_below (setup_in book) book.standing c.requires.running.at c.requires.kept.playable (λ all. c.if-len-self.false (c.len.ensures ∙ all));
       time = c.in-Some.time;
-      next = ap (λ es. next_time (map enabled_view es)) (sym c.deref.ensures.value) ∙ sym c.next_time.ensures ∙ c.in-Some.is;
+      next = sym c.next_time.ensures.next ∙ c.in-Some.is;
       in_time = c.if-self-time.false;
     }

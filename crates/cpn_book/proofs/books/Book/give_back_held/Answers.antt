@@ -14,8 +14,8 @@ cut_for_memory-requires-clause-within c =
     let within = held_within (setup_in c.args.self.now) c.args.self.now.standing c.requires.running.at c.requires.held.0 c.args.number c.requires.held.1 in
     omega (arith, within)
 
-pub search-requires-clause-at : goal.search-requires-clause-at
-search-requires-clause-at c = c.in_ok-cut_for_memory.ensures.at (setup_in c.args.self.now) (may_give_back (setup_in c.args.self.now) c.args.self.now.standing c.requires.running.at c.requires.held.0 c.args.number c.requires.held.1)
+pub follow-requires-clause-at : goal.follow-requires-clause-at
+follow-requires-clause-at c = c.in_ok-cut_for_memory.ensures.at (setup_in c.args.self.now) (may_give_back (setup_in c.args.self.now) c.args.self.now.standing c.requires.running.at c.requires.held.0 c.args.number c.requires.held.1)
 
 pub returns-in_err-cut_for_memory-clause-follows : goal.returns-in_err-cut_for_memory-clause-follows
 returns-in_err-cut_for_memory-clause-follows c = follows_still c.args.self.now _ c.requires.kept refl c.cut_for_memory.ensures.begins c.cut_for_memory.ensures.committed c.cut_for_memory.ensures.settled c.cut_for_memory.ensures.occurrences

@@ -1,6 +1,7 @@
 -- The run is under way at the next time, and something is ready.
-use Rattle.std.proofs.Common.{ap, ◌∙◌, map, sym, subst}
+use Rattle.std.proofs.Common.{arith, ap, ◌∙◌, map, sym, subst}
 use Rattle.cpn_core.specs.Inscriptions.{funs_view}
+use Rattle.cpn_log.specs.LogViews.{log_view}
 use Rattle.cpn_monitor.specs.Fitting.{AreMeasured, MayClose}
 use Rattle.cpn_monitor.specs.Views.{monitors_view, values_view}
 use Rattle.cpn_monitor.specs.declared.monitors.Monitors.{Monitors}
@@ -33,6 +34,11 @@ returns-clause-running c =
     (c.close.ensures.closed (run_of (setup_in book) book.standing.clock (committed_of c.requires.running.at.at.state book.standing))
     (subst (λ (d : Monitors). AreMeasured (funs_view d.funs.value) (monitors_view d) (run_of (setup_in book) book.standing.clock (committed_of c.requires.running.at.at.state book.standing)) (values_view book.standing.values)) (sym c.deref.ensures) c.requires.running.at.at.measured)
     later))
+    c.advance_to.new.self c.advance_to.ensures.kept c.advance_to.ensures.moved
+    (c.advance_to.ensures.index (setup_in book).net (log_view book.standing.log).unclaimed c.requires.running.index)
 
 pub returns-clause-ready : goal.returns-clause-ready
-returns-clause-ready c = moved_ready c.args.self.now c.args.time c.requires.running c.requires.none_ready c.requires.none_open c.requires.uncut c.requires.below c.requires.next c.requires.in_time
+returns-clause-ready c = moved_ready c.args.self.now c.args.time c.requires.running c.requires.none_ready c.requires.none_open c.requires.uncut c.requires.below c.requires.next c.requires.in_time c.advance_to.new.self c.advance_to.ensures.kept c.advance_to.ensures.moved
+
+pub advance_to-requires : goal.advance_to-requires
+advance_to-requires c = record { not_back = (let own = c.requires.running.clock in let from = next_not_before c.args.self.now c.args.time c.requires.running c.requires.next in omega (arith, own, from)) }

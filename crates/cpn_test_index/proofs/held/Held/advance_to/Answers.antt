@@ -1,0 +1,13 @@
+-- The index is that of the same net and marking, at the new clock.
+use Rattle.cpn_core.specs.Nets.{net_view}
+use Rattle.cpn_test_index.proofs.held.Held.advance_to.Goals as goal
+
+pub returns : goal.returns
+returns c = record {
+  held = record {
+    sound = c.requires.held.sound;
+    marking = c.requires.held.marking;
+    enabled = c.advance_to.ensures.index (net_view c.args.self.net) c.args.self.marking c.requires.held.enabled;
+    at = c.advance_to.ensures.moved;
+  };
+}

@@ -1,0 +1,22 @@
+//! Nets by their documents.
+ghost use Rattle.std.specs.Prelude.{IfOk, IfSome};
+ghost use Rattle.cpn_core.specs.Nets.{net_view};
+ghost use Rattle.cpn_test_index.specs.Held.{IsHeld};
+
+use crate::held::Held;
+use cpn_core::Memory;
+use cpn_file::load;
+use std::alloc::Global;
+
+/// What is enabled at the start of the net of a document. A document that is no net has none.
+pub fn held_at_start(alloc: Global, document: &str) -> Result<Option<Held>, Memory>
+    ensures held { IfOk result (λ found. IfSome found (λ held. IsHeld (net_view held.net) held.marking held.index held.clock)) }
+{
+    match load(alloc, document.as_bytes()) {
+        Ok(loaded) => {
+            let held = Held::of(alloc, loaded.net, loaded.initial)?;
+            Ok(Some(held))
+        }
+        Err(_) => Ok(None),
+    }
+}

@@ -1,0 +1,178 @@
+//! A net, a marking of it and their index, whose tokens are put and taken one at a time while the index follows.
+ghost use Rattle.std.specs.Prelude.{◌≡◌, ◌<◌, true, false, [], ◌∷◌, length, IfOk};
+ghost use Rattle.cpn_definitions.specs.Marking.{token_at, tokens_at};
+ghost use Rattle.cpn_definitions.specs.Net.{place_at};
+ghost use Rattle.cpn_definitions.specs.Sound.{IsSound, IsMarking, may_hold};
+ghost use Rattle.cpn_core.specs.Nets.{net_view};
+ghost use Rattle.cpn_core.specs.Views.{value_view};
+ghost use Rattle.cpn_tmset.specs.ChangedViews.{changes_view};
+ghost use Rattle.cpn_tmset.specs.Limits.{HasRoom};
+ghost use Rattle.cpn_test_index.specs.Held.{IsHeld};
+
+use cpn_core::{Memory, Net, Value};
+use cpn_index::Index;
+use cpn_search::Steps;
+use cpn_tmset::{Changes, Marking};
+use std::alloc::Global;
+use std::sync::ledger::Ledger;
+
+/// The most tokens on a place.
+const MOST: u64 = 1_000_000;
+
+/// A net, a marking of it, and the index of both at a clock.
+#[derive(Drop)]
+pub struct Held {
+    /// The net.
+    pub net: Net,
+    /// The marking.
+    pub marking: Marking,
+    /// What is enabled in it.
+    pub index: Index,
+    /// The clock of the index.
+    pub clock: u64,
+}
+
+/// Whether the net has the place, and it may hold a token of the value with the stamp.
+fn may_be_put(net: &Net, place: u32, value: &Value, stamp: u64) -> bool
+    ensures within { result ≡ true → place < length (net_view net.now).places }
+    ensures held { result ≡ true → may_hold (place_at (net_view net.now) place).colour (token_at (value_view value.now) stamp) ≡ true }
+{
+    if place as usize >= net.places.len() {
+        return false;
+    }
+    let colour = &net.places[place as usize].colour;
+    colour.admits(value) && (colour.timed || stamp == 0)
+}
+
+/// Whether the place takes no more tokens, or there is no such place.
+fn is_full(marking: &Marking, place: u32) -> bool
+    ensures room { result ≡ false → HasRoom (tokens_at marking.now place) }
+{
+    match marking.get(place as usize) {
+        Some(tokens) => tokens.total() >= MOST,
+        None => true,
+    }
+}
+
+/// That the stamps of the value on the place change.
+fn changes_of(alloc: Global, place: u32, value: &Value) -> Result<Changes, Memory>
+    ensures told { IfOk result (λ changes. changes_view changes ≡ record { place = place; value = value_view value.now } ∷ []) }
+{
+    let mut changes = Changes::new(alloc);
+    changes.push(place, value.copy()?)?;
+    Ok(changes)
+}
+
+impl Held {
+    /// What is enabled in a marking of a net, at clock 0.
+    pub fn of(alloc: Global, net: Net, marking: Marking) -> Result<Held, Memory>
+        requires sound { IsSound (net_view net) }
+        requires marking { IsMarking (net_view net).places marking }
+        ensures held { IfOk result (λ held. IsHeld (net_view held.net) held.marking held.index held.clock) }
+    {
+        let index = Index::build(alloc, &net, &marking, 0)?;
+        Ok(Held {
+            net,
+            marking,
+            index,
+            clock: 0,
+        })
+    }
+
+    /// Puts a token on a place, where that may hold it.
+    pub fn put<L: Ledger>(
+        self,
+        alloc: Global,
+        place: u32,
+        number: i64,
+        stamp: u64,
+        steps: &mut Steps<L>,
+    ) -> Result<Held, Memory>
+        requires held { IsHeld (net_view self.net) self.marking self.index self.clock }
+        ensures held { IfOk result (λ held. IsHeld (net_view held.net) held.marking held.index held.clock) }
+    {
+        let value = Value::Int(number);
+        if !may_be_put(&self.net, place, &value, stamp) {
+            return Ok(self);
+        }
+        if is_full(&self.marking, place) {
+            return Ok(self);
+        }
+        let Held {
+            net,
+            mut marking,
+            mut index,
+            clock,
+        } = self;
+        let changes = changes_of(alloc, place, &value)?;
+        marking.add(place, value, stamp)?;
+        index.update(&net, &marking, &changes, steps)?;
+        Ok(Held {
+            net,
+            marking,
+            index,
+            clock,
+        })
+    }
+
+    /// Takes from a place the token of a number with the latest stamp that is not above `latest`.
+    pub fn take<L: Ledger>(
+        self,
+        alloc: Global,
+        place: u32,
+        number: i64,
+        latest: u64,
+        steps: &mut Steps<L>,
+    ) -> Result<Held, Memory>
+        requires held { IsHeld (net_view self.net) self.marking self.index self.clock }
+        ensures held { IfOk result (λ held. IsHeld (net_view held.net) held.marking held.index held.clock) }
+    {
+        if place as usize >= self.marking.len() {
+            return Ok(self);
+        }
+        let Held {
+            net,
+            mut marking,
+            mut index,
+            clock,
+        } = self;
+        let value = Value::Int(number);
+        let changes = changes_of(alloc, place, &value)?;
+        marking.take(place, &value, latest);
+        index.update(&net, &marking, &changes, steps)?;
+        Ok(Held {
+            net,
+            marking,
+            index,
+            clock,
+        })
+    }
+
+    /// Moves the clock, where it does not go back.
+    pub fn advance_to(self, clock: u64) -> Held
+        requires held { IsHeld (net_view self.net) self.marking self.index self.clock }
+        ensures held { IsHeld (net_view result.net) result.marking result.index result.clock }
+    {
+        let Held {
+            net,
+            marking,
+            mut index,
+            clock: before,
+        } = self;
+        if clock < before {
+            return Held {
+                net,
+                marking,
+                index,
+                clock: before,
+            };
+        }
+        index.advance_to(clock);
+        Held {
+            net,
+            marking,
+            index,
+            clock,
+        }
+    }
+}
