@@ -3,14 +3,14 @@ use Rattle.std.proofs.Common.{zero, suc, ◌≡◌, ◌≢◌, ℕ, ◌%◌, ◌
 use Rattle.std.specs.Option.{option_map, is_some}
 use Rattle.std.specs.List.{count_by, list_any}
 use Rattle.std.proofs.lemmas.List.{take-map, length-map}
-use Rattle.std.proofs.lemmas.Option.{same_Some, slice_get-map}
+use Rattle.std.proofs.lemmas.Option.{same_Some}
 use Rattle.std.proofs.Math.Seq.{take-append_seam}
 use Rattle.cpn_definitions.specs.Enabled.{PlainEntry, ready}
 use Rattle.cpn_definitions.proofs.ListItems.{last_is_at}
 use Rattle.cpn_draw.specs.Draw.{word}
 use Rattle.cpn_jobs.specs.Views.{job_view}
-use Rattle.cpn_log.specs.Logs.{head_of, claims_made}
-use Rattle.cpn_log.specs.LogViews.{log_view, jobs_in}
+use Rattle.cpn_log.specs.Logs.{claims_made}
+use Rattle.cpn_log.specs.LogViews.{log_view, job_in}
 use Rattle.cpn_runs.specs.FinishedViews.{setup_view}
 use Rattle.cpn_runs.specs.HoleRun.{PlainClaim, is_open}
 use Rattle.cpn_runs.specs.State.{PlainSetup, PlainState, PlainEvent, PlainEnd, EndsBy, claim_made, clock_moved, first_state, IsState, Happens, Leads, MayClaim, IsDrawn, new_claim}
@@ -21,7 +21,7 @@ use Rattle.cpn_book.proofs.MadeClaims.{IsNextClaim, may_claim}
 use Rattle.cpn_book.proofs.OpenClaims.{open_count_is, some_counted}
 use Rattle.cpn_book.specs.Answers.{IsTicket, AnswersClaim, MayClaimNext, GoesOn, AnswersAdvance}
 use Rattle.cpn_book.specs.Books.{index_in, setup_in, journal_in, is_spent_in, InState, IsBook, IsRunning}
-use Rattle.cpn_book.specs.Standings.{HasCommitted, job_for, cut_view}
+use Rattle.cpn_book.specs.Standings.{HasCommitted, cut_view}
 use Rattle.cpn_book.specs.States.{open_claims, IsFull, AreReady, claimed_job}
 use Rattle.cpn_book.specs.Steps.{Follows, IsSpentFrom, Moves}
 use Rattle.cpn_book.specs.Tickets.{number_of, job_of}
@@ -32,7 +32,7 @@ use Rattle.cpn_book.specs.declared.answers.Claimed.TheVariants as claims
 use Rattle.cpn_book.specs.declared.answers.Advanced.{Advanced}
 use Rattle.cpn_book.specs.declared.answers.Advanced.TheVariants as moves
 use Rattle.cpn_book.proofs.ClaimedStandings.{stands_at, uncut_in, counted}
-use Rattle.cpn_book.proofs.CountedClaims.{heads_are}
+use Rattle.cpn_book.proofs.JobsOfClaims.{job_of_open}
 use Rattle.cpn_book.proofs.NextTimes.{next_is_least, no_next_is_dead}
 use Rattle.cpn_book.proofs.RunningBooks.{in_state, unclaimed_is, enabled_in, are_ready, spent_is_book}
 
@@ -66,12 +66,9 @@ pub no_cut : (o : Option Cut) → is_some o ≡ false → o ≡ None
 no_cut None is = refl
 no_cut (Some cut) is = cc
 
--- the job of a claim is the one that the log keeps
-pub job_kept : (book : Book) (running : IsRunning book) (number : ℕ) (claim : PlainClaim) → slice_get running.at.at.state.claims number ≡ Some claim → slice_get (map job_view (jobs_in book.standing.log)) number ≡ Some (claimed_job (setup_in book) claim)
-job_kept book running number claim at =
-    ap (λ js. slice_get js number) (running.at.at.jobs ∙ ap (map (job_for (setup_in book).net)) (heads_are (setup_in book).start running.at.at.state.claims (log_view book.standing.log) running.at.at.told.has))
-    ∙ slice_get-map (job_for (setup_in book).net) (map head_of running.at.at.state.claims) number
-    ∙ ap (option_map (job_for (setup_in book).net)) (slice_get-map head_of running.at.at.state.claims number ∙ ap (option_map head_of) at)
+-- the job of an open claim is the one that the log keeps
+pub job_kept : (book : Book) (running : IsRunning book) (number : ℕ) (claim : PlainClaim) → slice_get running.at.at.state.claims number ≡ Some claim → is_open claim.status ≡ true → option_map job_view (job_in book.standing.log number) ≡ Some (claimed_job (setup_in book) claim)
+job_kept book running number claim at opened = job_of_open (setup_in book) book.standing running.at.at number claim at opened
 
 -- there is an item at an index within a list
 item_at : {A : Type 0} (xs : List A) (i : ℕ) → i < length xs → (x : A) × (slice_get xs i ≡ Some x)
@@ -184,7 +181,7 @@ module _ (book : Book) (running : IsRunning book) where
 
   -- a ticket
   pub ticket : (new : Book) → new.setup ≡ book.setup → IsRunning new → (seat : ℕ) (given : Ticket) → journal_in new ≡ journal_in book ++ claim_made seat (number_of given) ∷ []
-      → slice_get (map job_view (jobs_in new.standing.log)) (number_of given) ≡ Some (job_of given) → InState book (λ state. IsTicket (setup_in book) state seat given)
+      → option_map job_view (job_in new.standing.log (number_of given)) ≡ Some (job_of given) → InState book (λ state. IsTicket (setup_in book) state seat given)
   ticket new setup then seat given events job = in_state book running (λ state. IsTicket (setup_in book) state seat given) (record {
     after = then.at.at.state;
     may = may;
@@ -202,8 +199,8 @@ module _ (book : Book) (running : IsRunning book) where
       at : slice_get then.at.at.state.claims (number_of given) ≡ Some (new_claim (setup_in book).net seat running.at.at.state.clock may.drawn.element)
       at = ap (λ (s : PlainState). slice_get s.claims (number_of given)) may.new_is ∙ last_is_at running.at.at.state.claims (number_of given) (new_claim (setup_in book).net seat running.at.at.state.clock may.drawn.element) (sym may.next_number)
 
-      kept : slice_get (map job_view (jobs_in new.standing.log)) (number_of given) ≡ Some (claimed_job (setup_in new) (new_claim (setup_in book).net seat running.at.at.state.clock may.drawn.element))
-      kept = job_kept new then (number_of given) (new_claim (setup_in book).net seat running.at.at.state.clock may.drawn.element) at
+      kept : option_map job_view (job_in new.standing.log (number_of given)) ≡ Some (claimed_job (setup_in new) (new_claim (setup_in book).net seat running.at.at.state.clock may.drawn.element))
+      kept = job_kept new then (number_of given) (new_claim (setup_in book).net seat running.at.at.state.clock may.drawn.element) at refl
 
 -- where a claim is open the run has no end
 pub open_has_no_end : (book : Book) (running : IsRunning book) → 0 < count_by is_some book.standing.held.items → InState book (λ state. (cause : PlainEnd) → EndsBy (setup_in book) state cause → ⊥)

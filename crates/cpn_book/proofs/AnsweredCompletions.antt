@@ -1,12 +1,13 @@
 -- What a book answers to an evaluation that a seat brings.
-use Rattle.std.proofs.Common.{◌≡◌, ℕ, ◌<◌, ◌≤◌, List, [], ◌∷◌, ◌++◌, map, Some, Result, Ok, Err, sym, ap, ◌∙◌, subst, slice_get, refl}
+use Rattle.std.proofs.Common.{◌≡◌, ℕ, ◌<◌, ◌≤◌, List, [], ◌∷◌, ◌++◌, Some, Result, Ok, Err, sym, ap, ◌∙◌, subst, slice_get, refl}
+use Rattle.std.specs.Option.{option_map}
 use Rattle.std.specs.Prelude.{IfOk, OnOk}
 use Rattle.std.proofs.lemmas.List.{append-nil}
 use Rattle.std.proofs.lemmas.Option.{same_Some}
 use Rattle.cpn_definitions.specs.Occurrence.{outputs_of}
 use Rattle.cpn_jobs.specs.Views.{job_view}
 use Rattle.cpn_jobs.specs.OutputsByWork.{work_makes}
-use Rattle.cpn_log.specs.LogViews.{jobs_in}
+use Rattle.cpn_log.specs.LogViews.{job_in}
 use Rattle.cpn_runs.specs.HoleRun.{PlainClaim}
 use Rattle.cpn_runs.specs.Filling.{IsFilled}
 use Rattle.cpn_runs.specs.Playable.{IsPlayable}
@@ -46,7 +47,7 @@ module _ (book : Book) (running : IsRunning book) (seat : ℕ) (done : Evaluated
     none_cut = not_cut book running seat (evaluated_number done) (evaluated_job done) uncut
 
     -- the claim is completed
-    module _ (playable : IsPlayable (setup_in book)) (held : slice_get book.standing.held.items seat ≡ Some (Some (evaluated_number done))) (job : slice_get (map job_view (jobs_in book.standing.log)) (evaluated_number done) ≡ Some (evaluated_job done))
+    module _ (playable : IsPlayable (setup_in book)) (held : slice_get book.standing.held.items seat ≡ Some (Some (evaluated_number done))) (job : option_map job_view (job_in book.standing.log (evaluated_number done)) ≡ Some (evaluated_job done))
         (new : Book) (setup : new.setup ≡ book.setup) (then : IsRunning new) (adds : AddsCompletion (setup_in book) seat (evaluated_number done) book.standing new.standing) where
       has_claim : HasOpenClaim (setup_in book) running.at.at.state seat (evaluated_number done) (evaluated_job done)
       has_claim = has_open_claim (setup_in book) book.standing running.at seat (evaluated_number done) held (evaluated_job done) job
@@ -84,7 +85,7 @@ module _ (book : Book) (running : IsRunning book) (seat : ℕ) (done : Evaluated
           in_state book running (λ state. (es : List PlainEvent) × (journal_in new ≡ journal_in book ++ es) × AnswersCompletion (setup_in book) state seat done es completions.Done)
           (claim_completed seat (evaluated_number done) ∷ cut_events adds.owed, adds.events, (none_cut, completion))
 
-    pub held_answers : {E : Type 0} → IsPlayable (setup_in book) → slice_get book.standing.held.items seat ≡ Some (Some (evaluated_number done)) → slice_get (map job_view (jobs_in book.standing.log)) (evaluated_number done) ≡ Some (evaluated_job done)
+    pub held_answers : {E : Type 0} → IsPlayable (setup_in book) → slice_get book.standing.held.items seat ≡ Some (Some (evaluated_number done)) → option_map job_view (job_in book.standing.log (evaluated_number done)) ≡ Some (evaluated_job done)
         → (new : Book) → new.setup ≡ book.setup → (result : Result Completed E) → IfOk result (λ answer. answer ≡ completions.Done) → OnOk result (IsRunning new)
         → OnOk result (AddsCompletion (setup_in book) seat (evaluated_number done) book.standing new.standing) → IfOk result (λ answer. Answered new answer)
     held_answers playable held job new setup (Ok answer) is then adds = subst (λ a. Answered new a) (sym is) (done_answer playable held job new setup then adds)

@@ -1,9 +1,10 @@
 -- What a book answers to a ticket that a seat gives back.
-use Rattle.std.proofs.Common.{◌≡◌, ℕ, ◌<◌, ◌≤◌, List, [], ◌∷◌, ◌++◌, map, Some, None, inl, inr, refl, sym, ap, ◌∙◌, slice_get}
+use Rattle.std.proofs.Common.{◌≡◌, ℕ, ◌<◌, ◌≤◌, List, [], ◌∷◌, ◌++◌, Some, None, inl, inr, refl, sym, ap, ◌∙◌, slice_get}
+use Rattle.std.specs.Option.{option_map}
 use Rattle.std.proofs.Math.Path.{ap₂}
 use Rattle.std.proofs.lemmas.List.{append-nil}
 use Rattle.cpn_jobs.specs.Views.{job_view}
-use Rattle.cpn_log.specs.LogViews.{jobs_in}
+use Rattle.cpn_log.specs.LogViews.{job_in}
 use Rattle.cpn_runs.specs.State.{PlainSetup, PlainState, PlainEvent, wants_memory, cut_made, owed_cut, IsDue, MayCut}
 use Rattle.cpn_book.specs.Answers.{IsGivingBack, AnswersGivingBack, AnswersTicket}
 use Rattle.cpn_book.specs.Books.{setup_in, journal_in, IsRunning}
@@ -58,7 +59,7 @@ module _ (book : Book) (running : IsRunning book) (seat : ℕ) (ticket : Ticket)
   pub cut_answer
       : ((cut : Cut) → book.standing.cut ≡ Some cut → number_of ticket < cut.number)
       → slice_get book.standing.held.items seat ≡ Some (Some (number_of ticket))
-      → slice_get (map job_view (jobs_in book.standing.log)) (number_of ticket) ≡ Some (job_of ticket)
+      → option_map job_view (job_in book.standing.log (number_of ticket)) ≡ Some (job_of ticket)
       → (new : Book)
       → new.setup ≡ book.setup
       → IsRunning new

@@ -1,5 +1,5 @@
 -- Where a run stands after a claim.
-use Rattle.std.proofs.Common.{◌≡◌, ℕ, ◌+◌, ◌<◌, ◌≤◌, List, [], ◌∷◌, ◌++◌, length, map, take, Some, None, sym, ap, ◌∙◌, subst, arith, append_assoc, slice_get, slice_set, length-append}
+use Rattle.std.proofs.Common.{◌≡◌, ℕ, ◌+◌, ◌<◌, ◌≤◌, List, [], ◌∷◌, ◌++◌, length, map, take, Some, None, sym, ap, ◌∙◌, subst, arith, slice_get, slice_set, length-append}
 use Rattle.std.specs.Option.{option_map}
 use Rattle.std.proofs.lemmas.List.{map-append, take-append-le}
 use Rattle.cpn_definitions.specs.Enabled.{PlainEntry, Enabled, ready}
@@ -9,7 +9,7 @@ use Rattle.cpn_draw.specs.Draw.{generator}
 use Rattle.cpn_jobs.specs.Views.{job_view}
 use Rattle.cpn_jobs.specs.Work.{PlainJob}
 use Rattle.cpn_log.specs.Kept.{IsKept}
-use Rattle.cpn_log.specs.Logs.{head_of, heads, claims_made, opened}
+use Rattle.cpn_log.specs.Logs.{head_of, claims_made, opened}
 use Rattle.cpn_log.specs.LogViews.{log_view, jobs_in}
 use Rattle.cpn_definitions.proofs.RisingLists.{each_appended}
 use Rattle.cpn_monitor.specs.Views.{values_view}
@@ -122,13 +122,6 @@ module _ (setup : PlainSetup) (old new : Standing) (seat : ℕ) (is : IsAt setup
       subst (λ es. StandsAt setup es after (log_view new.log) new.held.items) events
       (subst (λ hs. StandsAt setup (events_in old ++ claim_made seat (length is.at.state.claims) ∷ []) after (log_view new.log) hs) held first)
 
-  heads_more : heads (log_view new.log) ≡ heads (log_view old.log) ++ head_of made ∷ []
-  heads_more =
-      ap (λ hs. hs ++ map head_of (log_view new.log).claims) did.committed
-      ∙ ap (λ cs. (log_view old.log).committed ++ map head_of cs) claims_are
-      ∙ ap (λ hs. (log_view old.log).committed ++ hs) (map-append head_of (log_view old.log).claims (made ∷ []))
-      ∙ sym (append_assoc (log_view old.log).committed (map head_of (log_view old.log).claims) (head_of made ∷ []))
-
   job_is : did.job ≡ job_for setup.net (head_of made)
   job_is = did.job_is ∙ ap (λ t. job_for setup.net (record { seat = seat; element = did.drawn.element; time = t })) is.at.clock
 
@@ -145,9 +138,9 @@ module _ (setup : PlainSetup) (old new : Standing) (seat : ℕ) (is : IsAt setup
       cut = ap (option_map cut_view) did.cut ∙ is.at.cut;
       jobs =
           did.jobs ∙ ap (λ js. js ++ did.job ∷ []) is.at.jobs
-          ∙ ap (λ j. map (job_for setup.net) (heads (log_view old.log)) ++ j ∷ []) job_is
-          ∙ sym (map-append (job_for setup.net) (heads (log_view old.log)) (head_of made ∷ []))
-          ∙ ap (map (job_for setup.net)) (sym heads_more);
+          ∙ ap (λ j. map (job_for setup.net) (map head_of (log_view old.log).claims) ++ j ∷ []) job_is
+          ∙ sym (map-append (job_for setup.net) (map head_of (log_view old.log).claims) (head_of made ∷ []))
+          ∙ ap (map (job_for setup.net)) (sym (ap (map head_of) claims_are ∙ map-append head_of (log_view old.log).claims (made ∷ [])));
       occurrences =
           ap (λ v. occurrences_in (record new { occurrences = v })) did.occurrences ∙ is.at.occurrences
           ∙ ap (numbered 0) (sym (take-append-le (length (log_view old.log).committed) is.at.state.claims (made ∷ []) first_few))

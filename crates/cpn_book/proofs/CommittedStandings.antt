@@ -2,13 +2,13 @@
 use Rattle.std.proofs.Common.{◌≡◌, ℕ, suc, ◌+◌, ◌≤◌, ◌⊎◌, inl, inr, true, List, [], ◌∷◌, ◌++◌, length, map, take, Option, Some, None, refl, sym, ap, ◌∙◌, subst, arith, slice_get, length-append, append_assoc, ◌-◌, drop}
 use Rattle.std.specs.List.{AllByRecursion}
 use Rattle.std.specs.Option.{option_map}
-use Rattle.std.proofs.lemmas.List.{append-nil, take-map, take-append-drop}
+use Rattle.std.proofs.lemmas.List.{append-nil, take-map, drop-map, take-append-drop}
 use Rattle.std.proofs.Math.Seq.{take-append_seam}
 use Rattle.cpn_definitions.specs.Occurrence.{outputs_of}
 use Rattle.cpn_definitions.proofs.ListItems.{all_parts}
 use Rattle.cpn_jobs.specs.Views.{job_view}
 use Rattle.cpn_log.specs.Kept.{IsKept}
-use Rattle.cpn_log.specs.Logs.{PlainLog, head_of, heads, with_committed}
+use Rattle.cpn_log.specs.Logs.{PlainLog, head_of, with_committed}
 use Rattle.cpn_log.specs.LogViews.{log_view, jobs_in}
 use Rattle.cpn_monitor.specs.Fitting.{AreMeasured}
 use Rattle.cpn_monitor.specs.MonitorValues.{values_of}
@@ -23,13 +23,12 @@ use Rattle.cpn_runs.specs.State.{PlainSetup, PlainState, cut_made, status_after,
 use Rattle.cpn_runs.specs.Views.{event_view}
 use Rattle.cpn_runs.proofs.States.{IsClaimOf, every_state}
 use Rattle.cpn_runs.proofs.GivenBackClaims.{left_after, first_of_first}
-use Rattle.cpn_runs.proofs.Cuts.{taken_ahead}
 use Rattle.cpn_book.specs.StandingRuns.{IsTold, stop_behind, NoneStops, StandsAt}
 use Rattle.cpn_book.proofs.CompletedClaims.{told_committed, stands_cut, cut_behind}
 use Rattle.cpn_book.specs.Standings.{IsToldAt, IsAt, committed_of, IsDoneClaim, HasCommitted, StillCommitted, job_for, cut_view, events_in, occurrences_in}
 use Rattle.cpn_book.specs.declared.standings.Standing.{Standing}
 use Rattle.cpn_book.proofs.MeasuredStandings.{measured_alike, made_at_same, now, noted_measured, stop_noted}
-use Rattle.cpn_book.proofs.CountedClaims.{as_many, first_are, heads_are}
+use Rattle.cpn_book.proofs.CountedClaims.{as_many, first_are}
 use Rattle.cpn_book.specs.Committing.{IsDueAt}
 use Rattle.cpn_book.specs.Held.{held_below}
 
@@ -87,7 +86,7 @@ still_through setup old mid new first second = record {
 -- ---- the next claim is committed
 
 module _ (setup : PlainSetup) (old new : Standing) (claim : PlainClaim) (rest : List PlainClaim) (first : (log_view old.log).claims ≡ claim ∷ rest) (done : is_done claim.status ≡ true)
-    (log_is : log_view new.log ≡ with_committed (log_view old.log) claim rest) (kept : IsKept (log_view new.log)) (jobs_same : jobs_in new.log ≡ jobs_in old.log)
+    (log_is : log_view new.log ≡ with_committed (log_view old.log) claim rest) (kept : IsKept (log_view new.log)) (jobs_left : jobs_in new.log ≡ drop 1 (jobs_in old.log))
     (others : new ≡ record old { log = new.log; occurrences = new.occurrences; values = new.values })
     (occurrences : occurrences_in new ≡ occurrences_in old ++ record { number = length (log_view old.log).committed; time = claim.time; element = claim.element } ∷ []) where
   module _ (at : IsToldAt setup old) (goes_on : NoneStops setup at.state (log_view old.log)) where
@@ -141,7 +140,9 @@ module _ (setup : PlainSetup) (old new : Standing) (claim : PlainClaim) (rest : 
         told = told;
         clock = ap (λ (s : Standing). s.clock) others ∙ at.clock;
         cut = ap (λ (s : Standing). option_map cut_view s.cut) others ∙ at.cut;
-        jobs = ap (map job_view) jobs_same ∙ at.jobs ∙ ap (map (job_for setup.net)) (heads_are setup.start at.state.claims (log_view old.log) at.told.has ∙ sym (heads_are setup.start at.state.claims (log_view new.log) told.has));
+        jobs =
+            ap (map job_view) jobs_left ∙ sym (drop-map job_view 1 (jobs_in old.log)) ∙ ap (drop 1) at.jobs
+            ∙ ap (λ cs. drop 1 (map (job_for setup.net) (map head_of cs))) first ∙ ap (λ (l : PlainLog). map (job_for setup.net) (map head_of l.claims)) (sym log_is);
         occurrences = occurrences_more;
         measured =
             measured_alike setup old.clock new.clock (front ++ claim ∷ []) (committed_of at.state new) (values_view new.values) (values_view new.values) (ap (λ (s : Standing). s.clock) others) one_more refl
@@ -170,7 +171,7 @@ module _ (setup : PlainSetup) (old : Standing) (at : IsToldAt setup old) (all : 
 
 module _ (setup : PlainSetup) (old : Standing) (cut : PlainCut) (may : IsDueAt setup old cut) (new : Standing)
     (log_cut : (log_view new.log).claims ≡ take (cut.number - length (log_view old.log).committed) (log_view old.log).claims)
-    (jobs_cut : jobs_in new.log ≡ take cut.number (jobs_in old.log))
+    (jobs_cut : jobs_in new.log ≡ take (cut.number - length (log_view old.log).committed) (jobs_in old.log))
     (heads_same : (log_view new.log).committed ≡ (log_view old.log).committed)
     (settled_same : (log_view new.log).settled ≡ (log_view old.log).settled)
     (kept : IsKept (log_view new.log))
@@ -199,14 +200,6 @@ module _ (setup : PlainSetup) (old : Standing) (cut : PlainCut) (may : IsDueAt s
       let first = stands_cut setup (events_in old) state (log_view old.log) (log_view new.log) old.held.items may.told.told cut may.all_committed may.due place where_is log_cut heads_same settled_same kept new.held.items long freed in
       subst (λ es. StandsAt setup es (left_after state cut) (log_view new.log) new.held.items) (sym events) first
 
-  -- the heads that are left are the first ones
-  first_heads : take cut.number (heads (log_view old.log)) ≡ heads (log_view new.log)
-  first_heads =
-      ap (λ k. take k ((log_view old.log).committed ++ map head_of (log_view old.log).claims)) where_is
-      ∙ taken_ahead (log_view old.log).committed (map head_of (log_view old.log).claims) place
-      ∙ ap (λ hs. (log_view old.log).committed ++ hs) (take-map head_of place (log_view old.log).claims ∙ ap (map head_of) (sym log_cut))
-      ∙ ap (λ hs. hs ++ map head_of (log_view new.log).claims) (sym heads_same)
-
   committed_same : committed_of (left_after state cut) new ≡ committed_of state old
   committed_same = ap (λ hs. take (length hs) (take cut.number state.claims)) heads_same ∙ first_of_first committed_many cut.number state.claims behind
 
@@ -219,10 +212,9 @@ module _ (setup : PlainSetup) (old : Standing) (cut : PlainCut) (may : IsDueAt s
       clock = ap (λ (s : Standing). s.clock) rest ∙ may.told.clock;
       cut = cut_is;
       jobs =
-          ap (map job_view) jobs_cut ∙ sym (take-map job_view cut.number (jobs_in old.log))
-          ∙ ap (take cut.number) may.told.jobs
-          ∙ take-map (job_for setup.net) cut.number (heads (log_view old.log))
-          ∙ ap (map (job_for setup.net)) first_heads;
+          ap (map job_view) jobs_cut ∙ sym (take-map job_view place (jobs_in old.log)) ∙ ap (take place) may.told.jobs
+          ∙ take-map (job_for setup.net) place (map head_of (log_view old.log).claims)
+          ∙ ap (map (job_for setup.net)) (take-map head_of place (log_view old.log).claims ∙ ap (map head_of) (sym log_cut));
       occurrences = ap occurrences_in rest ∙ may.told.occurrences ∙ ap (numbered 0) (sym committed_same);
       measured =
           measured_alike setup old.clock new.clock (committed_of state old) (committed_of (left_after state cut) new) (values_view old.values) (values_view new.values) (ap (λ (s : Standing). s.clock) rest) committed_same
@@ -256,7 +248,7 @@ told_but_journal setup old new at same items = record {
   told = subst (λ (s : Standing). IsTold setup (events_in new) at.state (log_view s.log) s.held.items) (sym same) (subst (λ es. IsTold setup es at.state (log_view old.log) old.held.items) (sym (ap (map event_view) items)) at.told);
   clock = ap (λ (s : Standing). s.clock) same ∙ at.clock;
   cut = ap (λ (s : Standing). option_map cut_view s.cut) same ∙ at.cut;
-  jobs = (let P : Standing → Type 0 = λ s. map job_view (jobs_in s.log) ≡ map (job_for setup.net) (heads (log_view s.log)) in subst P (sym same) at.jobs);
+  jobs = (let P : Standing → Type 0 = λ s. map job_view (jobs_in s.log) ≡ map (job_for setup.net) (map head_of (log_view s.log).claims) in subst P (sym same) at.jobs);
   occurrences = (let P : Standing → Type 0 = λ s. occurrences_in s ≡ numbered 0 (take (length (log_view s.log).committed) at.state.claims) in subst P (sym same) at.occurrences);
   measured = (let P : Standing → Type 0 = λ s. AreMeasured setup.functions setup.monitors (run_of setup s.clock (committed_of at.state s)) (values_view s.values) in subst P (sym same) at.measured);
   made_now = (let P : Standing → Type 0 = λ s. AllByRecursion (λ (k : PlainClaim). k.time ≡ s.clock) (log_view s.log).claims in subst P (sym same) at.made_now);

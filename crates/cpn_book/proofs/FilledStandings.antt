@@ -1,8 +1,7 @@
 -- Where a run stands when a claim is done, before what can be committed is committed.
-use Rattle.std.proofs.Common.{◌≡◌, ℕ, zero, suc, ◌-◌, ◌<◌, ◌≤◌, List, [], ◌∷◌, ◌++◌, length, map, take, Some, None, Result, Ok, Err, refl, sym, ap, ◌∙◌, subst, arith, slice_get, slice_set}
+use Rattle.std.proofs.Common.{◌≡◌, ℕ, zero, suc, ◌-◌, ◌<◌, ◌≤◌, List, [], ◌∷◌, ◌++◌, length, map, take, Option, Some, None, Result, Ok, Err, refl, sym, ap, ◌∙◌, subst, arith, slice_get, slice_set}
 use Rattle.std.specs.Option.{option_map}
 use Rattle.std.specs.List.{AllByRecursion}
-use Rattle.std.proofs.lemmas.Option.{same_Some}
 use Rattle.cpn_core.specs.declared.faults.EvalFault.{EvalFault}
 use Rattle.cpn_core.specs.declared.outputs.Outputs.{Outputs}
 use Rattle.cpn_definitions.specs.Bounds.{most_made}
@@ -14,8 +13,8 @@ use Rattle.cpn_jobs.specs.Views.{job_view}
 use Rattle.cpn_jobs.specs.Work.{PlainJob}
 use Rattle.cpn_jobs.specs.OutputsByWork.{work_makes}
 use Rattle.cpn_log.specs.Kept.{IsKept}
-use Rattle.cpn_log.specs.Logs.{head_of, with_status}
-use Rattle.cpn_log.specs.LogViews.{log_view, jobs_in}
+use Rattle.cpn_log.specs.Logs.{head_of, with_status, changed_to}
+use Rattle.cpn_log.specs.LogViews.{log_view, job_in, jobs_in}
 use Rattle.cpn_monitor.specs.Views.{values_view}
 use Rattle.cpn_runs.specs.Commits.{marked_from, stop_at_last}
 use Rattle.cpn_runs.specs.HoleRun.{PlainClaim}
@@ -35,7 +34,6 @@ use Rattle.cpn_book.specs.Standings.{IsToldAt, IsAt, committed_of, job_for, cut_
 use Rattle.cpn_book.specs.declared.standings.Standing.{Standing}
 use Rattle.cpn_book.proofs.ClaimedStandings.{stands_at, goes_on_at}
 use Rattle.cpn_book.proofs.MeasuredStandings.{measured_alike, WereMadeAt, made_at_same, made_at_whatever, same_ahead}
-use Rattle.cpn_book.proofs.CountedClaims.{heads_are}
 
 status_told : (r : Result Outputs EvalFault) (o : Outcome (List Made)) → outcome_of r ≡ o → status_after o ≡ Some (status_by r)
 status_told (Ok outputs) o is = ap status_after (sym is)
@@ -44,7 +42,7 @@ status_told (Err fault) o is = ap status_after (sym is)
 -- What a seat brings: it holds the claim of the number, which has the job, and the evaluation tells what its outputs are.
 pub record IsBrought (setup : PlainSetup) (old : Standing) (seat number : ℕ) (job : PlainJob) (result : Result Outputs EvalFault) : Type 0 where
   pub held : slice_get old.held.items seat ≡ Some (Some number)
-  pub job_is : slice_get (map job_view (jobs_in old.log)) number ≡ Some job
+  pub job_is : option_map job_view (job_in old.log number) ≡ Some job
   pub tells : Tells result job
 
 module _ (setup : PlainSetup) (old : Standing) (is : IsAt setup old) (seat number : ℕ) (job : PlainJob) (result : Result Outputs EvalFault) (brought : IsBrought setup old seat number job result) where
@@ -105,13 +103,15 @@ module _ (setup : PlainSetup) (old : Standing) (is : IsAt setup old) (seat numbe
         subst (λ es. IsTold setup es after (log_view new.log) new.held.items) (sym events)
         (subst (λ hs. IsTold setup (events_in old ++ claim_completed seat number ∷ []) after (log_view new.log) hs) (sym held) first)
 
-    same_heads : map head_of (slice_set is.at.state.claims number done_claim) ≡ map head_of is.at.state.claims
-    same_heads = set_alike is.at.state.claims number claim_stands
+    -- each claim says what it said
+    same_heads : (place : ℕ) (cs : List PlainClaim) → map head_of (with_status (status_by result) place cs) ≡ map head_of cs
+    same_heads place [] = refl
+    same_heads zero (c ∷ cs) = refl
+    same_heads (suc place) (c ∷ cs) = split (slice_get cs place) (same_heads place cs)
       where
-        set_alike : (cs : List PlainClaim) (i : ℕ) → slice_get cs i ≡ Some its.claim → map head_of (slice_set cs i done_claim) ≡ map head_of cs
-        set_alike [] i at = cc
-        set_alike (c ∷ cs) zero at = ap (λ h. h ∷ map head_of cs) (ap head_of (sym (same_Some c its.claim at)))
-        set_alike (c ∷ cs) (suc i) at = ap (λ hs. head_of c ∷ hs) (set_alike cs i at)
+        split : (o : Option PlainClaim) → map head_of (changed_to (status_by result) place cs o) ≡ map head_of cs → map head_of (changed_to (status_by result) (suc place) (c ∷ cs) o) ≡ head_of c ∷ map head_of cs
+        split None same = refl
+        split (Some claim) same = ap (λ hs. head_of c ∷ hs) same
 
     -- the run is told there
     abbrev filled : IsToldAt setup new
@@ -122,7 +122,7 @@ module _ (setup : PlainSetup) (old : Standing) (is : IsAt setup old) (seat numbe
       cut = ap (λ (s : Standing). option_map cut_view s.cut) rest ∙ is.at.cut;
       jobs =
           ap (map job_view) jobs_same ∙ is.at.jobs
-          ∙ ap (map (job_for setup.net)) (heads_are setup.start is.at.state.claims (log_view old.log) is.at.told.has ∙ sym same_heads ∙ sym (heads_are setup.start after.claims (log_view new.log) told.has));
+          ∙ ap (map (job_for setup.net)) (sym (ap (map head_of) log_done ∙ same_heads (number - length (log_view old.log).committed) (log_view old.log).claims));
       occurrences =
           ap occurrences_in rest ∙ is.at.occurrences
           ∙ ap (numbered 0) (sym (same_ahead is.at.state.claims done_claim number (length (log_view old.log).committed) behind))

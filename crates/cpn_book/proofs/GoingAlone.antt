@@ -88,10 +88,6 @@ pub round_gives_none
     → GivesNoneBack setup journal (claim_made seat number ∷ claim_completed seat number ∷ cut_events owed)
 round_gives_none setup journal seat number owed owed_is = gives_none_with_cut setup journal (claim_made seat number ∷ claim_completed seat number ∷ []) owed (λ state. (tt, λ mid happens. (tt, λ after completes. tt))) owed_is
 
--- nor does a move of the clock
-pub move_gives_none : (setup : PlainSetup) (journal : List PlainEvent) (time : ℕ) → GivesNoneBack setup journal (clock_moved time ∷ [])
-move_gives_none setup journal time = λ state is. (tt, λ mid happens. tt)
-
 pub nothing_gives_none : (setup : PlainSetup) (journal : List PlainEvent) → GivesNoneBack setup journal []
 nothing_gives_none setup journal = λ state is. tt
 

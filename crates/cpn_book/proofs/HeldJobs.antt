@@ -1,13 +1,14 @@
 -- The open claim that a seat holds: its place in the state, and its job.
 use Rattle.std.proofs.Common.{◌≡◌, ℕ, zero, suc, ◌<◌, ◌≤◌, ◌==◌, true, List, [], ◌∷◌, length, map, Some, refl, sym, ap, ◌∙◌, subst, arith, slice_get}
+use Rattle.std.specs.Option.{option_map}
 use Rattle.std.specs.List.{AllByRecursion}
 use Rattle.std.proofs.lemmas.Bool.{and_parts}
 use Rattle.std.proofs.lemmas.Option.{same_Some}
 use Rattle.cpn_definitions.proofs.ListItems.{place_known}
 use Rattle.cpn_jobs.specs.Views.{job_view}
 use Rattle.cpn_jobs.specs.Work.{PlainJob}
-use Rattle.cpn_log.specs.Logs.{stands_open, standing_of, standings, head_of, heads, claims_made}
-use Rattle.cpn_log.specs.LogViews.{log_view, jobs_in}
+use Rattle.cpn_log.specs.Logs.{stands_open, standing_of, standings, head_of, claims_made}
+use Rattle.cpn_log.specs.LogViews.{log_view, job_in}
 use Rattle.cpn_runs.specs.HoleRun.{PlainClaim, Status, open_claim, done_with, faulted_with, is_open}
 use Rattle.cpn_runs.specs.State.{PlainSetup}
 use Rattle.cpn_runs.specs.GivingBack.{OnlyGivenBack}
@@ -18,15 +19,11 @@ use Rattle.cpn_book.specs.Standings.{IsAt, job_for, events_in}
 use Rattle.cpn_book.specs.declared.standings.Standing.{Standing}
 use Rattle.cpn_book.proofs.ClaimedStandings.{counted}
 use Rattle.cpn_book.proofs.CompletedClaims.{open_is_behind}
-use Rattle.cpn_book.proofs.CountedClaims.{heads_are, standings_are}
+use Rattle.cpn_book.proofs.CountedClaims.{standings_are}
 use Rattle.cpn_book.proofs.HeldClaims.{IsItsClaim, its_claim}
+use Rattle.cpn_book.proofs.JobsOfClaims.{job_of_open}
 
--- an item of a list's images comes from one of the list
-from_image : {A B : Type 0} (f : A → B) (xs : List A) (i : ℕ) (x : A) (y : B) → slice_get xs i ≡ Some x → slice_get (map f xs) i ≡ Some y → f x ≡ y
-from_image f [] i x y at image = cc
-from_image f (z ∷ xs) zero x y at image = ap f (sym (same_Some z x at)) ∙ same_Some (f z) y image
-from_image f (z ∷ xs) (suc i) x y at image = from_image f xs i x y at image
-
+-- the image of an item is that of the list's
 pub image_at : {A B : Type 0} (f : A → B) (xs : List A) (i : ℕ) (x : A) → slice_get xs i ≡ Some x → slice_get (map f xs) i ≡ Some (f x)
 image_at f [] i x at = cc
 image_at f (z ∷ xs) zero x at = ap (λ w. Some (f w)) (same_Some z x at)
@@ -74,12 +71,9 @@ module _ (setup : PlainSetup) (old : Standing) (is : IsAt setup old) (seat numbe
       stands (faulted_with fault) h = cc
 
   -- the job is that of the claim
-  pub job_of_claim : (job : PlainJob) → slice_get (map job_view (jobs_in old.log)) number ≡ Some job → job ≡ job_for setup.net (head_of its.claim)
-  job_of_claim job job_is =
-      let image : slice_get (map (job_for setup.net) (heads (log_view old.log))) number ≡ Some job = ap (λ js. slice_get js number) (sym is.at.jobs) ∙ job_is in
-      let there : slice_get (heads (log_view old.log)) number ≡ Some (head_of its.claim) = ap (λ hs. slice_get hs number) (heads_are setup.start is.at.state.claims (log_view old.log) is.at.told.has) ∙ image_at head_of is.at.state.claims number its.claim claim_stands in
-      sym (from_image (job_for setup.net) (heads (log_view old.log)) number (head_of its.claim) job there image)
+  pub job_of_claim : (job : PlainJob) → option_map job_view (job_in old.log number) ≡ Some job → job ≡ job_for setup.net (head_of its.claim)
+  job_of_claim job job_is = same_Some job (job_for setup.net (head_of its.claim)) (sym job_is ∙ job_of_open setup old is.at number its.claim claim_stands its_open)
 
   -- the seat has an open claim of the number and job
-  pub has_open_claim : (job : PlainJob) → slice_get (map job_view (jobs_in old.log)) number ≡ Some job → HasOpenClaim setup is.at.state seat number job
+  pub has_open_claim : (job : PlainJob) → option_map job_view (job_in old.log number) ≡ Some job → HasOpenClaim setup is.at.state seat number job
   has_open_claim job job_is = (its.claim, claim_stands, its.held, sym (job_of_claim job job_is))

@@ -1,5 +1,5 @@
 -- Which seats hold claims: each claim is held by one.
-use Rattle.std.proofs.Common.{◌≡◌, ℕ, zero, suc, ◌+◌, ◌<◌, ◌==◌, Bool, true, false, cond, List, [], ◌∷◌, length, Option, Some, None, Result, Ok, Err, refl, sym, ap, ◌∙◌, arith, slice_get, slice_set, eqb-true}
+use Rattle.std.proofs.Common.{◌≡◌, ℕ, zero, suc, ◌+◌, ◌==◌, Bool, true, false, cond, List, [], ◌∷◌, Option, Some, None, Result, Ok, Err, refl, sym, ap, ◌∙◌, arith, slice_get, slice_set, eqb-true}
 use Rattle.std.proofs.lemmas.Bool.{and_parts, eqb-false}
 use Rattle.std.proofs.lemmas.Option.{same_Some}
 use Rattle.std.specs.List.{count_by}
@@ -24,12 +24,6 @@ either (Err e) P Q G ok err so otherwise = otherwise err
 pub in_any_case : {T E : Type 0} (r : Result T E) (Q : Type 0) → Q → OnOk r Q
 in_any_case (Ok x) Q holds = holds
 in_any_case (Err e) Q holds = tt
-
--- no seat of those that hold none holds one
-pub none_holds : (held : List (Option ℕ)) (n : ℕ) → length held ≡ n → ((s : ℕ) → s < n → slice_get held s ≡ Some None) → (s k : ℕ) → slice_get held s ≡ Some (Some k) → ⊥
-none_holds held n long free s k holds =
-    let within : s < length held = place_known held s (Some k) holds in
-    let clash : Some (Some k) ≡ Some None = sym holds ∙ free s (omega (arith, within, long)) in cc
 
 module _ (seats : ℕ) (claims : List PlainClaim) (held : List (Option ℕ)) (are : AreHeld seats claims held) where
   -- the claim that a seat holds

@@ -40,6 +40,7 @@ mod LoggedClaims
 mod StartedRuns
 mod MadeClaims
 mod CompletedClaims
+mod JobsOfClaims
 mod MovedClocks
 mod OpenClaims
 mod OccurredClaims

@@ -13,7 +13,7 @@ use Rattle.cpn_book.specs.Logged.{HasClaims}
 
 -- ---- two parts
 
-behind : {A : Type 0} (xs ys : List A) (i : ℕ) → slice_get (xs ++ ys) (length xs + i) ≡ slice_get ys i
+pub behind : {A : Type 0} (xs ys : List A) (i : ℕ) → slice_get (xs ++ ys) (length xs + i) ≡ slice_get ys i
 behind [] ys i = ap (slice_get ys) (let e : 0 + i ≡ i = omega arith in e)
 behind (x ∷ xs) ys i = let e : suc (length xs) + i ≡ suc (length xs + i) = omega arith in ap (slice_get (x ∷ xs ++ ys)) e ∙ behind xs ys i
 

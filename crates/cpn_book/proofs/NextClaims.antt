@@ -1,5 +1,6 @@
 -- The next claim that is to be committed: the first behind those that are.
-use Rattle.std.proofs.Common.{◌≡◌, ℕ, zero, suc, true, false, cond, List, [], ◌∷◌, ◌++◌, length, map, Some, None, refl, sym, ap, ◌∙◌, arith, slice_get}
+use Rattle.std.proofs.Common.{◌≡◌, ℕ, true, false, cond, List, [], ◌∷◌, ◌++◌, length, map, Some, None, refl, sym, ap, ◌∙◌, arith, slice_get}
+use Rattle.std.specs.Option.{option_map}
 use Rattle.std.proofs.lemmas.List.{length-map}
 use Rattle.std.proofs.lemmas.Option.{same_Some}
 use Rattle.cpn_core.specs.Elements.{element_view}
@@ -8,11 +9,12 @@ use Rattle.cpn_jobs.specs.declared.work.Job.{Job}
 use Rattle.cpn_jobs.specs.Views.{job_view}
 use Rattle.cpn_jobs.specs.Work.{PlainJob}
 use Rattle.cpn_log.specs.Logs.{PlainLog, PlainHead, PlainClaimState, stands_done, stands_failed, standing_of, standings, head_of, heads, claims_made, begin_done, with_committed, next_committed, next_committed_of}
-use Rattle.cpn_log.specs.LogViews.{log_view, jobs_in}
+use Rattle.cpn_log.specs.LogViews.{log_view, job_in}
 use Rattle.cpn_runs.specs.HoleRun.{PlainClaim, Status, open_claim, done_with, faulted_with, is_done}
 use Rattle.cpn_runs.specs.State.{PlainSetup, cut_at, cut_by}
 use Rattle.cpn_book.specs.Standings.{IsToldAt, job_for}
 use Rattle.cpn_book.specs.declared.standings.Standing.{Standing}
+use Rattle.cpn_book.proofs.JobsOfClaims.{job_says}
 
 -- the first of what follows
 pub first_behind : {A : Type 0} (xs ys : List A) → slice_get (xs ++ ys) (length xs) ≡ slice_get ys 0
@@ -54,17 +56,11 @@ module _ (log : PlainLog) (next : IsNext log stands_done) where
   committed_next = ap (next_committed_of log) next.first ∙ ap (λ b. cond b (with_committed log next.claim next.rest) log) is_done_next
 
 -- what the next claim says is what its job has
-module _ (setup : PlainSetup) (s : Standing) (at : IsToldAt setup s) (standing : PlainClaimState) (next : IsNext (log_view s.log) standing) (job : Job) (is : slice_get (jobs_in s.log) (length (log_view s.log).committed) ≡ Some job) where
+module _ (setup : PlainSetup) (s : Standing) (at : IsToldAt setup s) (standing : PlainClaimState) (next : IsNext (log_view s.log) standing) (job : Job) (is : job_in s.log (length (log_view s.log).committed) ≡ Some job) where
   job_next : job_view job ≡ job_for setup.net (head_of next.claim)
   job_next =
-      let image : slice_get (map job_view (jobs_in s.log)) (length (log_view s.log).committed) ≡ Some (job_view job) = mapped job_view (jobs_in s.log) (length (log_view s.log).committed) job is in
       let there : slice_get (heads (log_view s.log)) (length (log_view s.log).committed) ≡ Some (head_of next.claim) = first_behind (log_view s.log).committed (map head_of (log_view s.log).claims) ∙ ap (λ cs. slice_get (map head_of cs) 0) next.first in
-      same_Some (job_view job) (job_for setup.net (head_of next.claim)) (sym image ∙ ap (λ js. slice_get js (length (log_view s.log).committed)) at.jobs ∙ mapped (job_for setup.net) (heads (log_view s.log)) (length (log_view s.log).committed) (head_of next.claim) there)
-    where
-      mapped : {A B : Type 0} (f : A → B) (xs : List A) (i : ℕ) (x : A) → slice_get xs i ≡ Some x → slice_get (map f xs) i ≡ Some (f x)
-      mapped f [] i x there = cc
-      mapped f (y ∷ xs) zero x there = ap (λ z. Some (f z)) (same_Some y x there)
-      mapped f (y ∷ xs) (suc i) x there = mapped f xs i x there
+      same_Some (job_view job) (job_for setup.net (head_of next.claim)) (sym (ap (option_map job_view) is) ∙ job_says setup s at (length (log_view s.log).committed) (head_of next.claim) (omega arith) there)
 
   pub element_next : element_view job.element.value ≡ next.claim.element
   element_next = ap (λ (j : PlainJob). j.element) job_next

@@ -1,6 +1,6 @@
 -- The next time of what is enabled in a marking: there is none where the marking is dead; else it is the least time at which an
--- element is covered, something is ready when the clock stands at it, and what is enabled is the same.
-use Rattle.std.proofs.Common.{◌≡◌, ℕ, ◌<◌, ◌≤◌, ◌⊎◌, ◌==◌, Bool, true, false, cond, List, [], ◌∷◌, length, Option, Some, None, refl, sym, ap, ◌∙◌, subst, inl, inr, arith, ⊎_elim, eq-eqb, Contains}
+-- element is covered, and something is ready when the clock stands at it.
+use Rattle.std.proofs.Common.{◌≡◌, ℕ, ◌<◌, ◌≤◌, ◌⊎◌, ◌==◌, Bool, true, false, cond, List, [], ◌∷◌, length, Option, Some, None, refl, sym, ap, ◌∙◌, subst, inl, inr, arith, ⊎_elim, eq-eqb}
 use Rattle.std.proofs.lemmas.Bool.{cases_lt, cases_Bool}
 use Rattle.std.proofs.lemmas.Option.{same_Some}
 use Rattle.cpn_definitions.specs.Marking.{Marking}
@@ -115,28 +115,6 @@ module _ (n : PlainNet) (m : Marking) (clock time : ℕ) (entries : List PlainEn
     some = (there.0.element, subst (λ (t : ℕ). covered n m t there.0.element ≡ true) there.2 its_earliest.is_covered);
     none_earlier = none_before;
   }
-
-  -- what is enabled from the clock on is enabled from the next time on
-  pub enabled_then : Enabled n m time entries
-  enabled_then = record {
-    rising = enabled.rising;
-    exact = λ x. ((λ has. later x has ((enabled.exact x).0 has)), λ is. (enabled.exact x).1 (sooner x is));
-  }
-    where
-      later : (x : PlainEntry) → Contains entries x → IsEarliest n m clock x → IsEarliest n m time x
-      later x has is =
-          let from : clock ≤ time = next_is_least.not_before in
-          record { not_before = none_is_sooner entries time x next (in_from_contains entries x has); is_covered = is.is_covered; not_earlier = λ s ge lt. is.not_earlier s (omega arith) lt }
-
-      sooner : (x : PlainEntry) → IsEarliest n m time x → IsEarliest n m clock x
-      sooner x is =
-          let from : clock ≤ time = next_is_least.not_before in
-          let after : time ≤ x.earliest = is.not_before in
-          record {
-            not_before = omega arith;
-            is_covered = is.is_covered;
-            not_earlier = λ s ge lt. ⊎_elim (λ before. none_before s x.element ge before) (λ (not_before : time ≤ s). is.not_earlier s not_before lt) (cases_lt s time);
-          }
 
   -- something is ready then
   pub some_are_ready : 0 < length (ready time entries)

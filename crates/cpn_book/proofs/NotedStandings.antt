@@ -1,7 +1,7 @@
 -- The next claim is committed and its occurrence noted: where the run stands then.
-use Rattle.std.proofs.Common.{Global, ◌≡◌, ℕ, ◌+◌, ◌≤◌, List, [], ◌∷◌, ◌++◌, length, map, Option, Some, None, sym, ap, ◌∙◌, subst, arith, length-append}
+use Rattle.std.proofs.Common.{Global, ◌≡◌, ℕ, ◌+◌, ◌≤◌, cond, List, [], ◌∷◌, ◌++◌, length, map, drop, Option, Some, None, sym, ap, ◌∙◌, subst, arith, length-append}
 use Rattle.std.proofs.Math.Path.{ap₂}
-use Rattle.std.specs.Prelude.{Vec}
+use Rattle.std.specs.Prelude.{Vec, if◌then◌else◌}
 use Rattle.cpn_core.specs.Elements.{element_view}
 use Rattle.cpn_core.specs.Occurrences.{occurrence_view}
 use Rattle.cpn_core.specs.declared.occurrences.Occurrence.{Occurrence}
@@ -9,7 +9,7 @@ use Rattle.cpn_definitions.specs.Legal.{PlainOccurrence}
 use Rattle.cpn_definitions.specs.Occurrence.{PlainElement}
 use Rattle.cpn_definitions.proofs.ListItems.{map_more}
 use Rattle.cpn_log.specs.Kept.{IsKept}
-use Rattle.cpn_log.specs.Logs.{PlainLog, stands_done, head_of, claims_made, next_committed, with_committed}
+use Rattle.cpn_log.specs.Logs.{PlainLog, begin_done, stands_done, head_of, claims_made, next_committed, with_committed}
 use Rattle.cpn_log.specs.LogViews.{log_view, jobs_in}
 use Rattle.cpn_log.specs.declared.logs.Log.{Log}
 use Rattle.cpn_monitor.specs.Fitting.{AreMeasured, MayNote}
@@ -26,7 +26,7 @@ use Rattle.cpn_book.specs.Standings.{IsToldAt, StillCommitted, occurrences_in}
 use Rattle.cpn_book.specs.declared.standings.Standing.{Standing}
 use Rattle.cpn_book.proofs.CommittedStandings.{committed_still, committed_told, stop_is}
 use Rattle.cpn_book.proofs.MeasuredStandings.{marked_is, may_note}
-use Rattle.cpn_book.proofs.NextClaims.{IsNext, is_done_next, committed_next}
+use Rattle.cpn_book.proofs.NextClaims.{IsNext, is_done_next, begins_done, committed_next}
 
 -- an occurrence of the program that is the next claim's
 pub record IsOfNext (old : Standing) (next : IsNext (log_view old.log) stands_done) (occurrence : Occurrence) : Type 0 where
@@ -38,7 +38,7 @@ pub record IsOfNext (old : Standing) (next : IsNext (log_view old.log) stands_do
 pub record HasJoined (old log : Log) : Type 0 where
   pub committed : log_view log ≡ next_committed (log_view old)
   pub kept : IsKept (log_view log)
-  pub jobs : jobs_in log ≡ jobs_in old
+  pub jobs : jobs_in log ≡ (if begin_done (log_view old).claims then drop 1 (jobs_in old) else jobs_in old)
 
 module _ (setup : PlainSetup) (old : Standing) (may : MayCommit setup old) (next : IsNext (log_view old.log) stands_done) (occurrence : Occurrence) (is : IsOfNext old next occurrence) (log : Log) (joined : HasJoined old.log log) where
   settled_is : (log_view log).settled ≡ after_claim next.claim (log_view old.log).settled
@@ -78,8 +78,8 @@ module _ (setup : PlainSetup) (old : Standing) (may : MayCommit setup old) (next
     kept_so : IsKept (log_view new.log)
     kept_so = subst IsKept (sym log_same) joined.kept
 
-    jobs_so : jobs_in new.log ≡ jobs_in old.log
-    jobs_so = ap (λ (s : Standing). jobs_in s.log) others ∙ joined.jobs
+    jobs_so : jobs_in new.log ≡ drop 1 (jobs_in old.log)
+    jobs_so = ap (λ (s : Standing). jobs_in s.log) others ∙ joined.jobs ∙ ap (λ b. cond b (drop 1 (jobs_in old.log)) (jobs_in old.log)) (begins_done (log_view old.log) next)
 
     -- what was committed stands, with it
     pub next_still : StillCommitted setup old new

@@ -8,7 +8,6 @@ use Rattle.cpn_core.specs.Elements.{element_view}
 use Rattle.cpn_definitions.specs.Bounds.{most_made}
 use Rattle.cpn_definitions.specs.Outcome.{gives}
 use Rattle.cpn_definitions.specs.Occurrence.{Needed, Made, are_covered, threshold, needs_of, outputs_of}
-use Rattle.cpn_definitions.proofs.ListItems.{map_more}
 use Rattle.cpn_draw.specs.Draw.{generator}
 use Rattle.cpn_jobs.specs.OutputsByWork.{work_makes}
 use Rattle.cpn_jobs.specs.Views.{job_view}
@@ -17,7 +16,7 @@ use Rattle.cpn_core.specs.declared.occurrences.Occurrence.{Occurrence}
 use Rattle.cpn_log.specs.declared.logs.Log.{Log}
 use Rattle.cpn_log.specs.Kept.{IsKept}
 use Rattle.cpn_log.proofs.LeftMarkings.{leaves}
-use Rattle.cpn_log.specs.Logs.{PlainLog, head_of, heads, begin_done, claims_made, made_and_done, with_occurred}
+use Rattle.cpn_log.specs.Logs.{PlainLog, head_of, begin_done, claims_made, made_and_done, with_occurred}
 use Rattle.cpn_log.specs.LogViews.{log_view, jobs_in}
 use Rattle.cpn_monitor.specs.Fitting.{AreMeasured, IsNext, MayNote}
 use Rattle.cpn_monitor.specs.MeasuredRuns.{MarkedOccurrence, MeasuredRun, with_occurrence}
@@ -31,10 +30,12 @@ use Rattle.cpn_definitions.specs.Legal.{PlainOccurrence}
 use Rattle.cpn_runs.specs.State.{PlainSetup, PlainState, claim_made, claim_completed, given_needs, new_claim, numbered, status_after}
 use Rattle.cpn_runs.specs.Commits.{marked_claim, marked_from, stop_at_last}
 use Rattle.cpn_runs.proofs.MeasuredStates.{marked_more, run_more, may_be_told}
-use Rattle.cpn_runs.proofs.BoundedStates.{claim_has_few_outputs}
+use Rattle.cpn_runs.proofs.BoundedStates.{HasFewOutputs, claim_has_few_outputs}
 use Rattle.cpn_book.specs.StandingRuns.{IsTold, stop_behind}
 use Rattle.cpn_book.specs.Committing.{CommitsNoMore}
+use Rattle.cpn_definitions.proofs.Markings.{marking_length}
 use Rattle.cpn_book.proofs.MadeClaims.{IsNextClaim}
+use Rattle.cpn_book.proofs.MovedBooks.{unclaimed_is_marking}
 use Rattle.cpn_book.proofs.OccurredClaims.{all_committed, told_occurred}
 use Rattle.cpn_book.proofs.OpenClaims.{none_held_where_none}
 use Rattle.cpn_book.specs.DrawnClaims.{IsDrawnClaim, undrawn}
@@ -51,7 +52,7 @@ use Rattle.cpn_book.proofs.DrawnClaims.{drawn_now, drawn_element, drawn_covered}
 -- What the code of it does: of seat 0, with the outputs of the job.
 pub record HasOccurred (old new : Standing) (number : ℕ) (job : Job) (needs : List Needed) (outputs : List Made) : Type 0 where
   pub log : log_view new.log ≡ with_occurred (log_view old.log) (made_and_done 0 (element_view job.element.value) job.time needs outputs)
-  pub jobs : jobs_in new.log ≡ jobs_in old.log ++ job ∷ []
+  pub jobs : jobs_in new.log ≡ jobs_in old.log
   pub kept : IsKept (log_view new.log)
   pub occurrences : occurrences_in new ≡ occurrences_in old ++ record { number = number; time = job.time; element = element_view job.element.value } ∷ []
   pub events : events_in new ≡ events_in old ++ claim_made 0 number ∷ claim_completed 0 number ∷ []
@@ -72,10 +73,9 @@ module _ (setup : PlainSetup) (old : Standing) (number : ℕ) (job : Job) (needs
     made_at_clock : outputs_of setup.net due.drawn.element old.clock ≡ gives outputs
     made_at_clock = sym (ap outputs_in due.job_is ∙ work_makes setup.net due.drawn.element old.clock) ∙ gave
 
-    -- the outputs are few
-    pub few_outputs : length outputs ≤ most_made
-    few_outputs =
-        (claim_has_few_outputs setup (new_claim setup.net 0 old.clock due.drawn.element) outputs playable
+    fit : HasFewOutputs setup outputs
+    fit =
+        claim_has_few_outputs setup (new_claim setup.net 0 old.clock due.drawn.element) outputs playable
         (record {
           seat_known = playable.some_seat;
           needs_are = refl;
@@ -83,7 +83,17 @@ module _ (setup : PlainSetup) (old : Standing) (number : ℕ) (job : Job) (needs
           was_covered = is_covered setup (undrawn setup old) due.at playable due.entries due.enabled (claims_made (log_view old.log)) due.drawn due.drawn_is;
           status_is = inl refl;
         })
-        made_at_clock).few
+        made_at_clock
+
+    -- the outputs are few
+    pub few_outputs : length outputs ≤ most_made
+    few_outputs = fit.few
+
+    -- on places of the marking
+    pub outputs_on_places : AllByRecursion (λ made. made.place < length (log_view old.log).unclaimed) outputs
+    outputs_on_places =
+        let long = marking_length setup.net.places (log_view old.log).unclaimed (unclaimed_is_marking setup (undrawn setup old) due.at playable) in
+        subst (λ (k : ℕ). AllByRecursion (λ made. made.place < k) outputs) (sym long) fit.on_places
 
     clock_is : old.clock ≡ due.at.at.state.clock
     clock_is = due.at.at.clock
@@ -196,14 +206,6 @@ module _ (setup : PlainSetup) (old : Standing) (number : ℕ) (job : Job) (needs
           let none : length (log_view old.log).claims ≡ 0 = ap (λ (cs : List PlainClaim). length cs) all_in in
           let n = number_is in omega (arith, none, n)
 
-      heads_are : heads (log_view new.log) ≡ heads (log_view old.log) ++ head_of done ∷ []
-      heads_are =
-          ap heads log_is ∙ append-nil ((log_view old.log).committed ++ head_of done ∷ [])
-          ∙ ap (λ hs. hs ++ head_of done ∷ []) (sym (append-nil (log_view old.log).committed) ∙ ap (λ cs. (log_view old.log).committed ++ map head_of cs) (sym all_in))
-
-      job_is : job_view job ≡ job_for setup.net (head_of done)
-      job_is = due.job_is ∙ ap (λ t. job_for setup.net (record { seat = 0; element = due.drawn.element; time = t })) clock_is
-
       -- the occurrence is that of the claim
       occurrence_is : ◌≡◌ {A = PlainOccurrence} (record { number = number; time = job.time; element = element_view job.element.value }) (record { number = 0 + length due.at.at.state.claims; time = done.time; element = done.element })
       occurrence_is =
@@ -227,11 +229,8 @@ module _ (setup : PlainSetup) (old : Standing) (number : ℕ) (job : Job) (needs
         clock = ap (λ (s : Standing). s.clock) did.others ∙ due.at.at.clock;
         cut = ap (λ (s : Standing). option_map cut_view s.cut) did.others ∙ due.at.at.cut;
         jobs =
-            ap (map job_view) did.jobs ∙ map_more job_view (jobs_in old.log) job
-            ∙ ap (λ js. js ++ job_view job ∷ []) due.at.at.jobs
-            ∙ ap (λ j. map (job_for setup.net) (heads (log_view old.log)) ++ j ∷ []) job_is
-            ∙ sym (map_more (job_for setup.net) (heads (log_view old.log)) (head_of done))
-            ∙ ap (map (job_for setup.net)) (sym heads_are);
+            ap (map job_view) did.jobs ∙ due.at.at.jobs
+            ∙ ap (λ cs. map (job_for setup.net) (map head_of cs)) (all_in ∙ ap (λ (l : PlainLog). l.claims) (sym log_is));
         occurrences =
             did.occurrences
             ∙ ap (λ os. os ++ record { number = number; time = job.time; element = element_view job.element.value } ∷ []) (due.at.at.occurrences ∙ ap (numbered 0) (take_all (length (log_view old.log).committed) due.at.at.state.claims (let were = committed_were in omega (arith, were))))

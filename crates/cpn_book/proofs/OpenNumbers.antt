@@ -1,6 +1,7 @@
 -- An open claim of a number: the seat that holds it, and its job, which is ready to be evaluated.
 use Rattle.std.proofs.Common.{◌≡◌, ℕ, zero, suc, ◌+◌, ◌<◌, ◌≤◌, ◌==◌, Bool, true, false, cond, List, [], ◌∷◌, map, Some, refl, sym, ap, ◌∙◌, subst, arith, slice_get, eq-eqb}
 use Rattle.std.specs.List.{count_by}
+use Rattle.std.specs.Option.{option_map}
 use Rattle.std.proofs.lemmas.Bool.{and_parts, and_from}
 use Rattle.std.proofs.lemmas.Option.{same_Some}
 use Rattle.cpn_definitions.specs.Times.{last_time}
@@ -10,7 +11,7 @@ use Rattle.cpn_definitions.proofs.ListItems.{place_known}
 use Rattle.cpn_jobs.specs.declared.work.Job.{Job}
 use Rattle.cpn_jobs.specs.Views.{job_view}
 use Rattle.cpn_log.specs.Logs.{stands_open, standing_of, standings, head_of, heads, seats, claims_made}
-use Rattle.cpn_log.specs.LogViews.{log_view, jobs_in}
+use Rattle.cpn_log.specs.LogViews.{log_view, job_in}
 use Rattle.cpn_runs.specs.HoleRun.{PlainClaim, Status, open_claim, done_with, faulted_with, is_open}
 use Rattle.cpn_runs.specs.Playable.{IsPlayable}
 use Rattle.cpn_runs.specs.State.{PlainSetup, is_held_by}
@@ -25,6 +26,7 @@ use Rattle.cpn_book.proofs.CountedClaims.{heads_are, heads_counted, standings_ar
 use Rattle.cpn_book.proofs.DrawnElements.{ready_to_evaluate}
 use Rattle.cpn_book.proofs.HeldJobs.{all_at, image_at}
 use Rattle.cpn_book.proofs.HeldSeats.{holds_from}
+use Rattle.cpn_book.proofs.JobsOfClaims.{job_of_open}
 
 -- an item of images is that of an item
 pub record IsImage {A B : Type 0} (f : A → B) (xs : List A) (i : ℕ) (y : B) : Type 0 where
@@ -87,7 +89,7 @@ module _ (setup : PlainSetup) (s : program.Standing) (is : IsAt setup s) (number
       is.at.told.holds.numbers seat known ∙ ap Some (held_there 0 seat is.at.state.claims number found.item found.there own (all.one_each seat) ∙ ap (λ (n : ℕ). Some n) (omega arith))
 
   -- its job is ready to be evaluated
-  pub number_is_ready : IsPlayable setup → (job : Job) → slice_get (jobs_in s.log) number ≡ Some job → IsReadyToEvaluate (job_view job)
+  pub number_is_ready : IsPlayable setup → (job : Job) → job_in s.log number ≡ Some job → IsReadyToEvaluate (job_view job)
   number_is_ready playable job at =
       let all = every_state setup (events_in s) is.at.state is.at.told.reached in
       let bounds = every_state_has_bounds setup (events_in s) is.at.state playable is.at.told.reached in
@@ -97,7 +99,7 @@ module _ (setup : PlainSetup) (s : program.Standing) (is : IsAt setup s) (number
       let ready = ready_to_evaluate setup.net (head_of found.item) early (outputs_mean setup.net found.item.element found.item.time playable.sound (covered_is_bound setup.net claim_is.marking found.item.time found.item.element claim_is.was_covered) early) in
       let same : job_view job ≡ job_for setup.net (head_of found.item) =
       same_Some (job_view job) (job_for setup.net (head_of found.item))
-      (sym (image_at job_view (jobs_in s.log) number job at) ∙ ap (λ js. slice_get js number) is.at.jobs ∙ image_at (job_for setup.net) (heads (log_view s.log)) number (head_of found.item) its_head) in
+      (sym (ap (option_map job_view) at) ∙ job_of_open setup s is.at number found.item found.there its_open) in
       subst IsReadyToEvaluate (sym same) ready
 
 -- what a seat holds is open

@@ -1,5 +1,5 @@
 -- What a book answers to a seat that brings the number and the job of a claim that it does not hold.
-use Rattle.std.proofs.Common.{◌≡◌, ℕ, ◌+◌, ◌<◌, ◌≤◌, ◌==◌, true, false, map, Option, Some, None, refl, sym, ap, ◌∙◌, subst, arith, slice_get, eqb-true}
+use Rattle.std.proofs.Common.{◌≡◌, ℕ, ◌+◌, ◌<◌, ◌≤◌, ◌==◌, true, false, Option, Some, None, refl, sym, ap, ◌∙◌, subst, arith, slice_get, eqb-true}
 use Rattle.std.specs.Option.{option_map}
 use Rattle.std.specs.Prelude.{MatchOption}
 use Rattle.std.proofs.lemmas.Bool.{and_parts, cond-true, cond-false}
@@ -8,7 +8,7 @@ use Rattle.cpn_jobs.specs.Views.{job_view}
 use Rattle.cpn_jobs.specs.Work.{PlainJob}
 use Rattle.cpn_jobs.specs.declared.work.Job.{Job}
 use Rattle.cpn_log.specs.Logs.{stands_open, standing_of, standings}
-use Rattle.cpn_log.specs.LogViews.{log_view, jobs_in}
+use Rattle.cpn_log.specs.LogViews.{log_view, job_in}
 use Rattle.cpn_runs.specs.HoleRun.{PlainClaim, Status, open_claim, done_with, faulted_with, is_open}
 use Rattle.cpn_runs.specs.State.{PlainCut}
 use Rattle.cpn_runs.proofs.States.{IsClaimOf, IsReached, every_state}
@@ -57,9 +57,9 @@ module _ (book : Book) (running : IsRunning book) (seat number : ℕ) (job : Pla
     reached = every_state (setup_in book) (journal_in book) running.at.at.state running.at.at.told.reached
 
     -- the seat has no such claim
-    module _ (not_held : slice_get book.standing.held.items seat ≡ Some (Some number) → slice_get (map job_view (jobs_in book.standing.log)) number ≡ Some job → ⊥) where
+    module _ (not_held : slice_get book.standing.held.items seat ≡ Some (Some number) → option_map job_view (job_in book.standing.log number) ≡ Some job → ⊥) where
       none_such : HasOpenClaim (setup_in book) running.at.at.state seat number job → ⊥
-      none_such has = not_held (running.at.at.told.holds.numbers seat known ∙ ap Some held) (job_kept book running number has.0 has.1 ∙ ap Some has.3)
+      none_such has = not_held (running.at.at.told.holds.numbers seat known ∙ ap Some held) (job_kept book running number has.0 has.1 (and_parts (is_open has.0.status) (has.0.seat == seat) has.2).0 ∙ ap Some has.3)
         where
           of_seat : has.0.seat ≡ seat
           of_seat = eqb-true has.0.seat seat (and_parts (is_open has.0.status) (has.0.seat == seat) has.2).1
@@ -71,7 +71,7 @@ module _ (book : Book) (running : IsRunning book) (seat number : ℕ) (job : Pla
           held = held_there 0 seat running.at.at.state.claims number has.0 has.1 has.2 (reached.one_each seat) ∙ ap (λ n. Some n) (let e : 0 + number ≡ number = omega arith in e)
 
       kept_is : {A : Type 0} (value : A → Job) (kept : Option A)
-          → MatchOption kept (slice_get (standings (log_view book.standing.log)) number ≡ Some stands_open → ⊥) (λ job. (slice_get (standings (log_view book.standing.log)) number ≡ Some stands_open) × (slice_get (jobs_in book.standing.log) number ≡ Some (value job)))
+          → MatchOption kept (slice_get (standings (log_view book.standing.log)) number ≡ Some stands_open → ⊥) (λ job. (slice_get (standings (log_view book.standing.log)) number ≡ Some stands_open) × (job_in book.standing.log number ≡ Some (value job)))
           → option_map (λ job. job_view (value job)) kept ≡ open_job (setup_in book) running.at.at.state number
       kept_is {A = A} value kept told = of (slice_get running.at.at.state.claims number) refl kept told
         where
@@ -81,7 +81,7 @@ module _ (book : Book) (running : IsRunning book) (seat number : ℕ) (job : Pla
               ∙ slice_get-map (λ (c : PlainClaim). standing_of c.status) running.at.at.state.claims number ∙ ap (option_map (λ (c : PlainClaim). standing_of c.status)) is
 
           of : (o : Option PlainClaim) → slice_get running.at.at.state.claims number ≡ o → (k : Option A)
-              → MatchOption k (slice_get (standings (log_view book.standing.log)) number ≡ Some stands_open → ⊥) (λ job. (slice_get (standings (log_view book.standing.log)) number ≡ Some stands_open) × (slice_get (jobs_in book.standing.log) number ≡ Some (value job)))
+              → MatchOption k (slice_get (standings (log_view book.standing.log)) number ≡ Some stands_open → ⊥) (λ job. (slice_get (standings (log_view book.standing.log)) number ≡ Some stands_open) × (job_in book.standing.log number ≡ Some (value job)))
               → option_map (λ job. job_view (value job)) k ≡ job_if_open (setup_in book) o
           of None is None never = refl
           of None is (Some job) so = let clash : Some stands_open ≡ None = sym so.0 ∙ stood None is in cc
@@ -90,10 +90,10 @@ module _ (book : Book) (running : IsRunning book) (seat number : ℕ) (job : Pla
               sym (cond-false (is_open claim.status) (Some (claimed_job (setup_in book) claim)) None shut)
           of (Some claim) is (Some job) so =
               let opened = is_opened claim.status (same_Some (standing_of claim.status) stands_open (sym (stood (Some claim) is) ∙ so.0)) in
-              let same : Some (job_view (value job)) ≡ Some (claimed_job (setup_in book) claim) = sym (slice_get-map job_view (jobs_in book.standing.log) number ∙ ap (option_map job_view) so.1) ∙ job_kept book running number claim is in
+              let same : Some (job_view (value job)) ≡ Some (claimed_job (setup_in book) claim) = sym (ap (option_map job_view) so.1) ∙ job_kept book running number claim is opened in
               same ∙ sym (cond-true (is_open claim.status) (Some (claimed_job (setup_in book) claim)) None opened)
 
       pub of_another : {A : Type 0} (value : A → Job) (kept : Option A)
-          → MatchOption kept (slice_get (standings (log_view book.standing.log)) number ≡ Some stands_open → ⊥) (λ job. (slice_get (standings (log_view book.standing.log)) number ≡ Some stands_open) × (slice_get (jobs_in book.standing.log) number ≡ Some (value job)))
+          → MatchOption kept (slice_get (standings (log_view book.standing.log)) number ≡ Some stands_open → ⊥) (λ job. (slice_get (standings (log_view book.standing.log)) number ≡ Some stands_open) × (job_in book.standing.log number ≡ Some (value job)))
           → IsStranger (setup_in book) running.at.at.state seat number job (option_map (λ job. job_view (value job)) kept)
       of_another value kept told = (not_cut, none_such, kept_is value kept told)

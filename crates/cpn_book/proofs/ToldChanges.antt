@@ -18,10 +18,6 @@ tells_more was_told told more before after is stay = λ m stayed. subst (λ (ts 
 pub tells_same : (told : List PlainChange) (before after : Marking) → after ≡ before → TellsOn told told before after
 tells_same told before after same = λ m stayed. subst (λ (x : Marking). OthersStay told m x) (sym same) stayed
 
--- one behind the other
-pub tells_through : (first second third : List PlainChange) (before between after : Marking) → TellsOn first second before between → TellsOn second third between after → TellsOn first third before after
-tells_through first second third before between after one two = λ m stayed. two m (one m stayed)
-
 -- ---- a commit changes nothing
 
 next_unclaimed_of : (log : PlainLog) (claims : List PlainClaim) → (next_committed_of log claims).unclaimed ≡ log.unclaimed

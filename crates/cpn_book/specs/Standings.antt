@@ -7,7 +7,7 @@ use Rattle.cpn_definitions.specs.Occurrence.{PlainElement, needs_of, outputs_of}
 use Rattle.cpn_draw.specs.Draw.{generator}
 use Rattle.cpn_jobs.specs.Views.{job_view}
 use Rattle.cpn_jobs.specs.Work.{PlainJob, work_of}
-use Rattle.cpn_log.specs.Logs.{PlainHead, head_of, heads}
+use Rattle.cpn_log.specs.Logs.{PlainHead, head_of}
 use Rattle.cpn_log.specs.LogViews.{log_view, jobs_in}
 use Rattle.cpn_monitor.specs.Fitting.{AreMeasured}
 use Rattle.cpn_monitor.specs.Views.{values_view}
@@ -44,15 +44,15 @@ job_for n head = job_at n head.element head.time
 abbrev pub committed_of : PlainState → Standing → List PlainClaim
 committed_of state s = take (length (log_view s.log).committed) state.claims
 
--- Where a run stands after its journal: in the state that the journal leads to, with the jobs of its claims, its committed
--- occurrences, what the monitors measure of these up to the clock, and the word of the next claim. The claims that are not committed were made at
--- the clock. So it is within a completion, too, before what can be committed is committed.
+-- Where a run stands after its journal: in the state that the journal leads to, with the jobs of the claims that are not committed, its
+-- committed occurrences, what the monitors measure of these up to the clock, and the word of the next claim. The claims that are not committed
+-- were made at the clock. So it is within a completion, too, before what can be committed is committed.
 pub record IsToldAt (setup : PlainSetup) (s : Standing) : Type 0 where
   pub state : PlainState
   pub told : IsTold setup (events_in s) state (log_view s.log) s.held.items
   pub clock : s.clock ≡ state.clock
   pub cut : option_map cut_view s.cut ≡ state.cut
-  pub jobs : map job_view (jobs_in s.log) ≡ map (job_for setup.net) (heads (log_view s.log))
+  pub jobs : map job_view (jobs_in s.log) ≡ map (job_for setup.net) (map head_of (log_view s.log).claims)
   pub occurrences : occurrences_in s ≡ numbered 0 (committed_of state s)
   pub measured : AreMeasured setup.functions setup.monitors (run_of setup s.clock (committed_of state s)) (values_view s.values)
   pub made_now : AllByRecursion (λ claim. claim.time ≡ s.clock) (log_view s.log).claims

@@ -2,11 +2,11 @@
 
 ghost use Rattle.std.specs.Prelude.{◌≡◌, ◌≢◌, ◌<◌, ◌≤◌, ◌++◌, Some, None, true, false, List, [], ◌∷◌, length, map, take, slice_get, IfOk, OnOk, OnErr, vec_len, vec_capacity};
 ghost use Rattle.std.specs.List.{count_by};
-ghost use Rattle.std.specs.Option.{is_some};
+ghost use Rattle.std.specs.Option.{is_some, option_map};
 ghost use Rattle.cpn_definitions.specs.Enabled.{next_time, ready};
 ghost use Rattle.cpn_jobs.specs.Views.{job_view};
 ghost use Rattle.cpn_log.specs.Logs.{claims_made};
-ghost use Rattle.cpn_log.specs.LogViews.{log_view, jobs_in};
+ghost use Rattle.cpn_log.specs.LogViews.{log_view, job_in};
 ghost use Rattle.cpn_runs.specs.FinishedViews.{setup_view};
 ghost use Rattle.cpn_runs.specs.Playable.{IsPlayable};
 ghost use Rattle.cpn_definitions.specs.Legal.{PlainOccurrence};
@@ -230,7 +230,7 @@ impl Book {
         ensures running { OnOk result (IsRunning self.new) }
         ensures events { IfOk result (λ ticket. journal_in self.new ≡ journal_in self.old ++ claim_made seat (number_of ticket) ∷ []) }
         ensures number { IfOk result (λ ticket. number_of ticket ≡ claims_made (log_view self.old.standing.log)) }
-        ensures job { IfOk result (λ ticket. slice_get (map job_view (jobs_in self.new.standing.log)) (number_of ticket) ≡ Some (job_of ticket)) }
+        ensures job { IfOk result (λ ticket. option_map job_view (job_in self.new.standing.log (number_of ticket)) ≡ Some (job_of ticket)) }
         ensures follows { Follows self.old self.new }
         ensures committed { committed_in self.new ≡ committed_in self.old }
     {
@@ -273,7 +273,7 @@ impl Book {
         requires kept { IsBook self.old }
         requires running { IsRunning self.old }
         requires held { slice_get self.old.standing.held.items seat ≡ Some (Some (evaluated_number done)) }
-        requires job { slice_get (map job_view (jobs_in self.old.standing.log)) (evaluated_number done) ≡ Some (evaluated_job done) }
+        requires job { option_map job_view (job_in self.old.standing.log (evaluated_number done)) ≡ Some (evaluated_job done) }
         ensures done { IfOk result (λ answer. answer ≡ Completed.Done) }
         ensures running { OnOk result (IsRunning self.new) }
         ensures events { OnOk result (AddsCompletion (setup_in self.old) seat (evaluated_number done) self.old.standing self.new.standing) }

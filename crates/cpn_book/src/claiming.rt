@@ -1,13 +1,14 @@
 //! How the next claim is drawn, and how a seat makes it.
 
 ghost use Rattle.std.specs.Prelude.{◌≡◌, ◌+◌, ◌<◌, Some, None, List, [], ◌∷◌, ◌++◌, length, map, slice_get, slice_set, IfOk, IfSome, OnOk, vec_len, vec_capacity};
+ghost use Rattle.std.specs.Option.{option_map};
 ghost use Rattle.cpn_core.specs.Elements.{element_view};
 ghost use Rattle.cpn_definitions.specs.Enabled.{ready};
 ghost use Rattle.cpn_due.specs.Due.{PlainEnabled, due_at};
 ghost use Rattle.cpn_index.specs.Index.{clock_in, kept_in, listed_in, IsIndexOf};
 ghost use Rattle.cpn_jobs.specs.Views.{job_view, work_view};
 ghost use Rattle.cpn_log.specs.Logs.{claims_made};
-ghost use Rattle.cpn_log.specs.LogViews.{log_view, jobs_in};
+ghost use Rattle.cpn_log.specs.LogViews.{log_view, job_in};
 ghost use Rattle.cpn_runs.specs.FinishedViews.{setup_view};
 ghost use Rattle.cpn_runs.specs.Playable.{IsPlayable};
 ghost use Rattle.cpn_runs.specs.State.{PlainEvent, claim_made};
@@ -63,7 +64,7 @@ pub(crate) fn open_claim(
     ensures number { IfOk result (λ ticket. number_of ticket ≡ claims_made (log_view standing.old.log)) }
     ensures events { IfOk result (λ ticket. events_in standing.new ≡ events_in standing.old ++ claim_made seat (number_of ticket) ∷ []) }
     ensures begins { (more : List PlainEvent) × (events_in standing.new ≡ events_in standing.old ++ more) }
-    ensures job { IfOk result (λ ticket. slice_get (map job_view (jobs_in standing.new.log)) (number_of ticket) ≡ Some (job_of ticket)) }
+    ensures job { IfOk result (λ ticket. option_map job_view (job_in standing.new.log (number_of ticket)) ≡ Some (job_of ticket)) }
     ensures room { OnOk result (vec_len standing.new.journal < vec_capacity standing.new.journal) }
     ensures told { OnOk result (TellsOn (changes_view told.old) (changes_view told.new) (log_view standing.old.log).unclaimed (log_view standing.new.log).unclaimed) }
     ensures committed { StillCommitted (setup_view setup.now) standing.old standing.new }
@@ -143,7 +144,7 @@ pub(crate) fn make_claim(
     ensures events { OnOk result (events_in standing.new ≡ events_in standing.old ++ claim_made seat number ∷ []) }
     ensures begins { (more : List PlainEvent) × (events_in standing.new ≡ events_in standing.old ++ more) }
     ensures holds { OnOk result (standing.new.held.items ≡ slice_set standing.old.held.items seat (Some number)) }
-    ensures job { OnOk result (slice_get (map job_view (jobs_in standing.new.log)) number ≡ Some (job_view job.value)) }
+    ensures job { OnOk result (option_map job_view (job_in standing.new.log number) ≡ Some (job_view job.value)) }
     ensures room { OnOk result (vec_len standing.new.journal < vec_capacity standing.new.journal) }
     ensures told { OnOk result (TellsOn (changes_view told.old) (changes_view told.new) (log_view standing.old.log).unclaimed (log_view standing.new.log).unclaimed) }
     ensures committed { StillCommitted (setup_view setup.now) standing.old standing.new }

@@ -9,7 +9,7 @@ ghost use Rattle.cpn_definitions.specs.Outcome.{gives};
 ghost use Rattle.cpn_jobs.specs.Views.{job_view};
 ghost use Rattle.cpn_log.specs.Kept.{IsKept};
 ghost use Rattle.cpn_log.specs.Logs.{claims_made, standings, stands_open, with_status};
-ghost use Rattle.cpn_log.specs.LogViews.{log_view, jobs_in};
+ghost use Rattle.cpn_log.specs.LogViews.{log_view, job_in, jobs_in};
 ghost use Rattle.cpn_tmset.specs.ChangedViews.{changes_view};
 ghost use Rattle.cpn_runs.specs.FinishedViews.{setup_view};
 ghost use Rattle.cpn_runs.specs.Playable.{IsPlayable};
@@ -44,7 +44,7 @@ pub(crate) fn complete_claim(
     requires playable { IsPlayable (setup_view setup.now) }
     requires at { IsAt (setup_view setup.now) standing.old }
     requires held { slice_get standing.old.held.items seat ≡ Some (Some (evaluated_number done)) }
-    requires job { slice_get (map job_view (jobs_in standing.old.log)) (evaluated_number done) ≡ Some (evaluated_job done) }
+    requires job { option_map job_view (job_in standing.old.log (evaluated_number done)) ≡ Some (evaluated_job done) }
     ensures at { OnOk result (IsAt (setup_view setup.now) standing.new) }
     ensures clock { standing.new.clock ≡ standing.old.clock }
     ensures events { OnOk result (AddsCompletion (setup_view setup.now) seat (evaluated_number done) standing.old standing.new) }
@@ -73,7 +73,7 @@ fn fill_claim(
     requires playable { IsPlayable (setup_view setup.now) }
     requires at { IsAt (setup_view setup.now) standing.old }
     requires held { slice_get standing.old.held.items seat ≡ Some (Some (evaluated_number done)) }
-    requires job { slice_get (map job_view (jobs_in standing.old.log)) (evaluated_number done) ≡ Some (evaluated_job done) }
+    requires job { option_map job_view (job_in standing.old.log (evaluated_number done)) ≡ Some (evaluated_job done) }
     requires room { vec_len standing.old.journal < vec_capacity standing.old.journal }
     ensures may { OnOk result (MayCommit (setup_view setup.now) standing.new) }
     ensures only_given_back { OnlyGivenBack (option_map cut_view standing.new.cut) }

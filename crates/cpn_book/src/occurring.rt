@@ -79,7 +79,7 @@ pub(crate) fn play_drawn(
 
 /// Makes the claim of seat 0 that is drawn, where no claim is open, completes it with its outputs and commits it, all at once; the monitors
 /// note its occurrence: the number of the first that stops the run after it, if one does. It leaves room in the journal for two events
-/// more, and adds what is taken and added to what is told. After `Memory` nothing is known of where the run stands.
+/// more, and adds what changes to what is told. After `Memory` nothing is known of where the run stands.
 fn occur(
     alloc: Global,
     setup: &Setup,

@@ -1,11 +1,11 @@
 //! Where a run stands.
 
-ghost use Rattle.std.specs.Prelude.{◌≡◌, ℕ, replicate, ◌<◌, ◌≤◌, [], Some, None, true, false, IfOk, MatchOption, map, slice_get};
+ghost use Rattle.std.specs.Prelude.{◌≡◌, ℕ, replicate, ◌<◌, ◌≤◌, [], Some, None, true, false, IfOk, MatchOption, length, map, slice_get};
 ghost use Rattle.std.specs.List.{count_by};
-ghost use Rattle.std.specs.Option.{is_some};
+ghost use Rattle.std.specs.Option.{is_some, option_map};
 ghost use Rattle.cpn_jobs.specs.Views.{job_view};
 ghost use Rattle.cpn_log.specs.Logs.{claims_made, standings, stands_open};
-ghost use Rattle.cpn_log.specs.LogViews.{log_view, jobs_in};
+ghost use Rattle.cpn_log.specs.LogViews.{log_view, job_in};
 ghost use Rattle.cpn_runs.specs.FinishedViews.{setup_view};
 ghost use Rattle.cpn_runs.specs.Playable.{IsPlayable};
 ghost use Rattle.cpn_book.specs.Standings.{IsAt};
@@ -116,10 +116,11 @@ impl Standing {
 
     /// Whether a seat holds the claim of a number and job.
     pub(crate) fn is_held(&self, seat: u32, number: u64, job: &Job) -> bool
+        requires behind { (s k : ℕ) → slice_get self.now.held.items s ≡ Some (Some k) → length (log_view self.now.log).committed ≤ k }
         requires within { (s k : ℕ) → slice_get self.now.held.items s ≡ Some (Some k) → k < claims_made (log_view self.now.log) }
         ensures held { result ≡ true → slice_get self.now.held.items seat ≡ Some (Some number) }
-        ensures job { result ≡ true → slice_get (map job_view (jobs_in self.now.log)) number ≡ Some (job_view job.now) }
-        ensures not_held { result ≡ false → slice_get self.now.held.items seat ≡ Some (Some number) → slice_get (map job_view (jobs_in self.now.log)) number ≡ Some (job_view job.now) → ⊥ }
+        ensures job { result ≡ true → option_map job_view (job_in self.now.log number) ≡ Some (job_view job.now) }
+        ensures not_held { result ≡ false → slice_get self.now.held.items seat ≡ Some (Some number) → option_map job_view (job_in self.now.log number) ≡ Some (job_view job.now) → ⊥ }
     {
         match self.held_by(seat) {
             Some(held) => held == number && **self.log.job(held) == *job,
@@ -129,7 +130,7 @@ impl Standing {
 
     /// The job of the open claim of a number, if there is one.
     pub(crate) fn open_job(&self, number: u64) -> Option<&Arc<Job>>
-        ensures job { MatchOption result (slice_get (standings (log_view self.now.log)) number ≡ Some stands_open → ⊥) (λ job. (slice_get (standings (log_view self.now.log)) number ≡ Some stands_open) × (slice_get (jobs_in self.now.log) number ≡ Some job.now.value)) }
+        ensures job { MatchOption result (slice_get (standings (log_view self.now.log)) number ≡ Some stands_open → ⊥) (λ job. (slice_get (standings (log_view self.now.log)) number ≡ Some stands_open) × (job_in self.now.log number ≡ Some job.now.value)) }
     {
         if number < self.log.len() && self.log.state(number) == ClaimState::Open {
             Some(self.log.job(number))
@@ -140,7 +141,7 @@ impl Standing {
 
     /// One owner more of the job of the open claim of a number, if there is one.
     pub(crate) fn share_open_job(&self, number: u64) -> Result<Option<Arc<Job>>, Memory>
-        ensures job { IfOk result (λ kept. MatchOption kept (slice_get (standings (log_view self.now.log)) number ≡ Some stands_open → ⊥) (λ job. (slice_get (standings (log_view self.now.log)) number ≡ Some stands_open) × (slice_get (jobs_in self.now.log) number ≡ Some job.value))) }
+        ensures job { IfOk result (λ kept. MatchOption kept (slice_get (standings (log_view self.now.log)) number ≡ Some stands_open → ⊥) (λ job. (slice_get (standings (log_view self.now.log)) number ≡ Some stands_open) × (job_in self.now.log number ≡ Some job.value))) }
     {
         match self.open_job(number) {
             Some(job) => Ok(Some(job.clone()?)),

@@ -7,3 +7,4 @@ mod FirstItems
 mod RankedItems
 mod RisingSides
 mod SummaryLaws
+mod TurnedForks

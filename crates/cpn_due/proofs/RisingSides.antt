@@ -27,6 +27,15 @@ pub rises_right : {X : Type 0} (c : X → X → Ordering) (xs ys : List X) → R
 rises_right c [] ys rise = rise
 rises_right c (x ∷ xs) ys rise = rises_right c xs ys rise.1
 
+each_past : {X : Type 0} (P : X → Type 0) (xs : List X) (k : X) (ys : List X) → AllByRecursion P (xs ++ k ∷ ys) → AllByRecursion P (xs ++ ys)
+each_past P [] k ys all = all.1
+each_past P (x ∷ xs) k ys all = (all.0, each_past P xs k ys all.1)
+
+-- without one of its items
+pub rises_past : {X : Type 0} (c : X → X → Ordering) (xs : List X) (k : X) (ys : List X) → Rises c (xs ++ k ∷ ys) → Rises c (xs ++ ys)
+rises_past c [] k ys rise = rise.1
+rises_past c (x ∷ xs) k ys rise = (each_past (λ y. c x y ≡ Less) xs k ys rise.0, rises_past c xs k ys rise.1)
+
 pub rises_filtered : {X : Type 0} (c : X → X → Ordering) (p : X → Bool) (xs : List X) → Rises c xs → Rises c (filter p xs)
 rises_filtered c p [] rise = tt
 rises_filtered {X} c p (x ∷ xs) rise = split (p x) (rises_filtered c p xs rise.1)

@@ -1,48 +1,65 @@
-//! How a tree is put together, one of whose sides has changed.
-ghost use Rattle.std.specs.Prelude.{◌≡◌, ◌+◌, ◌^◌, ◌<◌, ◌≤◌, length};
+//! How a fork is made level, one of whose sides has changed.
+ghost use Rattle.std.specs.Prelude.{◌≡◌, ◌+◌, ◌^◌, ◌<◌, ◌≤◌};
 ghost use Rattle.cpn_definitions.specs.Lists.{Rises};
 ghost use Rattle.cpn_due.specs.Marked.{plain_marked, marked_cmp};
 ghost use Rattle.cpn_due.specs.Sides.{around, above, count_around, DifferByAtMost};
+ghost use Rattle.cpn_due.specs.Trees.{AreBalanced};
 
-use crate::trees::{Parts, Tree};
+use crate::summaries::summarize;
+use crate::trees::{Fork, Parts, Tree};
+use std::mem;
 
-/// Puts a tree together, one of whose sides has just become higher or lower by one.
-pub(crate) fn balance(parts: Parts) -> Tree
-    requires rises { Rises marked_cmp (around parts.left (plain_marked parts.root) parts.right) }
-    requires level { DifferByAtMost 2 parts.left parts.right }
-    requires few { count_around parts.left parts.right < 2 ^ 64 }
-    ensures items { result.items ≡ around parts.left (plain_marked parts.root) parts.right }
-    ensures count { length result.items ≡ count_around parts.left parts.right }
-    ensures not_lower { above parts.left parts.right ≤ result.height + 1 }
-    ensures not_higher { result.height ≤ above parts.left parts.right }
-    ensures same_height { DifferByAtMost 1 parts.left parts.right → result.height ≡ above parts.left parts.right }
+/// Makes a fork level, one of whose sides has just become higher or lower by one, and its summary anew.
+pub(crate) fn settle(fork: &mut Fork)
+    requires rises { Rises marked_cmp (around fork.old.left (plain_marked fork.old.root) fork.old.right) }
+    requires level { DifferByAtMost 2 fork.old.left fork.old.right }
+    requires few { count_around fork.old.left fork.old.right < 2 ^ 64 }
+    ensures balanced { AreBalanced fork.new.left (plain_marked fork.new.root) fork.new.right fork.new.summary }
+    ensures items { around fork.new.left (plain_marked fork.new.root) fork.new.right ≡ around fork.old.left (plain_marked fork.old.root) fork.old.right }
+    ensures count { count_around fork.new.left fork.new.right ≡ count_around fork.old.left fork.old.right }
+    ensures not_lower { above fork.old.left fork.old.right ≤ fork.new.summary.height + 1 }
+    ensures not_higher { fork.new.summary.height ≤ above fork.old.left fork.old.right }
+    ensures same_height { DifferByAtMost 1 fork.old.left fork.old.right → fork.new.summary.height ≡ above fork.old.left fork.old.right }
 {
-    let (left, right) = (parts.left.height(), parts.right.height());
+    turn(fork);
+    fork.summary = summarize(&fork.left, &fork.root, &fork.right);
+}
+
+// Turns a fork where one side is two levels higher.
+fn turn(fork: &mut Fork)
+    requires rises { Rises marked_cmp (around fork.old.left (plain_marked fork.old.root) fork.old.right) }
+    requires level { DifferByAtMost 2 fork.old.left fork.old.right }
+    requires few { count_around fork.old.left fork.old.right < 2 ^ 64 }
+    ensures level { DifferByAtMost 1 fork.new.left fork.new.right }
+    ensures items { around fork.new.left (plain_marked fork.new.root) fork.new.right ≡ around fork.old.left (plain_marked fork.old.root) fork.old.right }
+    ensures count { count_around fork.new.left fork.new.right ≡ count_around fork.old.left fork.old.right }
+    ensures not_lower { above fork.old.left fork.old.right ≤ above fork.new.left fork.new.right + 1 }
+    ensures not_higher { above fork.new.left fork.new.right ≤ above fork.old.left fork.old.right }
+    ensures same_height { DifferByAtMost 1 fork.old.left fork.old.right → above fork.new.left fork.new.right ≡ above fork.old.left fork.old.right }
+{
+    let (left, right) = (fork.left.height(), fork.right.height());
     if left > right + 1 {
-        lean_right(parts)
-    } else if right > left + 1 {
-        lean_left(parts)
-    } else {
-        Tree::join(parts)
+        lean_right(fork);
+        return;
+    }
+    if right > left + 1 {
+        lean_left(fork);
     }
 }
 
-// Puts a tree together, whose left side is two levels higher.
-fn lean_right(parts: Parts) -> Tree
-    requires rises { Rises marked_cmp (around parts.left (plain_marked parts.root) parts.right) }
-    requires two_higher { parts.left.height ≡ parts.right.height + 2 }
-    requires few { count_around parts.left parts.right < 2 ^ 64 }
-    ensures items { result.items ≡ around parts.left (plain_marked parts.root) parts.right }
-    ensures count { length result.items ≡ count_around parts.left parts.right }
-    ensures not_lower { parts.left.height ≤ result.height }
-    ensures at_most_one_higher { result.height ≤ parts.left.height + 1 }
+// Turns a fork whose left side is two levels higher.
+fn lean_right(fork: &mut Fork)
+    requires rises { Rises marked_cmp (around fork.old.left (plain_marked fork.old.root) fork.old.right) }
+    requires two_higher { fork.old.left.height ≡ fork.old.right.height + 2 }
+    requires few { count_around fork.old.left fork.old.right < 2 ^ 64 }
+    ensures level { DifferByAtMost 1 fork.new.left fork.new.right }
+    ensures items { around fork.new.left (plain_marked fork.new.root) fork.new.right ≡ around fork.old.left (plain_marked fork.old.root) fork.old.right }
+    ensures count { count_around fork.new.left fork.new.right ≡ count_around fork.old.left fork.old.right }
+    ensures not_lower { fork.old.left.height ≤ above fork.new.left fork.new.right }
+    ensures at_most_one_higher { above fork.new.left fork.new.right ≤ fork.old.left.height + 1 }
 {
-    let Parts {
-        spare,
-        left: high,
-        root,
-        right,
-    } = parts;
+    let high = mem::replace(&mut fork.left, Tree::new());
+    let right = mem::replace(&mut fork.right, Tree::new());
     let Parts {
         spare: second,
         left,
@@ -50,56 +67,45 @@ fn lean_right(parts: Parts) -> Tree
         right: inner,
     } = high.take_apart();
     if left.height() >= inner.height() {
-        let right = Tree::join(Parts {
-            spare,
+        let root = mem::replace(&mut fork.root, pivot);
+        fork.left = left;
+        fork.right = Tree::join(Parts {
+            spare: second,
             left: inner,
             root,
             right,
         });
-        return Tree::join(Parts {
-            spare: second,
-            left,
-            root: pivot,
-            right,
-        });
+        return;
     }
     let middle = inner.take_apart();
-    let left = Tree::join(Parts {
+    let root = mem::replace(&mut fork.root, middle.root);
+    fork.left = Tree::join(Parts {
         spare: second,
         left,
         root: pivot,
         right: middle.left,
     });
-    let right = Tree::join(Parts {
-        spare,
+    fork.right = Tree::join(Parts {
+        spare: middle.spare,
         left: middle.right,
         root,
         right,
     });
-    Tree::join(Parts {
-        spare: middle.spare,
-        left,
-        root: middle.root,
-        right,
-    })
 }
 
-// Puts a tree together, whose right side is two levels higher.
-fn lean_left(parts: Parts) -> Tree
-    requires rises { Rises marked_cmp (around parts.left (plain_marked parts.root) parts.right) }
-    requires two_higher { parts.right.height ≡ parts.left.height + 2 }
-    requires few { count_around parts.left parts.right < 2 ^ 64 }
-    ensures items { result.items ≡ around parts.left (plain_marked parts.root) parts.right }
-    ensures count { length result.items ≡ count_around parts.left parts.right }
-    ensures not_lower { parts.right.height ≤ result.height }
-    ensures at_most_one_higher { result.height ≤ parts.right.height + 1 }
+// Turns a fork whose right side is two levels higher.
+fn lean_left(fork: &mut Fork)
+    requires rises { Rises marked_cmp (around fork.old.left (plain_marked fork.old.root) fork.old.right) }
+    requires two_higher { fork.old.right.height ≡ fork.old.left.height + 2 }
+    requires few { count_around fork.old.left fork.old.right < 2 ^ 64 }
+    ensures level { DifferByAtMost 1 fork.new.left fork.new.right }
+    ensures items { around fork.new.left (plain_marked fork.new.root) fork.new.right ≡ around fork.old.left (plain_marked fork.old.root) fork.old.right }
+    ensures count { count_around fork.new.left fork.new.right ≡ count_around fork.old.left fork.old.right }
+    ensures not_lower { fork.old.right.height ≤ above fork.new.left fork.new.right }
+    ensures at_most_one_higher { above fork.new.left fork.new.right ≤ fork.old.right.height + 1 }
 {
-    let Parts {
-        spare,
-        left,
-        root,
-        right: high,
-    } = parts;
+    let high = mem::replace(&mut fork.right, Tree::new());
+    let left = mem::replace(&mut fork.left, Tree::new());
     let Parts {
         spare: second,
         left: inner,
@@ -107,36 +113,28 @@ fn lean_left(parts: Parts) -> Tree
         right,
     } = high.take_apart();
     if right.height() >= inner.height() {
-        let left = Tree::join(Parts {
-            spare,
+        let root = mem::replace(&mut fork.root, pivot);
+        fork.right = right;
+        fork.left = Tree::join(Parts {
+            spare: second,
             left,
             root,
             right: inner,
         });
-        return Tree::join(Parts {
-            spare: second,
-            left,
-            root: pivot,
-            right,
-        });
+        return;
     }
     let middle = inner.take_apart();
-    let left = Tree::join(Parts {
-        spare,
+    let root = mem::replace(&mut fork.root, middle.root);
+    fork.left = Tree::join(Parts {
+        spare: middle.spare,
         left,
         root,
         right: middle.left,
     });
-    let right = Tree::join(Parts {
+    fork.right = Tree::join(Parts {
         spare: second,
         left: middle.right,
         root: pivot,
         right,
     });
-    Tree::join(Parts {
-        spare: middle.spare,
-        left,
-        root: middle.root,
-        right,
-    })
 }

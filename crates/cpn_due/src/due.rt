@@ -8,12 +8,11 @@ ghost use Rattle.cpn_due.specs.Due.{plain_enabled, entries_in, enabled_cmp, is_k
 use crate::inserting::insert;
 use crate::marked::Marked;
 use crate::marking::mark_due;
-use crate::removing::{Removed, Taken, remove};
-use crate::trees::{Sides, Tree};
+use crate::removing::{Taken, remove};
+use crate::trees::{Fork, Tree};
 use cpn_core::{Element, EnabledElement, Memory};
 use std::alloc::Global;
 use std::marker::Model;
-use std::mem;
 
 /// The enabled elements of a marking, each once and in order, each with its earliest time and its needs; and a clock, at which
 /// some of them are due.
@@ -22,7 +21,7 @@ use std::mem;
 #[derive(Drop)]
 pub struct Due {
     tree: Tree,
-    spares: Vec<Box<Sides>>,
+    spares: Vec<Box<Option<Fork>>>,
     clock: u64,
 }
 
@@ -75,7 +74,8 @@ impl Due {
     {
         let count = self.tree.summary().count as usize;
         self.spares.reserve(count + 1)?;
-        let spare = Box::new(*self.spares.allocator(), Sides::empty())?;
+        let nothing: Option<Fork> = None;
+        let spare = Box::new(*self.spares.allocator(), nothing)?;
         self.spares.push_reserved(spare);
         Ok(())
     }
@@ -92,8 +92,7 @@ impl Due {
         let Some(spare) = self.spares.pop() else {
             unreachable!()
         };
-        let tree = mem::replace(&mut self.tree, Tree::new());
-        self.tree = insert(tree, Marked { element, is_due }, spare);
+        insert(&mut self.tree, Marked { element, is_due }, spare);
     }
 
     /// Takes the element out; `None` where it is not there.
@@ -103,10 +102,7 @@ impl Due {
         ensures clock { self.new.clock ≡ self.old.clock }
         ensures spare { self.new.spare ≡ self.old.spare + (if is_some result then 1 else 0) }
     {
-        let tree = mem::replace(&mut self.tree, Tree::new());
-        let Removed { tree, taken } = remove(tree, element);
-        self.tree = tree;
-        match taken {
+        match remove(&mut self.tree, element) {
             None => None,
             Some(taken) => {
                 let Taken { item, spare } = taken;
@@ -132,8 +128,7 @@ impl Due {
         ensures elements { self.new.elements ≡ self.old.elements }
         ensures spare { self.new.spare ≡ self.old.spare }
     {
-        let tree = mem::replace(&mut self.tree, Tree::new());
-        self.tree = mark_due(tree, clock);
+        mark_due(&mut self.tree, clock);
         self.clock = clock;
     }
 

@@ -3,42 +3,32 @@ ghost use Rattle.std.specs.Prelude.{◌≡◌, ◌+◌, ◌^◌, ◌<◌, ◌≤
 ghost use Rattle.cpn_definitions.specs.Lists.{with_item};
 ghost use Rattle.cpn_due.specs.Marked.{plain_marked, marked_cmp, has_item};
 
-use crate::balance::balance;
+use crate::balance::settle;
 use crate::marked::Marked;
-use crate::trees::{Parts, Sides, Tree};
+use crate::trees::{Fork, Node, Tree};
 
 /// Puts an item into a tree that has none of the same element, with a box that is at hand.
-pub(crate) fn insert(tree: Tree, item: Marked, spare: Box<Sides>) -> Tree
-    requires absent { has_item (plain_marked item) tree.items ≡ false }
-    requires few { length tree.items < 2 ^ 63 }
-    ensures items { result.items ≡ with_item marked_cmp (plain_marked item) tree.items }
-    ensures count { length result.items ≡ length tree.items + 1 }
-    ensures not_lower { tree.height ≤ result.height }
-    ensures at_most_one_higher { result.height ≤ tree.height + 1 }
+pub(crate) fn insert(tree: &mut Tree, item: Marked, spare: Box<Option<Fork>>)
+    requires absent { has_item (plain_marked item) tree.old.items ≡ false }
+    requires few { length tree.old.items < 2 ^ 63 }
+    ensures items { tree.new.items ≡ with_item marked_cmp (plain_marked item) tree.old.items }
+    ensures count { length tree.new.items ≡ length tree.old.items + 1 }
+    ensures not_lower { tree.old.height ≤ tree.new.height }
+    ensures at_most_one_higher { tree.new.height ≤ tree.old.height + 1 }
 {
-    if tree.height() == 0 {
-        return Tree::lone(item, spare);
+    match &mut tree.node {
+        Node::Leaf => *tree = Tree::lone(item, spare),
+        Node::Fork(cell) => match &mut **cell {
+            None => *tree = Tree::lone(item, spare),
+            Some(fork) => {
+                if item.is_before(&fork.root) {
+                    insert(&mut fork.left, item, spare);
+                    settle(fork);
+                    return;
+                }
+                insert(&mut fork.right, item, spare);
+                settle(fork);
+            }
+        },
     }
-    let Parts {
-        spare: own,
-        left,
-        root,
-        right,
-    } = tree.take_apart();
-    if item.is_before(&root) {
-        let left = insert(left, item, spare);
-        return balance(Parts {
-            spare: own,
-            left,
-            root,
-            right,
-        });
-    }
-    let right = insert(right, item, spare);
-    balance(Parts {
-        spare: own,
-        left,
-        root,
-        right,
-    })
 }

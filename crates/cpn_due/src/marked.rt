@@ -35,15 +35,11 @@ impl Marked {
         compare_elements(element, &self.element.entry.element)
     }
 
-    /// The item, marked also where its time is not above the clock.
-    pub(crate) fn marked(self, clock: u64) -> Marked
-        ensures marked { plain_marked result ≡ marked_at clock (plain_marked self) }
+    /// Marks the item also where its time is not above the clock.
+    pub(crate) fn mark(&mut self, clock: u64)
+        ensures marked { plain_marked self.new ≡ marked_at clock (plain_marked self.old) }
     {
-        let is_due = self.is_due || self.element.entry.earliest <= clock;
-        Marked {
-            element: self.element,
-            is_due,
-        }
+        self.is_due = self.is_due || self.element.entry.earliest <= clock;
     }
 
     /// How many are due: it, or none.

@@ -2,35 +2,30 @@
 ghost use Rattle.std.specs.Prelude.{◌≡◌, ◌^◌, ◌<◌, map, length};
 ghost use Rattle.cpn_due.specs.Marked.{marked_at};
 
-use crate::trees::{Parts, Tree};
+use crate::summaries::summarize;
+use crate::trees::{Node, Tree};
 
 /// Marks the items whose time is not above the clock.
-pub(crate) fn mark_due(tree: Tree, clock: u64) -> Tree
-    requires few { length tree.items < 2 ^ 63 }
-    ensures items { result.items ≡ map (marked_at clock) tree.items }
-    ensures count { length result.items ≡ length tree.items }
-    ensures height { result.height ≡ tree.height }
+pub(crate) fn mark_due(tree: &mut Tree, clock: u64)
+    requires few { length tree.old.items < 2 ^ 63 }
+    ensures items { tree.new.items ≡ map (marked_at clock) tree.old.items }
+    ensures count { length tree.new.items ≡ length tree.old.items }
+    ensures height { tree.new.height ≡ tree.old.height }
 {
-    if tree.height() == 0 {
-        return tree;
-    }
     let comes = tree.summary().is_reached(clock);
     if !comes {
-        return tree;
+        return;
     }
-    let Parts {
-        spare,
-        left,
-        root,
-        right,
-    } = tree.take_apart();
-    let root = root.marked(clock);
-    let left = mark_due(left, clock);
-    let right = mark_due(right, clock);
-    Tree::join(Parts {
-        spare,
-        left,
-        root,
-        right,
-    })
+    match &mut tree.node {
+        Node::Leaf => {}
+        Node::Fork(cell) => match &mut **cell {
+            None => {}
+            Some(fork) => {
+                fork.root.mark(clock);
+                mark_due(&mut fork.left, clock);
+                mark_due(&mut fork.right, clock);
+                fork.summary = summarize(&fork.left, &fork.root, &fork.right);
+            }
+        },
+    }
 }

@@ -15,10 +15,13 @@ impl Tree {
     {
         match &self.node {
             Node::Leaf => false,
-            Node::Fork(sides, root, _) => match root.order_of(element) {
-                Ordering::Less => sides.left.contains(element),
-                Ordering::Equal => true,
-                Ordering::Greater => sides.right.contains(element),
+            Node::Fork(cell) => match &**cell {
+                None => false,
+                Some(fork) => match fork.root.order_of(element) {
+                    Ordering::Less => fork.left.contains(element),
+                    Ordering::Equal => true,
+                    Ordering::Greater => fork.right.contains(element),
+                },
             },
         }
     }
@@ -29,16 +32,19 @@ impl Tree {
     {
         match &self.node {
             Node::Leaf => None,
-            Node::Fork(sides, root, _) => {
-                let here = root.transition();
-                if here < transition {
-                    return sides.right.first_of(transition);
+            Node::Fork(cell) => match &**cell {
+                None => None,
+                Some(fork) => {
+                    let here = fork.root.transition();
+                    if here < transition {
+                        return fork.right.first_of(transition);
+                    }
+                    match fork.left.first_of(transition) {
+                        Some(found) => Some(found),
+                        None => fork.root.if_of(transition),
+                    }
                 }
-                match sides.left.first_of(transition) {
-                    Some(found) => Some(found),
-                    None => root.if_of(transition),
-                }
-            }
+            },
         }
     }
 
@@ -49,18 +55,21 @@ impl Tree {
     {
         match &self.node {
             Node::Leaf => unreachable!(),
-            Node::Fork(sides, root, _) => {
-                let before = sides.left.summary().due;
-                if rank < before {
-                    return sides.left.due(rank);
+            Node::Fork(cell) => match &**cell {
+                None => unreachable!(),
+                Some(fork) => {
+                    let before = fork.left.summary().due;
+                    if rank < before {
+                        return fork.left.due(rank);
+                    }
+                    let rest = rank - before;
+                    let here = fork.root.due_count();
+                    if rest < here {
+                        return &fork.root.element;
+                    }
+                    fork.right.due(rest - here)
                 }
-                let rest = rank - before;
-                let here = root.due_count();
-                if rest < here {
-                    return &root.element;
-                }
-                sides.right.due(rest - here)
-            }
+            },
         }
     }
 }

@@ -3,13 +3,15 @@ ghost use Rattle.std.specs.Prelude.{◌≡◌, ◌+◌, ◌^◌, ◌<◌, ◌≤
 ghost use Rattle.cpn_definitions.specs.Lists.{Rises};
 ghost use Rattle.cpn_core.specs.Elements.{element_view};
 ghost use Rattle.cpn_due.specs.Marked.{plain_marked, marked_cmp, item_of, without_item};
-ghost use Rattle.cpn_due.specs.Sides.{above, DifferByAtMost};
+ghost use Rattle.cpn_due.specs.Sides.{around, above, count_around, DifferByAtMost};
+ghost use Rattle.cpn_due.specs.Trees.{node_view, AreBalanced, IsBalanced, IsFork, HasRoot};
 
-use crate::balance::balance;
+use crate::balance::settle;
 use crate::marked::Marked;
-use crate::trees::{Parts, Sides, Tree};
+use crate::trees::{Fork, Node, Tree};
 use cpn_core::Element;
 use std::cmp::Ordering;
+use std::mem;
 
 /// An item that was taken out of a tree, and the box that this frees.
 #[derive(Drop)]
@@ -17,143 +19,107 @@ pub(crate) struct Taken {
     /// The item.
     pub(crate) item: Marked,
     /// The box.
-    pub(crate) spare: Box<Sides>,
-}
-
-/// What is left of a tree, and what was taken out of it.
-#[derive(Drop)]
-pub(crate) struct Removed {
-    /// What is left.
-    pub(crate) tree: Tree,
-    /// What was taken out.
-    pub(crate) taken: Option<Taken>,
-}
-
-// What is left of a tree, its last item, and the box that this frees.
-#[derive(Drop)]
-struct Popped {
-    tree: Tree,
-    item: Marked,
-    spare: Box<Sides>,
-}
-
-// One tree made of two, and the box that this frees.
-#[derive(Drop)]
-struct Merged {
-    tree: Tree,
-    spare: Box<Sides>,
+    pub(crate) spare: Box<Option<Fork>>,
 }
 
 /// Takes the item of the element out of a tree, if it is there.
-pub(crate) fn remove(tree: Tree, element: &Element) -> Removed
-    requires few { length tree.items < 2 ^ 63 }
-    ensures items { result.tree.items ≡ without_item (element_view element.now) tree.items }
-    ensures taken { option_map (λ t. plain_marked t.item) result.taken ≡ item_of (element_view element.now) tree.items }
-    ensures count { length tree.items ≡ length result.tree.items + (if is_some result.taken then 1 else 0) }
-    ensures not_higher { result.tree.height ≤ tree.height }
-    ensures at_most_one_lower { tree.height ≤ result.tree.height + 1 }
+pub(crate) fn remove(tree: &mut Tree, element: &Element) -> Option<Taken>
+    requires few { length tree.old.items < 2 ^ 63 }
+    ensures items { tree.new.items ≡ without_item (element_view element.now) tree.old.items }
+    ensures taken { option_map (λ t. plain_marked t.item) result ≡ item_of (element_view element.now) tree.old.items }
+    ensures count { length tree.old.items ≡ length tree.new.items + (if is_some result then 1 else 0) }
+    ensures not_higher { tree.new.height ≤ tree.old.height }
+    ensures at_most_one_lower { tree.old.height ≤ tree.new.height + 1 }
 {
-    if tree.height() == 0 {
-        return Removed { tree, taken: None };
-    }
-    let Parts {
-        spare,
-        left,
-        root,
-        right,
-    } = tree.take_apart();
-    match root.order_of(element) {
-        Ordering::Less => {
-            let Removed { tree: left, taken } = remove(left, element);
-            let tree = balance(Parts {
-                spare,
-                left,
-                root,
-                right,
-            });
-            Removed { tree, taken }
-        }
-        Ordering::Greater => {
-            let Removed { tree: right, taken } = remove(right, element);
-            let tree = balance(Parts {
-                spare,
-                left,
-                root,
-                right,
-            });
-            Removed { tree, taken }
-        }
-        Ordering::Equal => {
-            let Merged { tree, spare } = merge(spare, left, right);
-            let taken = Some(Taken { item: root, spare });
-            Removed { tree, taken }
-        }
+    match &mut tree.node {
+        Node::Leaf => None,
+        Node::Fork(cell) => match &mut **cell {
+            None => None,
+            Some(fork) => match fork.root.order_of(element) {
+                Ordering::Less => {
+                    let taken = remove(&mut fork.left, element);
+                    settle(fork);
+                    taken
+                }
+                Ordering::Greater => {
+                    let taken = remove(&mut fork.right, element);
+                    settle(fork);
+                    taken
+                }
+                Ordering::Equal => {
+                    if fork.left.height() == 0 {
+                        let right = mem::replace(&mut fork.right, Tree::new());
+                        return Some(lift(&mut tree.node, right));
+                    }
+                    Some(take_root(fork))
+                }
+            },
+        },
     }
 }
 
-// Makes one tree of two, between which a root stood.
-fn merge(spare: Box<Sides>, left: Tree, right: Tree) -> Merged
-    requires rises { Rises marked_cmp (left.items ++ right.items) }
-    requires level { DifferByAtMost 1 left right }
-    requires few { length left.items + length right.items < 2 ^ 63 }
-    ensures items { result.tree.items ≡ left.items ++ right.items }
-    ensures count { length result.tree.items ≡ length left.items + length right.items }
-    ensures not_lower { above left right ≤ result.tree.height + 1 }
-    ensures not_higher { result.tree.height ≤ above left right }
+// Takes the root out of a fork, and puts the last item of its left side there.
+fn take_root(fork: &mut Fork) -> Taken
+    requires some { 0 < fork.old.left.height }
+    requires rises { Rises marked_cmp (around fork.old.left (plain_marked fork.old.root) fork.old.right) }
+    requires level { DifferByAtMost 1 fork.old.left fork.old.right }
+    requires few { count_around fork.old.left fork.old.right < 2 ^ 63 }
+    ensures item { plain_marked result.item ≡ plain_marked fork.old.root }
+    ensures balanced { AreBalanced fork.new.left (plain_marked fork.new.root) fork.new.right fork.new.summary }
+    ensures items { around fork.new.left (plain_marked fork.new.root) fork.new.right ≡ fork.old.left.items ++ fork.old.right.items }
+    ensures not_lower { above fork.old.left fork.old.right ≤ fork.new.summary.height + 1 }
+    ensures not_higher { fork.new.summary.height ≤ above fork.old.left fork.old.right }
 {
-    if left.height() == 0 {
-        return Merged { tree: right, spare };
+    let last = pop_last(&mut fork.left);
+    let item = mem::replace(&mut fork.root, last.item);
+    settle(fork);
+    Taken {
+        item,
+        spare: last.spare,
     }
-    let Popped {
-        tree: left,
-        item: root,
-        spare: freed,
-    } = pop_last(left);
-    let tree = balance(Parts {
-        spare,
-        left,
-        root,
-        right,
-    });
-    Merged { tree, spare: freed }
 }
 
 // Takes the last item out of a tree that has items.
-fn pop_last(tree: Tree) -> Popped
-    requires some { 0 < tree.height }
-    requires few { length tree.items < 2 ^ 63 }
-    ensures items { tree.items ≡ result.tree.items ++ plain_marked result.item ∷ [] }
-    ensures count { length tree.items ≡ length result.tree.items + 1 }
-    ensures not_higher { result.tree.height ≤ tree.height }
-    ensures at_most_one_lower { tree.height ≤ result.tree.height + 1 }
+fn pop_last(tree: &mut Tree) -> Taken
+    requires some { 0 < tree.old.height }
+    requires few { length tree.old.items < 2 ^ 63 }
+    ensures items { tree.old.items ≡ tree.new.items ++ plain_marked result.item ∷ [] }
+    ensures count { length tree.old.items ≡ length tree.new.items + 1 }
+    ensures not_higher { tree.new.height ≤ tree.old.height }
+    ensures at_most_one_lower { tree.old.height ≤ tree.new.height + 1 }
 {
-    let Parts {
-        spare,
-        left,
-        root,
-        right,
-    } = tree.take_apart();
-    if right.height() == 0 {
-        return Popped {
-            tree: left,
-            item: root,
-            spare,
-        };
+    match &mut tree.node {
+        Node::Leaf => unreachable!(),
+        Node::Fork(cell) => match &mut **cell {
+            None => unreachable!(),
+            Some(fork) => {
+                if fork.right.height() == 0 {
+                    let left = mem::replace(&mut fork.left, Tree::new());
+                    return lift(&mut tree.node, left);
+                }
+                let last = pop_last(&mut fork.right);
+                settle(fork);
+                last
+            }
+        },
     }
-    let Popped {
-        tree: right,
-        item,
-        spare: freed,
-    } = pop_last(right);
-    let tree = balance(Parts {
-        spare,
-        left,
-        root,
-        right,
-    });
-    Popped {
-        tree,
-        item,
-        spare: freed,
+}
+
+// Puts another tree in the place of a fork, and gives the root of the fork and its box.
+fn lift(node: &mut Node, other: Tree) -> Taken
+    requires fork { IsFork node.old }
+    ensures item { HasRoot node.old (plain_marked result.item) }
+    ensures same_view { node_view node.new ≡ other }
+    ensures balanced { IsBalanced node.new }
+{
+    match mem::replace(node, other.node) {
+        Node::Leaf => unreachable!(),
+        Node::Fork(mut spare) => match spare.take() {
+            None => unreachable!(),
+            Some(fork) => Taken {
+                item: fork.root,
+                spare,
+            },
+        },
     }
 }

@@ -1,5 +1,5 @@
 //! What a tree keeps of all its items.
-ghost use Rattle.std.specs.Prelude.{◌≡◌, [], ◌^◌, ◌<◌, ◌≤◌, length};
+ghost use Rattle.std.specs.Prelude.{◌≡◌, [], ◌∷◌, ◌^◌, ◌<◌, ◌≤◌, length};
 ghost use Rattle.cpn_due.specs.Marked.{plain_marked, summary_of, is_reached, sooner as sooner_of};
 ghost use Rattle.cpn_due.specs.Sides.{around, above, count_around};
 
@@ -32,6 +32,19 @@ impl Summary {
             due: 0,
             first: None,
             later: None,
+        }
+    }
+
+    /// The summary of one item.
+    pub(crate) fn lone(item: &Marked) -> Summary
+        ensures lone { result ≡ summary_of (plain_marked item.now ∷ []) 1 }
+    {
+        Summary {
+            height: 1,
+            count: 1,
+            due: item.due_count(),
+            first: Some(item.element.entry.earliest),
+            later: item.later_time(),
         }
     }
 

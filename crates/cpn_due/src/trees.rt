@@ -7,7 +7,6 @@ ghost use Rattle.cpn_due.specs.Sides.{around, above, count_around, DifferByAtMos
 use crate::marked::Marked;
 use crate::summaries::{Summary, summarize};
 use std::marker::Model;
-use std::mem;
 
 /// A tree of elements in order, whose sides differ in height by at most one at each node.
 #[cycle(tree)]
@@ -22,18 +21,22 @@ pub(crate) struct Tree {
 pub(crate) enum Node {
     /// Nothing.
     Leaf,
-    /// What stands on both sides of the root, the root, and what is kept of all of them.
-    Fork(Box<Sides>, Marked, Summary),
+    /// A fork in its box. An empty box stands for nothing too.
+    Fork(Box<Option<Fork>>),
 }
 
-/// What stands on both sides of a root.
+/// A root, what stands on both sides of it, and what is kept of all of them.
 #[cycle(tree)]
 #[derive(Drop)]
-pub(crate) struct Sides {
-    /// What comes before it.
+pub(crate) struct Fork {
+    /// What comes before the root.
     pub(crate) left: Tree,
     /// What comes after it.
     pub(crate) right: Tree,
+    /// The root.
+    pub(crate) root: Marked,
+    /// What is kept of all of them.
+    pub(crate) summary: Summary,
 }
 
 impl Model for Tree {
@@ -57,27 +60,17 @@ impl Model for Tree {
     ghost size_decreases = { λ t h. Prim.grind (arith, length-append) };
 }
 
-/// A tree taken apart: its root, what stood on both sides of it, and a box that held them.
+/// A tree taken apart: its root, what stood on both sides of it, and the box that held them.
 #[derive(Drop)]
 pub(crate) struct Parts {
-    /// The box, whose trees count for nothing.
-    pub(crate) spare: Box<Sides>,
+    /// The box, whose content counts for nothing.
+    pub(crate) spare: Box<Option<Fork>>,
     /// What comes before the root.
     pub(crate) left: Tree,
     /// The root.
     pub(crate) root: Marked,
     /// What comes after the root.
     pub(crate) right: Tree,
-}
-
-impl Sides {
-    /// Nothing on both sides.
-    pub(crate) fn empty() -> Sides {
-        Sides {
-            left: Tree::new(),
-            right: Tree::new(),
-        }
-    }
 }
 
 impl Tree {
@@ -98,7 +91,10 @@ impl Tree {
     {
         match &self.node {
             Node::Leaf => Summary::empty(),
-            Node::Fork(_, _, summary) => *summary,
+            Node::Fork(cell) => match &**cell {
+                None => Summary::empty(),
+                Some(fork) => fork.summary,
+            },
         }
     }
 
@@ -112,16 +108,20 @@ impl Tree {
     }
 
     /// The tree of one item, with a box that is at hand.
-    pub(crate) fn lone(root: Marked, spare: Box<Sides>) -> Tree
+    pub(crate) fn lone(root: Marked, mut spare: Box<Option<Fork>>) -> Tree
         ensures items { result.items ≡ plain_marked root ∷ [] }
         ensures height { result.height ≡ 1 }
     {
-        Tree::join(Parts {
-            spare,
+        let summary = Summary::lone(&root);
+        *spare = Some(Fork {
             left: Tree::new(),
-            root,
             right: Tree::new(),
-        })
+            root,
+            summary,
+        });
+        Tree {
+            node: Node::Fork(spare),
+        }
     }
 
     /// Takes a tree that has items apart.
@@ -135,15 +135,23 @@ impl Tree {
     {
         match self.node {
             Node::Leaf => unreachable!(),
-            Node::Fork(mut spare, root, _) => {
-                let Sides { left, right } = mem::replace(&mut *spare, Sides::empty());
-                Parts {
-                    spare,
-                    left,
-                    root,
-                    right,
+            Node::Fork(mut spare) => match spare.take() {
+                None => unreachable!(),
+                Some(fork) => {
+                    let Fork {
+                        left,
+                        right,
+                        root,
+                        ..
+                    } = fork;
+                    Parts {
+                        spare,
+                        left,
+                        root,
+                        right,
+                    }
                 }
-            }
+            },
         }
     }
 
@@ -163,9 +171,14 @@ impl Tree {
             right,
         } = parts;
         let summary = summarize(&left, &root, &right);
-        *spare = Sides { left, right };
+        *spare = Some(Fork {
+            left,
+            right,
+            root,
+            summary,
+        });
         Tree {
-            node: Node::Fork(spare, root, summary),
+            node: Node::Fork(spare),
         }
     }
 }

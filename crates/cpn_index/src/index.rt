@@ -16,7 +16,7 @@ use crate::readers::Readers;
 use crate::retiming::retime_all;
 use crate::searching::{add_found_with_each, add_read_otherwise};
 use cpn_core::{EnabledElement, Memory, Net};
-use cpn_search::{Plans, Steps, enabled_of};
+use cpn_search::{Plans, Steps};
 use cpn_tmset::{Change, Changes, Marking};
 use std::alloc::Global;
 use std::sync::ledger::Ledger;
@@ -177,7 +177,7 @@ impl Index {
         let alloc = self.alloc;
         self.plans.renew(alloc, net, t)?;
         self.elements.remove_of(t)?;
-        let found = enabled_of(alloc, net, marking, t)?;
+        let found = self.plans.enabled_of(alloc, net, marking, t)?;
         self.elements.add_all(found)?;
         Ok(())
     }

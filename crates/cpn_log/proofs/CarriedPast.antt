@@ -157,9 +157,9 @@ one_claim i claims old new made on within is taken past = (
     joined (x ∷ ps) p qs = ap (λ rs. x ∷ rs) (joined ps p qs)
 
 -- a claim in range has its time
-pub time_in_range : (i : ℕ) (claims : List Claim) (claim : Claim) → i < length claims → claim ≡ get_or claims i claim → AllByRecursion IsInRange (claim_views claims) → claim.job.value.time ≤ last_time
+pub time_in_range : (i : ℕ) (claims : List Claim) (claim : Claim) → i < length claims → claim ≡ get_or claims i claim → AllByRecursion IsInRange (claim_views claims) → claim.head.time ≤ last_time
 time_in_range i [] claim within is each = absurd (omega arith)
-time_in_range zero (c ∷ claims) claim within is each = subst (λ (k : Claim). k.job.value.time ≤ last_time) (sym is) each.0.in_time
+time_in_range zero (c ∷ claims) claim within is each = subst (λ (k : Claim). k.head.time ≤ last_time) (sym is) each.0.in_time
 time_in_range (suc i) (c ∷ claims) claim within is each = time_in_range i claims claim (omega arith) is each.1
 
 -- ---- output by output

@@ -1,9 +1,7 @@
 -- How a claim stands, by what became of it: a new one stands open, one that is completed stands done or failed, and the next one
 -- to be committed is the one that stands done.
-use Rattle.std.proofs.Common.{◌≡◌, ℕ, ◌+◌, ◌-◌, ◌<◌, Bool, false, IsTrue, ◌↔◌, List, [], ◌∷◌, ◌++◌, map, length, drop, get_or, Some, refl, sym, ap, subst, ◌∙◌, slice_get, arith}
-use Rattle.std.proofs.Math.Seq.{drop-length}
+use Rattle.std.proofs.Common.{◌≡◌, ℕ, ◌+◌, ◌-◌, Bool, false, IsTrue, ◌↔◌, List, [], ◌∷◌, ◌++◌, map, length, Some, refl, sym, ap, subst, ◌∙◌, slice_get, arith}
 use Rattle.std.specs.Option.{option_map}
-use Rattle.std.proofs.lemmas.List.{drop_more}
 use Rattle.std.proofs.lemmas.Option.{same_Some}
 use Rattle.cpn_definitions.specs.Outcome.{Fault}
 use Rattle.cpn_definitions.specs.Occurrence.{PlainElement, Needed, Made}
@@ -36,19 +34,9 @@ next_stands log done is =
         let own = done_status claim.status in
         (λ h. ap Some (own.0 h), λ h. own.1 (same_Some (standing_of claim.status) stands_done h))
 
-module _ (log : Log) where
-  abbrev Stands : Bool → Type 0
-  Stands done = IsTrue done ↔ (slice_get (standings (log_view log)) (length (log_view log).committed) ≡ Some stands_done)
-
-  -- where all claims are committed
-  pub none_stands : log.committed ≡ length log.claims.items → Stands false
-  none_stands all = next_stands (log_view log) false (sym (ap (λ n. begin_done (map claim_view (drop n log.claims.items))) all ∙ ap (λ cs. begin_done (map claim_view cs)) (drop-length log.claims.items)))
-
-  -- and where one is not
-  pub one_stands : (claim : Claim) (done : Bool) → log.committed < length log.claims.items → claim ≡ get_or log.claims.items log.committed claim → is_done (claim_view claim).status ≡ done → Stands done
-  one_stands claim done within is status =
-      let first : drop log.committed log.claims.items ≡ claim ∷ drop (log.committed + 1) log.claims.items = drop_more log.claims.items log.committed claim within ∙ ap (λ c. c ∷ drop (log.committed + 1) log.claims.items) (sym is) in
-      next_stands (log_view log) done (sym (ap (λ cs. begin_done (map claim_view cs)) first ∙ status))
+-- so one that isn't done waits
+pub next_waits : (log : Log) (claim : Claim) (rest : List Claim) → log.claims.items ≡ claim ∷ rest → is_done (claim_view claim).status ≡ false → IsTrue false ↔ (slice_get (standings (log_view log)) (length (log_view log).committed) ≡ Some stands_done)
+next_waits log claim rest is waits = next_stands (log_view log) false (sym (ap (λ cs. begin_done (map claim_view cs)) is ∙ waits))
 
 -- ---- a new one, and one that is completed
 

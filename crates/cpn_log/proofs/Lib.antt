@@ -1,7 +1,9 @@
 mod ChangeOrder
 mod EachOnce
 mod ToldItems
-mod ToldExchanges
+mod PutBackTokens
+mod DifferingTokens
+mod ExchangedStamps
 mod StampLists
 mod TouchedStamps
 pub mod LeftMarkings
@@ -9,6 +11,7 @@ mod CopiedTokens
 mod KeptLogs
 mod StatusStandings
 mod LogParts
+pub mod JobNumbers
 mod LogSteps
 mod CarriedPast
 mod TakenPicks

@@ -1,30 +1,28 @@
 -- What the calls of a log do to the plain log that it stands for.
-use Rattle.std.proofs.Common.{◌≡◌, ℕ, suc, ◌+◌, ◌-◌, ◌<◌, ◌≤◌, true, cond, List, [], ◌∷◌, ◌++◌, map, length, take, drop, get_or, refl, sym, ap, subst, ◌∙◌, arith}
-use Rattle.std.proofs.Math.ListN.{set}
+use Rattle.std.proofs.Common.{◌≡◌, ℕ, ◌+◌, ◌-◌, ◌<◌, ◌≤◌, true, cond, List, [], ◌∷◌, ◌++◌, map, length, take, drop, refl, sym, ap, subst, ◌∙◌, arith}
 use Rattle.std.proofs.Math.Path.{ap₂}
-use Rattle.std.proofs.Math.Seq.{drop-length, take-length}
-use Rattle.std.proofs.lemmas.List.{take_all, map-append, take-append-drop, length-append, length-map, length-take-le, take-append-le, drop-append-le, take-map, drop-map, take_more_set, drop-set-lt, drop_more, length-drop, drop-take, take-take, drop-drop}
+use Rattle.std.proofs.Math.Seq.{take-length}
+use Rattle.std.proofs.lemmas.List.{map-append, length-append, length-map, length-take-le, take-append-le, take-map, length-drop}
 use Rattle.std.proofs.lemmas.Option.{slice_get_within}
 use Rattle.std.proofs.lemmas.Slice.{take-put_mid}
 use borrow.Rule.Slice.PartMut.{put_mid}
 use Rattle.cpn_definitions.specs.Marking.{Marking}
 use Rattle.cpn_definitions.specs.Lists.{IsInOrder}
-use Rattle.cpn_definitions.specs.Occurrence.{Needed, Made, needed_cmp, threshold, are_covered, subtract}
+use Rattle.cpn_definitions.specs.Occurrence.{PlainElement, Needed, Made, needed_cmp, threshold, are_covered, subtract}
 use Rattle.cpn_definitions.specs.Times.{last_time}
 use Rattle.cpn_definitions.proofs.ListItems.{map_more}
-use Rattle.cpn_core.specs.Elements.{element_view}
 use Rattle.cpn_runs.specs.Bounds.{most_steps}
 use Rattle.cpn_runs.specs.HoleRun.{PlainClaim, PlainPick, done_with, added, after_claim, picks_of, is_done}
 use Rattle.cpn_log.specs.Logs.{PlainHead, PlainLog, claims_made, head_of, opened, with_committed, with_occurred, next_committed, next_committed_of}
 use Rattle.cpn_log.specs.Kept.{IsKept}
 use Rattle.cpn_log.specs.Exchanges.{exchanged, after_claims}
-use Rattle.cpn_log.specs.ClaimViews.{claim_view, head_view, status_view, taken_view}
+use Rattle.cpn_log.specs.ClaimViews.{claim_view, head_view, taken_view}
 use Rattle.cpn_log.specs.LogViews.{log_view}
 use Rattle.cpn_log.specs.declared.claims.Claim.{Claim}
-use Rattle.cpn_log.specs.declared.claims.Course.TheVariants as courses
+use Rattle.cpn_log.specs.declared.claims.Head.{Head}
 use Rattle.cpn_log.specs.declared.logs.Log.{Log}
 use Rattle.cpn_log.proofs.KeptLogs.{with_one_more, kept_with_one_more, with_cut, kept_with_cut}
-use Rattle.cpn_log.proofs.LogParts.{committed_is, behind_is, IsOpen}
+use Rattle.cpn_log.proofs.LogParts.{IsOpen}
 
 -- logs with the same parts are the same
 pub same_log : (a b : PlainLog) → a.committed ≡ b.committed → a.settled ≡ b.settled → a.claims ≡ b.claims → a.picks ≡ b.picks → a.unclaimed ≡ b.unclaimed → a ≡ b
@@ -38,189 +36,109 @@ same_log a b committed settled claims picks unclaimed =
 pub kept_alike : (a b : PlainLog) → a.committed ≡ b.committed → a.settled ≡ b.settled → a.claims ≡ b.claims → a.picks ≡ b.picks → a.unclaimed ≡ b.unclaimed → IsKept b → IsKept a
 kept_alike a b committed settled claims picks unclaimed kept = subst IsKept (sym (same_log a b committed settled claims picks unclaimed)) kept
 
--- ---- one more claim
-
-pub more_committed : (k : ℕ) (cs : List Claim) (c : Claim) → k ≤ length cs → map head_view (take k (cs ++ c ∷ [])) ≡ map head_view (take k cs)
-more_committed k cs c within = ap (map head_view) (take-append-le k cs (c ∷ []) within)
-
-pub more_claims : (k : ℕ) (cs : List Claim) (c : Claim) → k ≤ length cs → map claim_view (drop k (cs ++ c ∷ [])) ≡ map claim_view (drop k cs) ++ claim_view c ∷ []
-more_claims k cs c within = ap (map claim_view) (drop-append-le k cs (c ∷ []) within) ∙ map_more claim_view (drop k cs) c
-
-pub more_picks : (k : ℕ) (cs : List Claim) (c : Claim) → k ≤ length cs → map taken_view (drop k (cs ++ c ∷ [])) ≡ map taken_view (drop k cs) ++ taken_view c ∷ []
-more_picks k cs c within = ap (map taken_view) (drop-append-le k cs (c ∷ []) within) ∙ map_more taken_view (drop k cs) c
+-- the plain log of committed claims and of those behind them
+abbrev pub seen : List Head → List Claim → Marking → Marking → PlainLog
+seen hs cs settled unclaimed = record { committed = map head_view hs; settled = settled; claims = map claim_view cs; picks = map taken_view cs; unclaimed = unclaimed }
 
 -- ---- the next claim is committed
 
 -- What a claim that is done hands out.
-pub record HandsOut (claim : Claim) (needs : List Needed) (time : ℕ) (outputs : List Made) : Type 0 where
+pub record HandsOut (claim : Claim) (head : Head) (needs : List Needed) (time : ℕ) (outputs : List Made) : Type 0 where
+  pub head_is : head ≡ claim.head
   pub needs_are : needs ≡ claim.needs
-  pub time_is : time ≡ claim.job.value.time
+  pub time_is : time ≡ claim.head.time
   pub status_is : (claim_view claim).status ≡ done_with outputs
 
--- the plain log of claims of which so many are committed
-abbrev pub seen : ℕ → List Claim → Marking → Marking → PlainLog
-seen k cs settled unclaimed = record { committed = map head_view (take k cs); settled = settled; claims = map claim_view (drop k cs); picks = map taken_view (drop k cs); unclaimed = unclaimed }
-
 pub next_is
-    : (k : ℕ) (cs : List Claim) (old new : Claim) (settled later unclaimed left : Marking) (needs : List Needed) (time : ℕ) (outputs : List Made)
-    → k < length cs
-    → old ≡ get_or cs k old
-    → head_view new ≡ head_view old
-    → HandsOut old needs time outputs
+    : (hs : List Head) (cs : List Claim) (claim : Claim) (rest : List Claim) (head : Head) (settled later unclaimed left : Marking) (needs : List Needed) (time : ℕ) (outputs : List Made)
+    → cs ≡ claim ∷ rest
+    → HandsOut claim head needs time outputs
     → later ≡ exchanged needs time outputs settled
     → left ≡ unclaimed
-    → seen (k + 1) (set cs k new) later left ≡ next_committed (seen k cs settled unclaimed)
-next_is k cs old new settled later unclaimed left needs time outputs within is head out leads same =
-    same_log (seen (k + 1) (set cs k new) later left) (with_committed (seen k cs settled unclaimed) (claim_view old) behind)
-    (ap (map head_view) (take_more_set cs k new within) ∙ map_more head_view (take k cs) new ∙ ap (λ h. map head_view (take k cs) ++ h ∷ []) head)
-    (leads ∙ ap₂ (λ ns t. exchanged ns t outputs settled) out.needs_are out.time_is ∙ ap (λ s. exchanged old.needs old.job.value.time (added s) settled) (sym out.status_is))
-    (ap (map claim_view) (drop-set-lt (k + 1) cs k new (omega arith)))
-    (ap (map taken_view) (drop-set-lt (k + 1) cs k new (omega arith)) ∙ sym (ap (λ xs. drop 1 (map taken_view xs)) rest))
+    → seen (hs ++ head ∷ []) rest later left ≡ next_committed (seen hs cs settled unclaimed)
+next_is hs cs claim rest head settled later unclaimed left needs time outputs is out leads same =
+    same_log (seen (hs ++ head ∷ []) rest later left) next
+    (map_more head_view hs head ∙ ap (λ h. map head_view hs ++ head_view h ∷ []) out.head_is)
+    (leads ∙ ap₂ (λ ns t. exchanged ns t outputs settled) out.needs_are out.time_is ∙ ap (λ s. exchanged claim.needs claim.head.time (added s) settled) (sym out.status_is))
+    refl
+    (sym (ap (λ xs. drop 1 (map taken_view xs)) is))
     same
-    ∙ sym (ap (λ s. cond (is_done s) (with_committed (seen k cs settled unclaimed) (claim_view old) behind) (seen k cs settled unclaimed)) out.status_is)
-    ∙ sym (ap (next_committed_of (seen k cs settled unclaimed)) first)
+    ∙ sym (ap (λ s. cond (is_done s) next log) out.status_is)
+    ∙ sym (ap (λ xs. next_committed_of log (map claim_view xs)) is)
   where
-    behind : List PlainClaim
-    behind = map claim_view (drop (k + 1) cs)
+    log : PlainLog
+    log = seen hs cs settled unclaimed
 
-    rest : drop k cs ≡ old ∷ drop (k + 1) cs
-    rest = drop_more cs k old within ∙ ap (λ c. c ∷ drop (k + 1) cs) (sym is)
-
-    first : map claim_view (drop k cs) ≡ claim_view old ∷ behind
-    first = ap (map claim_view) rest
+    next : PlainLog
+    next = with_committed log (claim_view claim) (map claim_view rest)
 
 -- ---- one more claim, done and committed
 
 -- where all claims are committed, none stands behind them
-pub all_in : (log : Log) → (log_view log).claims ≡ [] → length log.claims.items ≤ log.committed
-all_in log all =
-    let behind = behind_is log in
-    let none : length (log_view log).claims ≡ 0 = ap (λ (cs : List PlainClaim). length cs) all in
-    omega (arith, behind, none)
+pub none_behind : (cs : List Claim) → map claim_view cs ≡ [] → cs ≡ []
+none_behind [] all = refl
+none_behind (c ∷ cs) all = cc
 
 pub occurred_is
-    : (log : Log) (claim : Claim) (items : List Claim) (k : ℕ) (left settled : Marking) (done : PlainClaim)
+    : (log : Log) (head : Head) (items : List Head) (left settled : Marking) (done : PlainClaim)
     → (log_view log).claims ≡ []
-    → items ≡ log.claims.items ++ claim ∷ []
-    → k ≡ length items
-    → head_view claim ≡ head_of done
+    → items ≡ log.heads.items ++ head ∷ []
+    → head_view head ≡ head_of done
     → left ≡ after_claim done (log_view log).settled
     → settled ≡ after_claim done (log_view log).settled
-    → seen k items settled left ≡ with_occurred (log_view log) done
-occurred_is log claim items k left settled done all is count head left_is settled_is =
-    same_log (seen k items settled left) (with_occurred (log_view log) done)
-    (ap (λ n. map head_view (take n items)) count ∙ ap (map head_view) (take-length items ∙ is) ∙ map_more head_view log.claims.items claim
-    ∙ ap₂ (λ hs h. hs ++ h ∷ []) (sym (ap (map head_view) (take_all log.committed log.claims.items (all_in log all)))) head)
-    settled_is
-    (ap (λ n. map claim_view (drop n items)) count ∙ ap (map claim_view) (drop-length items))
-    (ap (λ n. map taken_view (drop n items)) count ∙ ap (map taken_view) (drop-length items))
-    left_is
+    → seen items log.claims.items settled left ≡ with_occurred (log_view log) done
+occurred_is log head items left settled done all is head_is left_is settled_is =
+    same_log (seen items log.claims.items settled left) (with_occurred (log_view log) done)
+    (ap (map head_view) is ∙ map_more head_view log.heads.items head ∙ ap (λ h. (log_view log).committed ++ h ∷ []) head_is)
+    settled_is all (ap (map taken_view) (none_behind log.claims.items all)) left_is
 
--- ---- some of the claims behind
+-- ---- an open claim
 
-pub range_is : (log : Log) (position : ℕ) (items : List Claim) → items ≡ log.claims.items → take (position - length (log_view log).committed) (log_view log).claims ≡ map claim_view (take (position - log.committed) (drop log.committed items))
-range_is log position items is =
-    ap (λ n. take (position - n) (log_view log).claims) (committed_is log log.within) ∙ take-map claim_view (position - log.committed) (drop log.committed log.claims.items)
-    ∙ ap (λ cs. map claim_view (take (position - log.committed) (drop log.committed cs))) (sym is)
-
--- those from a position on
-pub rest_is : (log : Log) (position : ℕ) → length (log_view log).committed ≤ position → drop (position - length (log_view log).committed) (log_view log).claims ≡ map claim_view (drop position log.claims.items)
-rest_is log position behind =
-    let committed = committed_is log log.within in
-    let at : log.committed + (position - length (log_view log).committed) ≡ position = omega (arith, committed, behind) in
-    drop-map claim_view (position - length (log_view log).committed) (drop log.committed log.claims.items)
-    ∙ ap (map claim_view) (drop-drop (position - length (log_view log).committed) log.committed log.claims.items ∙ ap (λ n. drop n log.claims.items) at)
-
--- the claims that are left of a cut
-pub cut_claims : (log : Log) (position : ℕ) (items : List Claim) → length (log_view log).committed ≤ position → items ≡ take position log.claims.items → map claim_view (drop log.committed items) ≡ take (position - length (log_view log).committed) (log_view log).claims
-cut_claims log position items behind is =
-    let committed = committed_is log log.within in
-    let at : position ≡ log.committed + (position - log.committed) = omega (arith, committed, behind) in
-    ap (λ cs. map claim_view (drop log.committed cs)) (is ∙ ap (λ n. take n log.claims.items) at)
-    ∙ ap (map claim_view) (drop-take log.committed (position - log.committed) log.claims.items)
-    ∙ sym (range_is log position log.claims.items refl)
-
--- and what they took
-pub cut_picks : (log : Log) (position : ℕ) (items : List Claim) → length (log_view log).committed ≤ position → items ≡ take position log.claims.items → map taken_view (drop log.committed items) ≡ take (position - length (log_view log).committed) (log_view log).picks
-cut_picks log position items behind is =
-    let committed = committed_is log log.within in
-    let at : position ≡ log.committed + (position - log.committed) = omega (arith, committed, behind) in
-    ap (λ cs. map taken_view (drop log.committed cs)) (is ∙ ap (λ n. take n log.claims.items) at)
-    ∙ ap (map taken_view) (drop-take log.committed (position - log.committed) log.claims.items)
-    ∙ sym (take-map taken_view (position - log.committed) (drop log.committed log.claims.items))
-    ∙ ap (λ n. take (position - n) (log_view log).picks) (sym committed)
-
-pub cut_heads : (log : Log) (position : ℕ) (items : List Claim) → length (log_view log).committed ≤ position → items ≡ take position log.claims.items → map head_view (take log.committed items) ≡ (log_view log).committed
-cut_heads log position items behind is =
-    let committed = committed_is log log.within in
-    ap (λ cs. map head_view (take log.committed cs)) is ∙ ap (map head_view) (take-take log.committed position log.claims.items (omega (arith, committed, behind)))
-
--- an open claim is one of the log's
-pub open_within : (log : Log) (number : ℕ) → IsOpen (log_view log) number → number < length log.claims.items
-open_within log number o =
-    let within = slice_get_within (log_view log).claims (number - length (log_view log).committed) o.claim o.is in
-    let committed = committed_is log log.within in
-    let behind = behind_is log in
-    let low = o.behind in
-    omega (arith, within, committed, behind, low)
+-- it is one of those behind the committed part
+pub open_within : (log : PlainLog) (number : ℕ) → IsOpen log number → number - length log.committed < length log.claims
+open_within log number o = slice_get_within log.claims (number - length log.committed) o.claim o.is
 
 -- ---- one more claim keeps the log
 
 pub kept_pushed
-    : (log : Log) (claim : Claim) (items : List Claim) (settled left : Marking)
-    → claim.course ≡ courses.Open
+    : (log : Log) (hs : List Head) (claim : Claim) (items : List Claim) (settled left : Marking) (seat : ℕ) (element : PlainElement) (time : ℕ) (needs : List Needed)
+    → hs ≡ log.heads.items
+    → claim_view claim ≡ opened seat element time needs
     → items ≡ log.claims.items ++ claim ∷ []
     → settled ≡ (log_view log).settled
-    → taken_view claim ≡ picks_of claim.job.value.time claim.needs (log_view log).unclaimed
-    → left ≡ subtract (threshold claim.job.value.time) claim.needs (log_view log).unclaimed
+    → taken_view claim ≡ picks_of time needs (log_view log).unclaimed
+    → left ≡ subtract (threshold time) needs (log_view log).unclaimed
     → IsKept (log_view log)
     → claims_made (log_view log) < most_steps
-    → claim.job.value.time ≤ last_time
-    → IsInOrder needed_cmp claim.needs
-    → are_covered (threshold claim.job.value.time) (log_view log).unclaimed claim.needs ≡ true
-    → IsKept (seen log.committed items settled left)
-kept_pushed log claim items settled left is_open is settled_is taken_is left_is kept room early ordered all =
-    let element = element_view claim.job.value.element.value in
-    let time = claim.job.value.time in
-    let made : claim_view claim ≡ opened claim.seat element time claim.needs = ap (λ course. record { seat = claim.seat; element = element; time = time; needs = claim.needs; status = status_view course }) is_open in
-    kept_alike (seen log.committed items settled left) (with_one_more (log_view log) (opened claim.seat element time claim.needs))
-    (ap (λ cs. map head_view (take log.committed cs)) is ∙ more_committed log.committed log.claims.items claim log.within) settled_is
-    (ap (λ cs. map claim_view (drop log.committed cs)) is ∙ more_claims log.committed log.claims.items claim log.within ∙ ap (λ k. (log_view log).claims ++ k ∷ []) made)
-    (ap (λ cs. map taken_view (drop log.committed cs)) is ∙ more_picks log.committed log.claims.items claim log.within ∙ ap (λ ps. (log_view log).picks ++ ps ∷ []) taken_is)
+    → time ≤ last_time
+    → IsInOrder needed_cmp needs
+    → are_covered (threshold time) (log_view log).unclaimed needs ≡ true
+    → IsKept (seen hs items settled left)
+kept_pushed log hs claim items settled left seat element time needs same made is settled_is taken_is left_is kept room early ordered all =
+    kept_alike (seen hs items settled left) (with_one_more (log_view log) (opened seat element time needs))
+    (ap (map head_view) same) settled_is
+    (ap (map claim_view) is ∙ map_more claim_view log.claims.items claim ∙ ap (λ k. (log_view log).claims ++ k ∷ []) made)
+    (ap (map taken_view) is ∙ map_more taken_view log.claims.items claim ∙ ap (λ ps. (log_view log).picks ++ ps ∷ []) taken_is)
     left_is
-    (kept_with_one_more (log_view log) claim.seat element time claim.needs kept room early ordered all)
+    (kept_with_one_more (log_view log) seat element time needs kept room early ordered all)
 
 -- ---- a cut keeps the log
 
-pub kept_cut : (log : Log) (position : ℕ) (items : List Claim) (settled left : Marking) → length (log_view log).committed ≤ position → position ≤ claims_made (log_view log) → items ≡ take position log.claims.items
-    → settled ≡ (log_view log).settled → left ≡ after_claims (take (position - length (log_view log).committed) (log_view log).claims) (log_view log).settled → IsKept (log_view log) → IsKept (seen log.committed items settled left)
-kept_cut log position items settled left behind within is settled_is left_is kept =
-    let n = position - length (log_view log).committed in
-    kept_alike (seen log.committed items settled left) (with_cut (log_view log) n)
-    (cut_heads log position items behind is) settled_is (cut_claims log position items behind is) (cut_picks log position items behind is) left_is
-    (kept_with_cut (log_view log) n kept (omega (arith, within)))
+pub kept_cut : (log : Log) (position : ℕ) (items : List Claim) (settled left : Marking) → position ≤ length (log_view log).claims → items ≡ take position log.claims.items
+    → settled ≡ (log_view log).settled → left ≡ after_claims (take position (log_view log).claims) (log_view log).settled → IsKept (log_view log) → IsKept (seen log.heads.items items settled left)
+kept_cut log position items settled left within is settled_is left_is kept =
+    kept_alike (seen log.heads.items items settled left) (with_cut (log_view log) position)
+    refl settled_is
+    (ap (map claim_view) is ∙ sym (take-map claim_view position log.claims.items))
+    (ap (map taken_view) is ∙ sym (take-map taken_view position log.claims.items))
+    left_is
+    (kept_with_cut (log_view log) position kept within)
 
 -- the whole rest of a list
-pub whole_rest : (n : ℕ) (cs : List Claim) → take (length cs - n) (drop n cs) ≡ drop n cs
+pub whole_rest : {X : Type 0} (n : ℕ) (cs : List X) → take (length cs - n) (drop n cs) ≡ drop n cs
 whole_rest n cs = ap (λ (k : ℕ). take k (drop n cs)) (sym (length-drop n cs)) ∙ take-length (drop n cs)
 
 -- ---- claims that are changed behind a position
-
--- what is seen of them alike
-pub seen_alike : {X Y : Type 0} (f : X → Y) (n : ℕ) (xs ys : List X) → map f ys ≡ map f (drop n xs) → map f (take n xs ++ ys) ≡ map f xs
-seen_alike f n xs ys same =
-    map-append f (take n xs) ys ∙ ap (λ zs. map f (take n xs) ++ zs) same ∙ sym (map-append f (take n xs) (drop n xs)) ∙ ap (map f) (take-append-drop n xs)
-
--- what they took: those up to the position the same
-pub picks_ahead : (k place n : ℕ) (cs later : List Claim) → n ≡ k + suc place → n ≤ length cs → map taken_view (drop k (take n cs ++ later)) ≡ take (suc place) (map taken_view (drop k cs)) ++ map taken_view later
-picks_ahead k place n cs later is within =
-    let long : length (take n cs) ≡ n = length-take-le n cs within in
-    ap (map taken_view) (drop-append-le k (take n cs) later (omega (arith, long, is))) ∙ map-append taken_view (drop k (take n cs)) later
-    ∙ ap (λ xs. xs ++ map taken_view later) (ap (λ m. map taken_view (drop k (take m cs))) is ∙ ap (map taken_view) (drop-take k (suc place) cs) ∙ sym (take-map taken_view (suc place) (drop k cs)))
-
--- and those behind it
-pub picks_from : (k place n : ℕ) (cs : List Claim) → n ≡ k + suc place → map taken_view (drop n cs) ≡ drop (suc place) (map taken_view (drop k cs))
-picks_from k place n cs is = ap (λ m. map taken_view (drop m cs)) is ∙ sym (drop-map taken_view (suc place) (drop k cs) ∙ ap (map taken_view) (drop-drop (suc place) k cs))
 
 -- the claims with those behind a position changed
 pub behind_put : (n len : ℕ) (xs ys : List Claim) → n ≤ length xs → length ys ≡ length xs - n → len ≡ length xs → take len (put_mid n (length xs - n) xs ys ++ drop (length (put_mid n (length xs - n) xs ys)) xs) ≡ take n xs ++ ys
@@ -231,13 +149,10 @@ behind_put n len xs ys within long is =
     = sym (length-append (take n xs) (ys ++ drop (length xs - n) (drop n xs)) ∙ ap (λ (k : ℕ). length (take n xs) + k) (length-append ys (drop (length xs - n) (drop n xs)))) in
     take-append-le len put (drop (length put) xs) (omega (arith, first, all, long, is, within)) ∙ take-put_mid n (length xs - n) xs ys len (omega (arith, long, is, within)) within
 
--- the claims of a log, of which those behind a position are others that say the same
+-- the claims behind the committed ones, of which those behind a position are others that say the same
 module _
-    (log : Log) (position len : ℕ) (held ys : List Claim) (is : held ≡ log.claims.items) (within : position < length log.claims.items) (all : len ≡ length log.claims.items)
+    (items : List Claim) (position len : ℕ) (held ys : List Claim) (is : held ≡ items) (within : position < length items) (all : len ≡ length items)
     (same : map claim_view ys ≡ map claim_view (take (length held - (position + 1)) (drop (position + 1) held))) where
-  abbrev items : List Claim
-  items = log.claims.items
-
   abbrev n : ℕ
   n = position + 1
 
@@ -256,12 +171,5 @@ module _
   pub items_now : now held ≡ take n items ++ ys
   items_now = ap now is ∙ behind_put n len items ys (omega (arith, within)) long all
 
-  pub claims_now : map claim_view (drop log.committed (now held)) ≡ map claim_view (drop log.committed items)
-  claims_now =
-      ap (λ xs. map claim_view (drop log.committed xs)) items_now ∙ sym (drop-map claim_view log.committed (take n items ++ ys))
-      ∙ ap (drop log.committed) (seen_alike claim_view n items ys same_too) ∙ drop-map claim_view log.committed items
-
-  pub picks_now : (place : ℕ) (later : List (List PlainPick)) → position ≡ log.committed + place → map taken_view ys ≡ later → map taken_view (drop log.committed (now held)) ≡ take (suc place) (map taken_view (drop log.committed items)) ++ later
-  picks_now place later at taken =
-      ap (λ xs. map taken_view (drop log.committed xs)) items_now ∙ picks_ahead log.committed place n items ys (omega (arith, at)) (omega (arith, within))
-      ∙ ap (λ ps. take (suc place) (map taken_view (drop log.committed items)) ++ ps) taken
+  pub picks_now : (later : List (List PlainPick)) → map taken_view ys ≡ later → map taken_view (now held) ≡ take n (map taken_view items) ++ later
+  picks_now later taken = ap (map taken_view) items_now ∙ map-append taken_view (take n items) ys ∙ ap₂ (λ (ps qs : List (List PlainPick)). ps ++ qs) (sym (take-map taken_view n items)) taken

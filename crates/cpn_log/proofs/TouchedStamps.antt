@@ -1,5 +1,5 @@
 -- The stamps of a value on a place change only by needs and outputs for it.
-use Rattle.std.proofs.Common.{◌≡◌, ℕ, ◌+◌, ◌<◌, ◌≤◌, ◌==◌, Bool, true, false, ◌||◌, cond, not, List, [], ◌∷◌, ◌++◌, map, length, refl, sym, ap, subst, ◌∙◌, ⊎_elim, arith, eqb-true, nat_cmp}
+use Rattle.std.proofs.Common.{◌≡◌, ℕ, ◌+◌, ◌<◌, ◌≤◌, ◌==◌, Bool, true, false, ◌||◌, cond, not, List, [], ◌∷◌, map, length, refl, sym, ap, subst, ◌∙◌, ⊎_elim, arith, eqb-true, nat_cmp}
 use Rattle.std.specs.List.{AllByRecursion, filter}
 use Rattle.std.proofs.lemmas.Bool.{and_parts, cases_lt, or_parts}
 use Rattle.cpn_definitions.specs.Value.{PlainValue}
@@ -40,13 +40,13 @@ some_needed latest p v (need ∷ needs) h = split (λ g. some_needed latest p v 
     split rest true g = omega arith
     split rest false g = rest g
 
-none_made : (p : ℕ) (v : PlainValue) (outputs : List Made) → is_told p v (map made_change outputs) ≡ false → stamps_for p v outputs ≡ []
+pub none_made : (p : ℕ) (v : PlainValue) (outputs : List Made) → is_told p v (map made_change outputs) ≡ false → stamps_for p v outputs ≡ []
 none_made p v [] h = refl
 none_made p v (made ∷ outputs) h =
     let parts = or_parts (is_made_for p v made) (is_told p v (map made_change outputs)) h in
     ap (λ b. map (λ (k : Made). k.stamp) (cond b (made ∷ filter (is_made_for p v) outputs) (filter (is_made_for p v) outputs))) parts.0 ∙ none_made p v outputs parts.1
 
-some_made : (p : ℕ) (v : PlainValue) (outputs : List Made) → is_told p v (map made_change outputs) ≡ true → 0 < length (stamps_for p v outputs)
+pub some_made : (p : ℕ) (v : PlainValue) (outputs : List Made) → is_told p v (map made_change outputs) ≡ true → 0 < length (stamps_for p v outputs)
 some_made p v [] h = cc
 some_made p v (made ∷ outputs) h = split (λ g. some_made p v outputs g) (is_made_for p v made) h
   where
@@ -55,7 +55,7 @@ some_made p v (made ∷ outputs) h = split (λ g. some_made p v outputs g) (is_m
     split rest false g = rest g
 
 -- a place that is told is one of the marking, where all are
-told_within : (p : ℕ) (v : PlainValue) (cs : List PlainChange) (number : ℕ) → AllByRecursion (λ c. c.place < number) cs → is_told p v cs ≡ true → p < number
+pub told_within : (p : ℕ) (v : PlainValue) (cs : List PlainChange) (number : ℕ) → AllByRecursion (λ c. c.place < number) cs → is_told p v cs ≡ true → p < number
 told_within p v [] number each h = cc
 told_within p v (c ∷ cs) number each h = split (λ g. told_within p v cs number each.1 g) (is_change p v c) refl h
   where

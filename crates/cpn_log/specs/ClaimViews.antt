@@ -1,5 +1,5 @@
 -- The plain claims that those of the log stand for.
-use Rattle.std.specs.Prelude.{ℕ, List, [], ◌∷◌, map, Option, Some, None, slice_get, slice_set}
+use Rattle.std.specs.Prelude.{ℕ, List, [], ◌∷◌, map}
 use Rattle.cpn_definitions.specs.Occurrence.{threshold}
 use Rattle.cpn_definitions.specs.Occurrence as plain
 use Rattle.cpn_core.specs.Elements.{element_view}
@@ -11,6 +11,7 @@ use Rattle.cpn_jobs.specs.declared.work.Job.{Job}
 use Rattle.cpn_log.specs.Logs.{PlainHead}
 use Rattle.cpn_log.specs.declared.claims.Claim.{Claim}
 use Rattle.cpn_log.specs.declared.claims.Course.{Course}
+use Rattle.cpn_log.specs.declared.claims.Head.{Head}
 use Rattle.cpn_log.specs.declared.claims.Course.TheVariants as courses
 
 abbrev pub status_view : Course → Status
@@ -20,9 +21,9 @@ status_view (courses.Failed fault) = faulted_with (fault_view fault)
 
 abbrev pub claim_view : Claim → PlainClaim
 claim_view claim = record {
-  seat = claim.seat;
-  element = element_view claim.job.value.element.value;
-  time = claim.job.value.time;
+  seat = claim.head.seat;
+  element = element_view claim.head.element.value;
+  time = claim.head.time;
   needs = claim.needs;
   status = status_view claim.course;
 }
@@ -46,21 +47,17 @@ with_stamp stamp made = record (made_view made) { stamp = stamp }
 
 -- what a claim took
 abbrev pub taken_view : Claim → List PlainPick
-taken_view claim = picked_with claim.job.value.time claim.needs claim.stamps.items
+taken_view claim = picked_with claim.head.time claim.needs claim.stamps.items
 
 abbrev pub taken_views : List Claim → List (List PlainPick)
 taken_views claims = map taken_view claims
 
-abbrev pub head_view : Claim → PlainHead
-head_view claim = record { seat = claim.seat; element = element_view claim.job.value.element.value; time = claim.job.value.time }
+abbrev pub head_view : Head → PlainHead
+head_view head = record { seat = head.seat; element = element_view head.element.value; time = head.time }
 
-abbrev pub changed_course : Course → ℕ → List Claim → Option Claim → List Claim
-changed_course course position claims None = claims
-changed_course course position claims (Some claim) = slice_set claims position (record claim { course = course })
-
--- the claims, of which that at a position has another course
-abbrev pub with_course : Course → ℕ → List Claim → List Claim
-with_course course position claims = changed_course course position claims (slice_get claims position)
+-- what a claim of a seat on a job says
+abbrev pub head_for : ℕ → Job → PlainHead
+head_for seat job = record { seat = seat; element = element_view job.element.value; time = job.time }
 
 -- the job of each claim
 abbrev pub jobs_of : List Claim → List Job

@@ -1,9 +1,10 @@
--- How changes are gathered: those of needs, of outputs, and of all that claims take and add; each once. Source: own choice.
-use Rattle.std.specs.Prelude.{◌≡◌, ℕ, ◌==◌, Bool, true, false, ◌&&◌, not, if◌then◌else◌, List, [], ◌∷◌, ◌++◌, map}
-use Rattle.std.specs.List.{AllByRecursion}
+-- How changes are gathered: those of needs, of outputs, of an exchange, and of all that claims take and add; each once. Source: own choice.
+use Rattle.std.specs.Prelude.{ℕ, ◌==◌, Bool, true, false, ◌&&◌, not, if◌then◌else◌, List, [], ◌∷◌, ◌++◌, map}
+use Rattle.std.specs.declared.cmp.Ordering.{Ordering}
+use Rattle.std.specs.declared.cmp.Ordering.TheVariants.{Less, Equal, Greater}
 use Rattle.cpn_definitions.specs.Marking.{Marking, tokens_at, stamps}
-use Rattle.cpn_definitions.specs.Occurrence.{Needed, Made}
-use Rattle.cpn_tmset.specs.Changed.{PlainChange, is_change, is_told}
+use Rattle.cpn_definitions.specs.Occurrence.{Needed, Made, made_cmp}
+use Rattle.cpn_tmset.specs.Changed.{PlainChange, is_change}
 use Rattle.cpn_runs.specs.HoleRun.{PlainClaim, added}
 
 -- whether they are the same place and value
@@ -55,6 +56,26 @@ abbrev pub touched : List PlainClaim → List PlainChange
 touched [] = []
 touched (claim ∷ claims) = touched_by claim ++ touched claims
 
--- each of the items is told
-abbrev pub AreTold : List PlainChange → List PlainChange → Type 0
-AreTold items told = AllByRecursion (λ item. is_told item.place item.value told ≡ true) items
+-- the token that a need took, with its stamp
+abbrev pub token_taken : Needed → ℕ → Made
+token_taken need stamp = record { place = need.place; value = need.value; stamp = stamp }
+
+-- the tokens that needs took with these stamps, one after another
+abbrev pub tokens_taken : List Needed → List ℕ → List Made
+tokens_taken [] stamps = []
+tokens_taken (need ∷ needs) [] = []
+tokens_taken (need ∷ needs) (stamp ∷ stamps) = token_taken need stamp ∷ tokens_taken needs stamps
+
+-- the first, the second or the third, as two items compare
+abbrev pub as_compared : {X : Type 0} → Ordering → X → X → X → X
+as_compared Less below equal above = below
+as_compared Equal below equal above = equal
+as_compared Greater below equal above = above
+
+-- Differing: the places and values of the tokens that stand in one of two lists in order and not in the other: a token that was taken
+-- and one that is put in, which are equal, go out against each other.
+abbrev pub differing : List Made → List Made → List PlainChange
+differing [] outputs = map made_change outputs
+differing (token ∷ taken) [] = map made_change (token ∷ taken)
+differing (token ∷ taken) (made ∷ outputs) =
+    as_compared (made_cmp token made) (made_change token ∷ differing taken (made ∷ outputs)) (differing taken outputs) (made_change made ∷ differing (token ∷ taken) outputs)

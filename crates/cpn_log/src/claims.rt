@@ -1,6 +1,6 @@
 //! What the log keeps of a claim.
 
-ghost use Rattle.std.specs.Prelude.{◌≡◌, ◌≤◌, [], length, false, MatchOption, OnOk};
+ghost use Rattle.std.specs.Prelude.{◌≡◌, ◌≤◌, length, false, IfErr, IfOk, OnErr, OnOk};
 ghost use Rattle.cpn_definitions.specs.Times.{last_time};
 ghost use Rattle.cpn_core.specs.NeedsViews.{needed_view};
 ghost use Rattle.cpn_tmset.specs.Limits.{HaveRoomFor};
@@ -8,17 +8,36 @@ ghost use Rattle.cpn_runs.specs.HoleRun.{added, after_claim, done_with, is_done}
 ghost use Rattle.cpn_log.specs.Logs.{standing_of};
 ghost use Rattle.cpn_log.specs.States.{state_view};
 ghost use Rattle.cpn_runs.specs.Filling.{claim_after, past_claim, past_pick, pick_after};
-ghost use Rattle.cpn_log.specs.ClaimViews.{claim_view, head_view, pick_with, picked_with, taken_view, with_stamp};
+ghost use Rattle.cpn_log.specs.ClaimViews.{claim_view, head_for, head_view, pick_with, picked_with, taken_view, with_stamp};
 
 use crate::settled::Exchange;
 use crate::states::ClaimState;
 use crate::tokens::add_copies;
-use cpn_core::{EvalFault, Made, Memory, Needed, Needs, Outputs};
+use cpn_core::{Element, EvalFault, Made, Memory, Needed, Needs, Outputs};
 use cpn_jobs::Job;
 use cpn_tmset::{Marking, carry_past};
-use std::alloc::Global;
-use std::mem;
 use std::sync::Arc;
+
+/// What a claim says: who made it, and its element with its time. Of a committed claim the log keeps no more.
+#[derive(Drop)]
+pub(crate) struct Head {
+    pub(crate) seat: u32,
+    pub(crate) time: u64,
+    pub(crate) element: Arc<Element>,
+}
+
+impl Head {
+    /// What a claim of a seat on a job says.
+    pub(crate) fn of(seat: u32, job: &Job) -> Result<Head, Memory>
+        ensures says { IfOk result (λ head. head_view head ≡ head_for seat job.now) }
+    {
+        Ok(Head {
+            seat,
+            time: job.time,
+            element: job.element.clone()?,
+        })
+    }
+}
 
 /// What became of a claim.
 #[derive(Drop)]
@@ -28,11 +47,10 @@ pub(crate) enum Course {
     Failed(EvalFault),
 }
 
-/// A claim: who made it, its element with its time, its needs with the stamp of the token that each took, and what became of it. Of
-/// one that is committed no tokens are kept: it is done without needs and outputs.
+/// A claim: what it says, its job, its needs with the stamp of the token that each took, and what became of it.
 #[derive(Drop)]
 pub(crate) struct Claim {
-    pub(crate) seat: u32,
+    pub(crate) head: Head,
     pub(crate) job: Arc<Job>,
     pub(crate) needs: Needs,
     pub(crate) stamps: Vec<u64>,
@@ -53,11 +71,11 @@ impl Claim {
 
     /// Takes the needs out of the marking and puts in what the claim adds. After `Memory` some of that may stand there.
     pub(crate) fn happen(&self, marking: &mut Marking) -> Result<(), Memory>
-        requires in_time { self.now.job.value.time ≤ last_time }
+        requires in_time { self.now.head.time ≤ last_time }
         requires room { HaveRoomFor (length (added (claim_view self.now).status)) marking.old }
         ensures after { OnOk result (marking.new ≡ after_claim (claim_view self.now) marking.old) }
     {
-        marking.subtract(&self.needs, self.job.time);
+        marking.subtract(&self.needs, self.head.time);
         match &self.course {
             Course::Open => Ok(()),
             Course::Done(outputs) => add_copies(marking, outputs),
@@ -68,39 +86,47 @@ impl Claim {
     /// Carries the stamp of a token that was made past what the claim took: each pick of the token's value on its place that prefers the
     /// stamp takes it in exchange, and its own is carried on. The stamp that is left over.
     pub(crate) fn carry(&mut self, made: &Made, stamp: u64) -> u64
-        requires in_time { self.old.job.value.time ≤ last_time }
+        requires in_time { self.old.head.time ≤ last_time }
         ensures left { result ≡ (past_claim (with_stamp stamp made.now) (taken_view self.old)).stamp }
         ensures taken { taken_view self.new ≡ claim_after (with_stamp stamp made.now) (taken_view self.old) }
         ensures same { claim_view self.new ≡ claim_view self.old }
-        ensures head { head_view self.new ≡ head_view self.old }
         ensures job { self.new.job ≡ self.old.job }
     {
-        carry_past_needs(&self.needs, &mut self.stamps, self.job.time, made, stamp)
+        carry_past_needs(&self.needs, &mut self.stamps, self.head.time, made, stamp)
     }
 
-    /// Hands out what a claim that is done takes and adds, and keeps no token of it; `None` where it is not done with its
-    /// outputs, and then it stays as it is.
-    pub(crate) fn let_go(&mut self, alloc: Global) -> Option<Exchange>
-        ensures exchange { MatchOption result (is_done (claim_view self.old).status ≡ false) (λ e. (claim_view self.old).status ≡ done_with e.outputs) }
-        ensures needs { MatchOption result (self.new.needs ≡ self.old.needs) (λ e. e.needs ≡ self.old.needs) }
-        ensures stamps { MatchOption result (self.new.stamps ≡ self.old.stamps) (λ e. self.new.stamps.items ≡ []) }
-        ensures time { MatchOption result (self.new.course ≡ self.old.course) (λ e. e.time ≡ self.old.job.value.time) }
-        ensures head { head_view self.new ≡ head_view self.old }
-        ensures job { self.new.job ≡ self.old.job }
+    /// What the claim says, with what it takes and adds, where it is done with its outputs; where it is not, the claim itself.
+    pub(crate) fn let_go(self) -> Result<(Head, Exchange), Claim>
+        ensures head { IfOk result (λ parts. parts.0 ≡ self.head) }
+        ensures needs { IfOk result (λ parts. parts.1.needs ≡ self.needs) }
+        ensures time { IfOk result (λ parts. parts.1.time ≡ self.head.time) }
+        ensures outputs { IfOk result (λ parts. (claim_view self).status ≡ done_with parts.1.outputs) }
+        ensures waits { OnErr result (is_done (claim_view self).status ≡ false) }
+        ensures same { IfErr result (λ claim. claim ≡ self) }
     {
-        match mem::replace(&mut self.course, Course::Done(Outputs::new(alloc))) {
+        let Claim {
+            head,
+            job,
+            needs,
+            stamps,
+            course,
+        } = self;
+        match course {
             Course::Done(outputs) => {
-                self.stamps = Vec::new(alloc);
-                Some(Exchange {
-                    needs: mem::replace(&mut self.needs, Needs::new(alloc)),
-                    time: self.job.time,
+                let exchange = Exchange {
+                    needs,
+                    time: head.time,
                     outputs,
-                })
+                };
+                Ok((head, exchange))
             }
-            other => {
-                self.course = other;
-                None
-            }
+            course => Err(Claim {
+                head,
+                job,
+                needs,
+                stamps,
+                course,
+            }),
         }
     }
 }

@@ -8,6 +8,7 @@
 #![tactic(auto)]
 
 mod claims;
+mod exchanged;
 mod filling;
 mod gathered;
 mod logs;

@@ -1,10 +1,10 @@
 //! The log of a run.
 
-ghost use Rattle.std.specs.Prelude.{◌≤◌, length};
+ghost use Rattle.std.specs.Prelude.{◌+◌, ◌≤◌, length, vec_capacity};
 
-use crate::claims::{Claim, Course};
+use crate::claims::{Claim, Course, Head};
 use crate::filling::put_ahead;
-use crate::gathered::{changes_among, changes_of_exchange, changes_of_needs, changes_of_outputs};
+use crate::gathered::{changes_among, changes_of_needs, changes_of_outputs};
 use crate::markings::Markings;
 use crate::replay::replayed;
 use crate::states::ClaimState;
@@ -13,10 +13,11 @@ use cpn_core::{EvalFault, Memory, Needs, Outputs};
 use cpn_jobs::Job;
 use cpn_tmset::{Changes, Marking};
 use std::alloc::Global;
+use std::collections::VecDeque;
 use std::sync::Arc;
 
 /// The claims of a run in claim order, the marking that they leave, and the committed part of them with the marking that it
-/// leaves.
+/// leaves. Of a committed claim it keeps what it says alone, and it has room to keep that of each claim behind.
 ///
 /// Source: own choice. A clause sees it as the plain log of the definitions (`log_view`), which is kept (`IsKept`) from its start
 /// on, but not after a call that answered `Memory`: then the committed part and its marking stand, and nothing else is known;
@@ -25,13 +26,13 @@ use std::sync::Arc;
 pub struct Log {
     alloc: Global,
     markings: Markings,
-    claims: Vec<Claim>,
-    committed: usize,
-    ghost within: { committed ≤ length claims.items },
+    heads: Vec<Head>,
+    claims: VecDeque<Claim>,
+    ghost room: { length heads.items + length claims.items ≤ vec_capacity heads },
 }
 
 impl Log {
-    ghost use Rattle.std.specs.Prelude.{◌≡◌, ◌+◌, ◌-◌, ◌≤◌, ◌<◌, ◌^◌, ℕ, true, [], ◌∷◌, ◌++◌, ◌↔◌, length, take, Some, IfOk, OnOk, OnErr, IsOk, IsTrue, slice_get};
+    ghost use Rattle.std.specs.Prelude.{◌≡◌, ◌+◌, ◌-◌, ◌≤◌, ◌<◌, ◌^◌, ℕ, true, [], ◌∷◌, ◌++◌, ◌↔◌, if◌then◌else◌, length, take, drop, Some, IfOk, OnOk, OnErr, IsOk, IsTrue, slice_get};
     ghost use Rattle.std.specs.List.{AllByRecursion};
     ghost use Rattle.cpn_definitions.specs.Bounds.{most_made};
     ghost use Rattle.cpn_definitions.specs.Marking.{tokens_at, AreSorted};
@@ -39,7 +40,7 @@ impl Log {
     ghost use Rattle.cpn_definitions.specs.Times.{last_time};
     ghost use Rattle.cpn_core.specs.Elements.{element_view};
     ghost use Rattle.cpn_core.specs.Faults.{fault_view};
-    ghost use Rattle.cpn_tmset.specs.Changed.{AreChanges, OthersStay};
+    ghost use Rattle.cpn_tmset.specs.Changed.{AreChanges};
     ghost use Rattle.cpn_tmset.specs.ChangedViews.{changes_view};
     ghost use Rattle.cpn_tmset.specs.Limits.{HaveRoomFor};
     ghost use Rattle.cpn_runs.specs.Bounds.{most_steps};
@@ -48,10 +49,9 @@ impl Log {
     ghost use Rattle.cpn_log.specs.Logs.{begin_done, claims_made, made_and_done, next_committed, opened, run_behind, seats, standings, stands_done, stands_failed, stands_open, started, with_occurred, with_status};
     ghost use Rattle.cpn_log.specs.FilledLogs.{IsFilledAt};
     ghost use Rattle.cpn_log.specs.Kept.{IsInRange, IsKept};
-    ghost use Rattle.cpn_log.specs.Exchanges.{after_claims, number_added};
     ghost use Rattle.cpn_log.specs.States.{state_view};
     ghost use Rattle.cpn_log.specs.ClaimViews.{status_view};
-    ghost use Rattle.cpn_log.specs.LogViews.{jobs_in, log_view};
+    ghost use Rattle.cpn_log.specs.LogViews.{job_in, jobs_in, log_view};
 
     /// The log of no claim, from a marking.
     pub fn start(alloc: Global, marking: Marking) -> Result<Log, Memory>
@@ -64,8 +64,8 @@ impl Log {
         Ok(Log {
             alloc,
             markings: Markings::new(marking),
-            claims: Vec::new(alloc),
-            committed: 0,
+            heads: Vec::new(alloc),
+            claims: VecDeque::new(alloc),
         })
     }
 
@@ -87,9 +87,11 @@ impl Log {
         ensures changes { IfOk result (λ changes. AreChanges (log_view self.old).unclaimed (log_view self.new).unclaimed (changes_view changes)) }
     {
         let changes = changes_of_needs(self.alloc, &needs)?;
-        let stamps = self.markings.take(self.alloc, &needs, job.time)?;
-        self.claims.push(Claim {
-            seat,
+        let head = Head::of(seat, &job)?;
+        self.heads.reserve(self.claims.len() + 1)?;
+        let stamps = self.markings.take(self.alloc, &needs, head.time)?;
+        self.claims.push_back(Claim {
+            head,
             job,
             needs,
             stamps,
@@ -99,8 +101,9 @@ impl Log {
     }
 
     /// Where all claims are committed, one claim more, of a seat on a job: it takes its needs, is done with its outputs and is
-    /// committed. The log is then as after `push`, `fill` and `commit_one`. It tells each value on a place that is taken or added, also one
-    /// that is put back as it was. Only one marking is kept meanwhile, so after `Memory` nothing is known of the log.
+    /// committed. The log is then as after `push`, `fill` and `commit_one`. It tells which stamps change by that:
+    /// not those of a value that is put back with the stamps that it had. Only one marking is kept meanwhile, so after `Memory` nothing is
+    /// known of the log.
     pub fn occur(
         &mut self,
         seat: u32,
@@ -113,22 +116,18 @@ impl Log {
         requires room { claims_made (log_view self.old) < most_steps }
         requires in_time { job.value.time ≤ last_time }
         requires covered { are_covered (threshold job.value.time) (log_view self.old).unclaimed needs.now ≡ true }
+        requires in_range { AllByRecursion (λ made. made.place < length (log_view self.old).unclaimed) outputs }
         requires few { length outputs ≤ most_made }
         ensures occurred { OnOk result (log_view self.new ≡ with_occurred (log_view self.old) (made_and_done seat (element_view job.value.element.value) job.value.time needs.now outputs)) }
-        ensures jobs { OnOk result (jobs_in self.new ≡ jobs_in self.old ++ job.value ∷ []) }
+        ensures jobs { jobs_in self.new ≡ jobs_in self.old }
         ensures kept { OnOk result (IsKept (log_view self.new)) }
-        ensures changes { IfOk result (λ changes. OthersStay (changes_view changes) (log_view self.old).unclaimed (log_view self.new).unclaimed) }
+        ensures changes { IfOk result (λ changes. AreChanges (log_view self.old).unclaimed (log_view self.new).unclaimed (changes_view changes)) }
     {
-        let changes = changes_of_exchange(self.alloc, needs, &outputs)?;
-        self.markings.exchange(needs, job.time, outputs)?;
-        self.claims.push(Claim {
-            seat,
-            job,
-            needs: Needs::new(self.alloc),
-            stamps: Vec::new(self.alloc),
-            course: Course::Done(Outputs::new(self.alloc)),
-        })?;
-        self.committed = self.claims.len();
+        let head = Head::of(seat, &job)?;
+        let changes = self
+            .markings
+            .exchange(self.alloc, needs, head.time, outputs)?;
+        self.heads.push(head)?;
         Ok(changes)
     }
 
@@ -152,7 +151,7 @@ impl Log {
         ensures changes { IfOk result (λ changes. AreChanges (log_view self.old).unclaimed (log_view self.new).unclaimed (changes_view changes)) }
     {
         let changes = changes_of_outputs(self.alloc, &outputs)?;
-        let position = number as usize;
+        let position = self.position(number);
         self.put_behind(position, &outputs)?;
         self.complete(position, Course::Done(outputs));
         Ok(changes)
@@ -171,7 +170,8 @@ impl Log {
         ensures unclaimed { (log_view self.new).unclaimed ≡ (log_view self.old).unclaimed }
         ensures kept { IsKept (log_view self.new) }
     {
-        self.complete(number as usize, Course::Failed(fault));
+        let position = self.position(number);
+        self.complete(position, Course::Failed(fault));
     }
 
     /// Removes the claims from a number on, none of which is committed: their tokens go back. It tells which stamps of the
@@ -181,15 +181,16 @@ impl Log {
         requires open { length (log_view self.old).committed ≤ number }
         requires within { number ≤ claims_made (log_view self.old) }
         ensures cut { OnOk result ((log_view self.new).claims ≡ take (number - length (log_view self.old).committed) (log_view self.old).claims) }
-        ensures jobs { OnOk result (jobs_in self.new ≡ take number (jobs_in self.old)) }
+        ensures jobs { OnOk result (jobs_in self.new ≡ take (number - length (log_view self.old).committed) (jobs_in self.old)) }
         ensures committed { (log_view self.new).committed ≡ (log_view self.old).committed }
         ensures settled { (log_view self.new).settled ≡ (log_view self.old).settled }
         ensures kept { OnOk result (IsKept (log_view self.new)) }
         ensures changes { IfOk result (λ changes. AreChanges (log_view self.old).unclaimed (log_view self.new).unclaimed (changes_view changes)) }
     {
-        let position = number as usize;
-        let touched = touched_in_order(self.alloc, &self.claims.as_slice()[position..])?;
-        let left = self.left_by(position)?;
+        let position = self.position(number);
+        let claims: &[Claim] = self.claims.make_contiguous();
+        let touched = touched_in_order(self.alloc, &claims[position..])?;
+        let left = replayed(self.markings.settled(), &claims[..position])?;
         let changes = changes_among(self.alloc, touched.as_slice(), self.unclaimed(), &left)?;
         self.claims.truncate(position);
         self.markings.replace(left);
@@ -204,23 +205,26 @@ impl Log {
         ensures done { IfOk result (λ done. done ≡ begin_done (log_view self.old).claims) }
         ensures stands { IfOk result (λ done. IsTrue done ↔ (slice_get (standings (log_view self.old)) (length (log_view self.old).committed) ≡ Some stands_done)) }
         ensures next { OnOk result (log_view self.new ≡ next_committed (log_view self.old)) }
-        ensures jobs { jobs_in self.new ≡ jobs_in self.old }
+        ensures jobs { OnOk result (jobs_in self.new ≡ (if begin_done (log_view self.old).claims then drop 1 (jobs_in self.old) else jobs_in self.old)) }
         ensures committed { OnErr result ((log_view self.new).committed ≡ (log_view self.old).committed) }
         ensures settled { OnErr result ((log_view self.new).settled ≡ (log_view self.old).settled) }
         ensures kept { OnOk result (IsKept (log_view self.new)) }
         ensures last { length (log_view self.old).claims ≤ 1 → IsOk result }
     {
-        if self.committed == self.claims.len() {
-            return Ok(false);
-        }
-        let is_last = self.committed + 1 == self.claims.len();
-        let claim = &mut self.claims[self.committed];
-        let Some(exchange) = claim.let_go(self.alloc) else {
+        let Some(claim) = self.claims.pop_front() else {
             return Ok(false);
         };
-        self.markings.settle(exchange, is_last)?;
-        self.committed += 1;
-        Ok(true)
+        match claim.let_go() {
+            Ok((head, exchange)) => {
+                self.markings.settle(exchange, self.claims.is_empty())?;
+                self.heads.push_reserved(head);
+                Ok(true)
+            }
+            Err(claim) => {
+                self.claims.push_front_reserved(claim);
+                Ok(false)
+            }
+        }
     }
 
     /// The marking that the claims leave.
@@ -241,14 +245,14 @@ impl Log {
     pub fn committed(&self) -> u64
         ensures { result ≡ length (log_view self.now).committed }
     {
-        self.committed as u64
+        self.heads.len() as u64
     }
 
     /// How many claims there are.
     pub fn len(&self) -> u64
         ensures { result ≡ claims_made (log_view self.now) }
     {
-        self.claims.len() as u64
+        (self.heads.len() + self.claims.len()) as u64
     }
 
     /// The seat that made the claim of a number.
@@ -256,15 +260,19 @@ impl Log {
         requires within { number < claims_made (log_view self.now) }
         ensures { slice_get (seats (log_view self.now)) number ≡ Some result }
     {
-        self.claims[number as usize].seat
+        if number < self.committed() {
+            return self.heads[number as usize].seat;
+        }
+        self.claims[self.position(number)].head.seat
     }
 
-    /// The job of the claim of a number.
+    /// The job of the claim of a number, which is not committed.
     pub fn job(&self, number: u64) -> &Arc<Job>
+        requires behind { length (log_view self.now).committed ≤ number }
         requires within { number < claims_made (log_view self.now) }
-        ensures { slice_get (jobs_in self.now) number ≡ Some result.now.value }
+        ensures { job_in self.now number ≡ Some result.now.value }
     {
-        &self.claims[number as usize].job
+        &self.claims[self.position(number)].job
     }
 
     /// How the claim of a number stands.
@@ -272,11 +280,10 @@ impl Log {
         requires within { number < claims_made (log_view self.now) }
         ensures { slice_get (standings (log_view self.now)) number ≡ Some (state_view result) }
     {
-        let position = number as usize;
-        if position < self.committed {
+        if number < self.committed() {
             return ClaimState::Done;
         }
-        self.claims[position].state()
+        self.claims[self.position(number)].state()
     }
 
     /// The marking that the claims leave, where the log itself is no longer wanted. It takes no memory.
@@ -286,54 +293,41 @@ impl Log {
         self.markings.into_unclaimed()
     }
 
-    // Puts outputs in behind the claim at a position, ahead of the later ones.
+    // The position of the claim of a number among those behind the committed part.
+    fn position(&self, number: u64) -> usize
+        requires behind { length (log_view self.now).committed ≤ number }
+        ensures { result ≡ number - length (log_view self.now).committed }
+    {
+        number as usize - self.heads.len()
+    }
+
+    // Puts outputs in behind the claim at a position among those behind the committed part, ahead of the later ones.
     fn put_behind(&mut self, position: usize, outputs: &Outputs) -> Result<(), Memory>
-        requires within { position < length self.old.claims.items }
-        requires behind { length (log_view self.old).committed ≤ position }
+        requires within { position < length (log_view self.old).claims }
         requires in_range { AllByRecursion IsInRange (log_view self.old).claims }
         requires room { HaveRoomFor (length outputs.now) (log_view self.old).unclaimed }
-        ensures run { OnOk result (run_behind (log_view self.new) ≡ filled_run (position - length (log_view self.old).committed) outputs.now (run_behind (log_view self.old))) }
+        ensures run { OnOk result (run_behind (log_view self.new) ≡ filled_run position outputs.now (run_behind (log_view self.old))) }
         ensures claims { (log_view self.new).claims ≡ (log_view self.old).claims }
         ensures jobs { jobs_in self.new ≡ jobs_in self.old }
         ensures committed { (log_view self.new).committed ≡ (log_view self.old).committed }
         ensures settled { (log_view self.new).settled ≡ (log_view self.old).settled }
-        ensures len { length self.new.claims.items ≡ length self.old.claims.items }
     {
-        put_ahead(
-            &mut self.claims[position + 1..],
-            &mut self.markings,
-            outputs,
-        )?;
+        let claims = self.claims.make_contiguous();
+        put_ahead(&mut claims[position + 1..], &mut self.markings, outputs)?;
         Ok(())
     }
 
-    // Sets what became of the claim at a position behind the committed part.
+    // Sets what became of the claim at a position among those behind the committed part.
     fn complete(&mut self, position: usize, course: Course)
-        requires within { position < length self.old.claims.items }
-        requires behind { length (log_view self.old).committed ≤ position }
-        ensures completed { (log_view self.new).claims ≡ with_status (status_view course) (position - length (log_view self.old).committed) (log_view self.old).claims }
+        requires within { position < length (log_view self.old).claims }
+        ensures completed { (log_view self.new).claims ≡ with_status (status_view course) position (log_view self.old).claims }
         ensures jobs { jobs_in self.new ≡ jobs_in self.old }
         ensures committed { (log_view self.new).committed ≡ (log_view self.old).committed }
         ensures settled { (log_view self.new).settled ≡ (log_view self.old).settled }
         ensures picks { (log_view self.new).picks ≡ (log_view self.old).picks }
         ensures unclaimed { (log_view self.new).unclaimed ≡ (log_view self.old).unclaimed }
-        ensures len { length self.new.claims.items ≡ length self.old.claims.items }
     {
         let claim = &mut self.claims[position];
         claim.course = course;
-    }
-
-    // The marking that the claims ahead of a position leave.
-    fn left_by(&self, position: usize) -> Result<Marking, Memory>
-        requires behind { length (log_view self.now).committed ≤ position }
-        requires within { position ≤ length self.now.claims.items }
-        requires in_range { AllByRecursion IsInRange (take (position - length (log_view self.now).committed) (log_view self.now).claims) }
-        requires room { HaveRoomFor (number_added (take (position - length (log_view self.now).committed) (log_view self.now).claims)) (log_view self.now).settled }
-        ensures { IfOk result (λ left. left ≡ after_claims (take (position - length (log_view self.now).committed) (log_view self.now).claims) (log_view self.now).settled) }
-    {
-        replayed(
-            self.settled(),
-            &self.claims.as_slice()[self.committed..position],
-        )
     }
 }

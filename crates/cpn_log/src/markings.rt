@@ -2,10 +2,11 @@
 
 ghost use Rattle.cpn_log.specs.SettledViews.{CatchesUp};
 
+use crate::exchanged::changes_of_exchange;
 use crate::settled::{Behind, Exchange, Settled, caught_up};
 use crate::tokens::add_copy;
 use cpn_core::{Made, Memory, Needs, Outputs};
-use cpn_tmset::Marking;
+use cpn_tmset::{Changes, Marking};
 use std::alloc::Global;
 use std::mem;
 
@@ -31,11 +32,14 @@ impl Markings {
     ghost use Rattle.std.specs.Prelude.{◌≡◌, ◌≤◌, true, length, IfOk, OnOk, OnErr, IsOk};
     ghost use Rattle.cpn_definitions.specs.Marking.{add_token, on_place, token_at, tokens_at};
     ghost use Rattle.cpn_definitions.specs.Times.{last_time};
-    ghost use Rattle.cpn_definitions.specs.Occurrence.{subtract, threshold};
+    ghost use Rattle.cpn_definitions.specs.Lists.{in_order, IsInOrder};
+    ghost use Rattle.cpn_definitions.specs.Occurrence.{made_cmp, needed_cmp, subtract, threshold};
     ghost use Rattle.cpn_core.specs.Views.{value_view};
+    ghost use Rattle.cpn_tmset.specs.ChangedViews.{changes_view};
     ghost use Rattle.cpn_tmset.specs.Limits.{HasRoom, HaveRoomFor};
     ghost use Rattle.cpn_tmset.specs.StampsTaken.{stamps_taken};
     ghost use Rattle.cpn_log.specs.Exchanges.{exchanged, LeadsTo};
+    ghost use Rattle.cpn_log.specs.Gathered.{differing, each_once, tokens_taken};
     ghost use Rattle.cpn_log.specs.MarkingViews.{IsApart, settled_in, unclaimed_in};
 
     /// The marking of no claim. It takes no memory.
@@ -89,22 +93,29 @@ impl Markings {
         self.unclaimed.take_out(alloc, needs, time)
     }
 
-    /// Takes needs out of both markings, where they are one, and puts outputs in. After `Memory` nothing is known of either.
+    /// Takes needs out of both markings, where they are one, and puts outputs in: the places and values of which other tokens are put in
+    /// than were taken. After `Memory` nothing is known of either.
     pub(crate) fn exchange(
         &mut self,
+        alloc: Global,
         needs: &Needs,
         time: u64,
         outputs: Outputs,
-    ) -> Result<(), Memory>
+    ) -> Result<Changes, Memory>
         requires in_time { time ≤ last_time }
         requires one { settled_in self.old ≡ unclaimed_in self.old }
         requires room { HaveRoomFor (length outputs) (settled_in self.old) }
         ensures unclaimed { OnOk result (unclaimed_in self.new ≡ exchanged needs.now time outputs (settled_in self.old)) }
         ensures settled { OnOk result (settled_in self.new ≡ exchanged needs.now time outputs (settled_in self.old)) }
+        ensures needs_in_order { IfOk result (λ changes. IsInOrder needed_cmp needs.now) }
+        ensures outputs_in_order { IfOk result (λ changes. IsInOrder made_cmp outputs) }
+        ensures changes { IfOk result (λ changes. changes_view changes ≡ each_once (differing (in_order made_cmp (tokens_taken needs.now (stamps_taken time needs.now (unclaimed_in self.old)))) outputs)) }
     {
         self.settled = SettledAs::Unclaimed(None);
-        self.unclaimed.subtract(needs, time);
-        self.unclaimed.add_made(outputs)
+        let stamps = self.unclaimed.take_out(alloc, needs, time)?;
+        let changes = changes_of_exchange(alloc, needs, stamps.as_slice(), &outputs)?;
+        self.unclaimed.add_made(outputs)?;
+        Ok(changes)
     }
 
     /// Puts a copy of a token with another stamp into the unclaimed marking; one for a place past the last one is lost. After `Memory`

@@ -3,7 +3,7 @@
 //! Stage by stage it finds the values of a transition's variables: from the tokens on the places of its input arcs, from the
 //! equations of its guard, and from small colour sets. Each binding that all stages make is kept if the transition is covered
 //! with it at some time, once, in order, with the least such time; and from those of all transitions come the enabled
-//! elements. It changes no marking. Between two searches only the plans, and the memory of a list, may be kept.
+//! elements. It changes no marking. Between two searches only the plans may be kept.
 #![tactic(auto)]
 
 mod earliest;

@@ -1,16 +1,17 @@
 //! The plans of the searches of a net, which are made once and serve for each marking.
 ghost use Rattle.std.specs.Prelude.{◌≡◌, ◌<◌, map, length, IfOk, OnOk, OnErr};
 ghost use Rattle.std.specs.List.{AllByRecursion};
-ghost use Rattle.cpn_definitions.specs.Enabled.{Enabled};
+ghost use Rattle.cpn_definitions.specs.Enabled.{Enabled, EnabledOf};
 ghost use Rattle.cpn_definitions.specs.Net.{PlainNet};
 ghost use Rattle.cpn_definitions.specs.Sound.{IsSound, IsMarking};
 ghost use Rattle.cpn_core.specs.Elements.{enabled_view, HasItsNeeds};
 ghost use Rattle.cpn_core.specs.Nets.{net_view};
+ghost use Rattle.cpn_search.specs.FoundViews.{found_view, AreOf};
 ghost use Rattle.cpn_search.specs.PlannedNets.{IsPlan, ArePlansFrom, IsPlanned, IsPlannedBut};
 
 use crate::plan::Plan;
 use crate::searching::{push_elements, search_by};
-use cpn_core::{EnabledElement, Memory, Net};
+use cpn_core::{EnabledElement, Found, Memory, Net};
 use cpn_tmset::Marking;
 use std::alloc::Global;
 
@@ -42,6 +43,29 @@ impl Plans {
         ensures plan { (n : PlainNet) → IsPlanned n self.now → IsPlan n t result.now }
     {
         &self.plans[t as usize]
+    }
+
+    /// What is enabled of the transition of a number of their net, as `enabled_of` answers it.
+    ///
+    /// # Errors
+    ///
+    /// `Memory` where memory is wanted; it leaves nothing behind.
+    pub fn enabled_of(
+        &self,
+        alloc: Global,
+        net: &Net,
+        marking: &Marking,
+        t: u32,
+    ) -> Result<Found, Memory>
+        requires planned { IsPlanned (net_view net.now) self.now }
+        requires sound { IsSound (net_view net.now) }
+        requires marking { IsMarking (net_view net.now).places marking.now }
+        requires in_range { t < length net.now.transitions.items }
+        ensures enabled { IfOk result (λ found. EnabledOf (net_view net.now) marking.now t (map found_view found.items)) }
+        ensures elements { IfOk result (λ found. AreOf (net_view net.now) t found.items) }
+    {
+        let plan = self.plan(t);
+        Ok(search_by(alloc, net, marking, t, plan)?.found)
     }
 
     /// Makes the plan of a transition anew, after which the plans are those of the net; until then they may be wrong for that
@@ -84,36 +108,11 @@ impl Plans {
         ensures needs { IfOk result (λ listed. AllByRecursion (HasItsNeeds (net_view net.now)) listed.items) }
     {
         let mut listed = Vec::new(alloc);
-        self.enabled_into(alloc, net, marking, clock, &mut listed)?;
-        Ok(listed)
-    }
-
-    /// The same, into a list that is there: what stood in it is dropped, and its memory serves again. After `Memory` nothing is
-    /// known of the list.
-    ///
-    /// # Errors
-    ///
-    /// `Memory` where memory is wanted.
-    pub fn enabled_into(
-        &self,
-        alloc: Global,
-        net: &Net,
-        marking: &Marking,
-        clock: u64,
-        listed: &mut Vec<EnabledElement>,
-    ) -> Result<(), Memory>
-        requires planned { IsPlanned (net_view net.now) self.now }
-        requires sound { IsSound (net_view net.now) }
-        requires marking { IsMarking (net_view net.now).places marking.now }
-        ensures enabled { OnOk result (Enabled (net_view net.now) marking.now clock (map enabled_view listed.new.items)) }
-        ensures needs { OnOk result (AllByRecursion (HasItsNeeds (net_view net.now)) listed.new.items) }
-    {
-        listed.clear();
         for t in 0..self.plans.len() {
             let found = search_by(alloc, net, marking, t as u32, &self.plans[t])?.found;
-            push_elements(listed, found, clock)?;
+            push_elements(&mut listed, found, clock)?;
         }
-        Ok(())
+        Ok(listed)
     }
 }
 

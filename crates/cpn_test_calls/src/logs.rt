@@ -1,6 +1,7 @@
 //! Claims of a log: one of two seats, in which the completion of the first claim changes which stamp the second one took; one that
 //! is committed at once; and thousands.
-ghost use Rattle.std.specs.Prelude.{◌≡◌, ℕ, ◌≤◌, [], length, true, IfOk, OnOk};
+ghost use Rattle.std.specs.Prelude.{◌≡◌, ℕ, ◌<◌, ◌≤◌, [], length, true, IfOk, OnOk};
+ghost use Rattle.std.specs.List.{AllByRecursion};
 ghost use Rattle.cpn_definitions.specs.Marking.{tokens_at, AreSorted};
 ghost use Rattle.cpn_log.specs.Kept.{IsKept};
 ghost use Rattle.cpn_log.specs.LogViews.{log_view};
@@ -120,18 +121,35 @@ fn fill(
     }
 }
 
-// Takes numbers on places, at the least time at which they are covered, and puts a number on a place, as a claim that is committed
-// at once, and what is told of that; `None` where they are covered at no time.
+// Tokens on places: of each its place, its number and its stamp. One past the last place is left out.
+fn outputs_on(alloc: Global, places: usize, tokens: &[(u32, i64, u64)]) -> Result<Outputs, Memory>
+    ensures in_range { IfOk result (λ outputs. AllByRecursion (λ made. made.place < places) outputs) }
+    ensures few { IfOk result (λ outputs. length outputs ≤ length tokens.now) }
+{
+    let mut outputs = Outputs::new(alloc);
+    for (place, number, stamp) in tokens {
+        if (*place as usize) < places {
+            outputs.add(Made {
+                place: *place,
+                value: Value::Int(*number),
+                stamp: *stamp,
+            })?;
+        }
+    }
+    Ok(outputs)
+}
+
+// Takes numbers on places, at the least time at which they are covered, and puts tokens in, as a claim that is committed at once, and
+// what is told of that; `None` where they are covered at no time.
 fn occur(
     alloc: Global,
     log: &mut Log,
     numbers: &[(u32, i64)],
-    place: u32,
-    made: i64,
-    stamp: u64,
+    made: &[(u32, i64, u64)],
 ) -> Result<Option<Changes>, Memory>
     requires kept { IsKept (log_view log.old) }
     requires all { (log_view log.old).claims ≡ [] }
+    requires few { length made.now ≤ 4 }
     ensures kept { OnOk result (IsKept (log_view log.new)) }
     ensures all { OnOk result ((log_view log.new).claims ≡ []) }
 {
@@ -142,12 +160,7 @@ fn occur(
     if log.len() >= MANY || time > LAST {
         return Ok(None);
     }
-    let mut outputs = Outputs::new(alloc);
-    outputs.add(Made {
-        place,
-        value: Value::Int(made),
-        stamp,
-    })?;
+    let outputs = outputs_on(alloc, log.unclaimed().len(), made)?;
     let changes = log.occur(0, job_at(alloc, time)?, &needs, outputs)?;
     Ok(Some(changes))
 }
@@ -271,7 +284,7 @@ fn occur_behind_a_commit(alloc: Global, text: &mut String) -> Result<Log, Memory
     fill(alloc, &mut log, 0, 0, 7, 2)?;
     show(text, &mut log)?;
     if all_are_committed(&log) {
-        let changes = occur(alloc, &mut log, &[(0, 7)], 0, 7, 4)?;
+        let changes = occur(alloc, &mut log, &[(0, 7)], &[(0, 7, 4)])?;
         tell(text, &changes)?;
     }
     Ok(log)
@@ -298,5 +311,26 @@ fn a_claim_is_committed_at_once(rt: HostRuntime) -> Result<(), Fail> {
     );
     assert_eq!(rt; log.len(), 3);
     assert_eq!(rt; log.committed(), 2);
+    Ok(())
+}
+
+// Of four values on places one is taken, one is put back later, one is put back as it was, and one is added.
+fn occur_on_three_places(alloc: Global, text: &mut String) -> Result<(), Memory> {
+    let mut log = Log::start(alloc, marking(alloc)?)?;
+    if all_are_committed(&log) {
+        let needs = [(0, 7), (1, 8), (2, 9)];
+        let made = [(1, 8, 5), (2, 9, 0), (2, 10, 0)];
+        let changes = occur(alloc, &mut log, &needs, &made)?;
+        tell(text, &changes)?;
+    }
+    Ok(())
+}
+
+#[test]
+fn what_is_put_back_as_it_was_is_not_told(rt: HostRuntime) -> Result<(), Fail> {
+    let alloc = rt.alloc();
+    let mut text = String::new(alloc);
+    occur_on_three_places(alloc, &mut text)?;
+    assert_eq!(rt; text.as_str(), "0:7 1:8 2:10 ");
     Ok(())
 }

@@ -1,1 +1,3 @@
+mod AcceptedEdits
 mod ChangedTokens
+mod GuardEdits

@@ -37,7 +37,7 @@ fn token_in(text: &str) -> Token {
 
 /// What is held after a step: `+` and a token puts it, `-` and a token takes the one with the latest stamp that is not above its own, and `=`
 /// moves the clock.
-fn after<L: Ledger>(
+pub fn after<L: Ledger>(
     alloc: Global,
     held: Held,
     step: &str,
@@ -45,6 +45,7 @@ fn after<L: Ledger>(
 ) -> Result<Held, Memory>
     requires held { IsHeld (net_view held.net) held.marking held.index held.clock }
     ensures held { IfOk result (λ held. IsHeld (net_view held.net) held.marking held.index held.clock) }
+    ensures net { IfOk result (λ after. net_view after.net ≡ net_view held.net) }
 {
     if let Some(text) = step.strip_prefix('+') {
         let token = token_in(text);

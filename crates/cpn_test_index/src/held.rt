@@ -5,11 +5,15 @@ ghost use Rattle.cpn_definitions.specs.Net.{place_at};
 ghost use Rattle.cpn_definitions.specs.Sound.{IsSound, IsMarking, may_hold};
 ghost use Rattle.cpn_core.specs.Nets.{net_view};
 ghost use Rattle.cpn_core.specs.Views.{value_view};
+ghost use Rattle.cpn_edit_texts.specs.Edits.{net_after, AreAlikeButGuards};
+ghost use Rattle.cpn_edit_texts.specs.Ready.{IsThere};
+ghost use Rattle.cpn_edit_texts.specs.Views.{edit_view};
 ghost use Rattle.cpn_tmset.specs.ChangedViews.{changes_view};
 ghost use Rattle.cpn_tmset.specs.Limits.{HasRoom};
 ghost use Rattle.cpn_test_index.specs.Held.{IsHeld};
 
 use cpn_core::{Memory, Net, Value};
+use cpn_edit_texts::Edit;
 use cpn_index::Index;
 use cpn_search::Steps;
 use cpn_tmset::{Changes, Marking};
@@ -69,6 +73,7 @@ impl Held {
         requires sound { IsSound (net_view net) }
         requires marking { IsMarking (net_view net).places marking }
         ensures held { IfOk result (λ held. IsHeld (net_view held.net) held.marking held.index held.clock) }
+        ensures net { IfOk result (λ held. net_view held.net ≡ net_view net) }
     {
         let index = Index::build(alloc, &net, &marking, 0)?;
         Ok(Held {
@@ -90,6 +95,7 @@ impl Held {
     ) -> Result<Held, Memory>
         requires held { IsHeld (net_view self.net) self.marking self.index self.clock }
         ensures held { IfOk result (λ held. IsHeld (net_view held.net) held.marking held.index held.clock) }
+        ensures net { IfOk result (λ held. net_view held.net ≡ net_view self.net) }
     {
         let value = Value::Int(number);
         if !may_be_put(&self.net, place, &value, stamp) {
@@ -126,6 +132,7 @@ impl Held {
     ) -> Result<Held, Memory>
         requires held { IsHeld (net_view self.net) self.marking self.index self.clock }
         ensures held { IfOk result (λ held. IsHeld (net_view held.net) held.marking held.index held.clock) }
+        ensures net { IfOk result (λ held. net_view held.net ≡ net_view self.net) }
     {
         if place as usize >= self.marking.len() {
             return Ok(self);
@@ -152,6 +159,7 @@ impl Held {
     pub fn advance_to(self, clock: u64) -> Held
         requires held { IsHeld (net_view self.net) self.marking self.index self.clock }
         ensures held { IsHeld (net_view result.net) result.marking result.index result.clock }
+        ensures net { net_view result.net ≡ net_view self.net }
     {
         let Held {
             net,
@@ -173,6 +181,36 @@ impl Held {
             marking,
             index,
             clock,
+        }
+    }
+
+    /// Makes an edit, where it is another guard of a transition.
+    pub fn after_edit(self, edit: Edit) -> Result<Held, Memory>
+        requires held { IsHeld (net_view self.net) self.marking self.index self.clock }
+        requires there { IsThere (length (net_view self.net).transitions) (length (net_view self.net).places) (edit_view edit) }
+        requires alike { AreAlikeButGuards (net_after (net_view self.net) (edit_view edit)) (net_view self.net) }
+        requires sound { IsSound (net_after (net_view self.net) (edit_view edit)) }
+        ensures held { IfOk result (λ held. IsHeld (net_view held.net) held.marking held.index held.clock) }
+        ensures net { IfOk result (λ held. net_view held.net ≡ net_after (net_view self.net) (edit_view edit)) }
+    {
+        match edit {
+            Edit::Guard(number, edited) => {
+                let Held {
+                    mut net,
+                    marking,
+                    mut index,
+                    clock,
+                } = self;
+                net.transitions[number as usize] = edited;
+                index.set_guard(&net, &marking, number)?;
+                Ok(Held {
+                    net,
+                    marking,
+                    index,
+                    clock,
+                })
+            }
+            Edit::Initial(_place, _tokens) => Ok(self),
         }
     }
 }

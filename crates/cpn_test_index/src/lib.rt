@@ -5,9 +5,13 @@
 #[cfg(test)]
 mod documents;
 #[cfg(test)]
+mod edited;
+#[cfg(test)]
 mod elements;
 #[cfg(test)]
 mod followed;
+#[cfg(test)]
+mod guards;
 #[cfg(test)]
 mod held;
 #[cfg(test)]

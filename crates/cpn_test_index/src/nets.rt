@@ -112,3 +112,19 @@ pub const SIX_PLACES: &str =
             {"place": "E", "transition": "t", "to": "transition", "expr": "x"},
             {"place": "F", "transition": "t", "to": "transition", "expr": "x"}
         ]}]}"#;
+
+/// `t` takes x from A where it is less than 3, and puts it back.
+pub const IF_LESS: &str =
+    r#"{"version": 1, "declarations": ["colset INT = int;", "var x : INT;"], "top": "N",
+    "modules": [{"name": "N",
+        "places": [{"name": "A", "colour": "INT", "initial": "1`1 ++ 1`5"}],
+        "transitions": [{"name": "t", "guard": "x < 3"}],
+        "arcs": [{"place": "A", "transition": "t", "to": "both", "expr": "x"}]}]}"#;
+
+/// `t` takes x from A, which keeps time stamps, where it is less than 3.
+pub const LATER: &str =
+    r#"{"version": 1, "declarations": ["colset TIME = int timed;", "var x : TIME;"], "top": "N",
+    "modules": [{"name": "N",
+        "places": [{"name": "A", "colour": "TIME", "initial": "1`1@2 ++ 1`5@4"}],
+        "transitions": [{"name": "t", "guard": "x < 3"}],
+        "arcs": [{"place": "A", "transition": "t", "to": "transition", "expr": "x"}]}]}"#;

@@ -1,9 +1,10 @@
 -- The open claim is held by the seat that made it, and its job is ready to be evaluated.
-use Rattle.std.proofs.Common.{◌≡◌, suc, ◌+◌, [], ◌∷◌, Some, map, refl, sym, ap, ◌∙◌, subst, slice_get, arith}
+use Rattle.std.proofs.Common.{◌≡◌, suc, ◌+◌, [], ◌∷◌, Some, refl, sym, ap, ◌∙◌, subst, slice_get, arith}
+use Rattle.std.specs.Option.{option_map}
 use Rattle.std.proofs.lemmas.List.{append-nil}
 use Rattle.cpn_jobs.specs.Views.{job_view}
 use Rattle.cpn_log.specs.Logs.{standings}
-use Rattle.cpn_log.specs.LogViews.{log_view, jobs_in}
+use Rattle.cpn_log.specs.LogViews.{log_view, job_in}
 use Rattle.cpn_runs.specs.FinishedViews.{setup_view}
 use Rattle.cpn_book.specs.Evaluations.{IsReadyToEvaluate}
 use Rattle.cpn_runs.specs.State.{claim_completed}
@@ -13,7 +14,6 @@ use Rattle.cpn_book.specs.Standings.{events_in}
 use Rattle.cpn_book.specs.States.{cut_events}
 use Rattle.cpn_book.specs.Tickets.{evaluated_number, evaluated_job}
 use Rattle.cpn_book.proofs.CommittedStandings.{still_at}
-use Rattle.cpn_book.proofs.HeldJobs.{image_at}
 use Rattle.cpn_book.proofs.GoingAlone.{one_completion, completion_gives_none, nothing_gives_none}
 use Rattle.cpn_book.proofs.HeldSeats.{where_ok}
 use Rattle.cpn_book.proofs.OpenNumbers.{number_within, holds_number, number_is_ready, held_stands_open}
@@ -39,7 +39,7 @@ pub complete_claim-requires-clause-job : goal.complete_claim-requires-clause-job
 complete_claim-requires-clause-job c =
     let number : evaluated_number c.in-Ok.done ≡ c.args.number = c.in-Ok.ensures.number ∙ c.new.ensures.number in
     let same : evaluated_job c.in-Ok.done ≡ job_view c.in-Some.job.now.value = c.in-Ok.ensures.job ∙ c.new.ensures.job ∙ ap job_view c.in_ok-job.ensures.cases in
-    ap (slice_get (map job_view (jobs_in c.args.standing.now.log))) number ∙ image_at job_view (jobs_in c.args.standing.now.log) c.args.number c.in-Some.job.now.value c.in-Some.ensures.job.1 ∙ ap Some (sym same)
+    ap (λ k. option_map job_view (job_in c.args.standing.now.log k)) number ∙ ap (option_map job_view) c.in-Some.ensures.job.1 ∙ ap Some (sym same)
 
 pub returns-clause-frees : goal.returns-clause-frees
 returns-clause-frees c =

@@ -1,8 +1,11 @@
 -- The claim that is due finds its needs, and the run stands with it.
-use Rattle.std.proofs.Common.{◌≡◌, ℕ, Some, List, [], ◌∷◌, ◌++◌, length, map, refl, sym, ap, ◌∙◌, slice_get, slice_set}
+use Rattle.std.proofs.Common.{◌≡◌, ℕ, ◌-◌, Some, List, [], ◌∷◌, ◌++◌, length, map, refl, sym, ap, ◌∙◌, slice_get, slice_set, arith}
+use Rattle.std.specs.Option.{option_map}
 use Rattle.std.proofs.lemmas.List.{length-map}
+use Rattle.std.proofs.lemmas.Option.{slice_get-map}
 use Rattle.cpn_jobs.specs.Views.{job_view}
-use Rattle.cpn_log.specs.Logs.{heads, opened}
+use Rattle.cpn_log.specs.Logs.{PlainHead, head_of, opened}
+use Rattle.cpn_log.proofs.JobNumbers.{job_behind}
 use Rattle.cpn_log.specs.LogViews.{log_view, jobs_in}
 use Rattle.cpn_runs.specs.FinishedViews.{setup_view}
 use Rattle.cpn_runs.specs.State.{claim_made}
@@ -13,7 +16,6 @@ use Rattle.cpn_book.specs.DrawnClaims.{undrawn}
 use Rattle.cpn_book.specs.Standings.{job_for}
 use Rattle.cpn_book.proofs.ClaimedStandings.{claimed}
 use Rattle.cpn_book.proofs.CommittedStandings.{still_at}
-use Rattle.cpn_book.proofs.CountedClaims.{heads_counted}
 use Rattle.cpn_book.proofs.DrawnClaims.{drawn_now, drawn_element, drawn_in_time, drawn_covered, still_drawn}
 use Rattle.cpn_tmset.specs.ChangedViews.{changes_view}
 use Rattle.cpn_book.proofs.ToldChanges.{tells_more}
@@ -75,9 +77,12 @@ returns-clause-job c =
     let s = setup_view c.args.setup.now in
     let old = c.args.standing.now in
     let jobs : map job_view (jobs_in c.push.new.self) ≡ map job_view (jobs_in old.log) ++ job_view c.args.job.value ∷ [] = ap (map job_view) c.in_ok-changes.ensures.jobs ∙ map_more job_view (jobs_in old.log) c.args.job.value in
-    let long : length (map job_view (jobs_in old.log)) ≡ c.args.number =
-    ap length c.requires.drawn.at.at.jobs ∙ length-map (heads (log_view old.log)) (job_for s.net) ∙ heads_counted (log_view old.log) ∙ sym c.requires.drawn.number_is in
-    ap (λ js. slice_get js c.args.number) jobs ∙ last_is_at (map job_view (jobs_in old.log)) c.args.number (job_view c.args.job.value) long
+    let place = c.args.number - length (log_view c.push.new.self).committed in
+    let behind : length (log_view c.push.new.self).committed ≡ length (log_view old.log).committed = ap (λ (hs : List PlainHead). length hs) c.push.ensures.committed in
+    let number = c.requires.drawn.number_is in
+    let many : length (map job_view (jobs_in old.log)) ≡ length (log_view old.log).claims = ap length c.requires.drawn.at.at.jobs ∙ length-map (map head_of (log_view old.log).claims) (job_for s.net) ∙ length-map (log_view old.log).claims head_of in
+    ap (option_map job_view) (job_behind c.push.new.self c.args.number (omega (arith, behind, number))) ∙ sym (slice_get-map job_view (jobs_in c.push.new.self) place)
+    ∙ ap (λ js. slice_get js place) jobs ∙ last_is_at (map job_view (jobs_in old.log)) place (job_view c.args.job.value) (omega (arith, many, behind, number))
 
 pub returns-in_err-reserve-clause-committed : goal.returns-in_err-reserve-clause-committed
 returns-in_err-reserve-clause-committed c =

@@ -6,7 +6,7 @@ use Rattle.cpn_core.specs.Elements.{element_view}
 use Rattle.cpn_core.specs.Occurrences.{occurrence_view}
 use Rattle.cpn_jobs.specs.declared.work.Job.{Job}
 use Rattle.cpn_log.specs.Logs.{PlainLog, stands_done, standings, begin_done}
-use Rattle.cpn_log.specs.LogViews.{log_view, jobs_in}
+use Rattle.cpn_log.specs.LogViews.{log_view, job_in}
 use Rattle.cpn_log.specs.States.{state_view}
 use Rattle.cpn_log.specs.declared.states.ClaimState.{ClaimState}
 use Rattle.cpn_log.specs.declared.states.ClaimState.TheVariants as states
@@ -63,11 +63,11 @@ next_of old number state at is done = next_stands (log_view old.log) stands_done
 is_of_next
     : (setup : PlainSetup) (old : Standing) (may : MayCommit setup old) (number : ℕ) (job : Job) (element : Arc Element Global) (next : IsNext (log_view old.log) stands_done)
     → number ≡ length (log_view old.log).committed
-    → slice_get (jobs_in old.log) number ≡ Some job
+    → job_in old.log number ≡ Some job
     → element_view element.value ≡ element_view job.element.value
     → IsOfNext old next (record { number = number; time = job.time; element = element })
 is_of_next setup old may number job element next at there shared =
-    let stands : slice_get (jobs_in old.log) (length (log_view old.log).committed) ≡ Some job = ap (slice_get (jobs_in old.log)) (sym at) ∙ there in
+    let stands : job_in old.log (length (log_view old.log).committed) ≡ Some job = ap (job_in old.log) (sym at) ∙ there in
     record { number = at; time = time_next setup old may.told stands_done next job stands; element = shared ∙ element_next setup old may.told stands_done next job stands }
 
 pub note_last-requires-clause-may : goal.note_last-requires-clause-may
@@ -76,7 +76,7 @@ note_last-requires-clause-may c =
     (record { number = c.committed-number.result; time = c.deref.result.now.time; element = c.in_ok-clone.field-0 })
     (is_of_next (setup_view c.args.setup.now) c.args.standing.now c.requires.may c.committed-number.result c.deref.result.now c.in_ok-clone.field-0 (next_of c.args.standing.now c.committed-number.result c.state.result c.committed-number.ensures c.state.ensures c.in-Done.is)
     c.committed-number.ensures (c.job-job.ensures ∙ ap Some (sym c.deref.ensures)) (ap element_view c.in_ok-clone.ensures.cases ∙ ap (λ (j : Job). element_view j.element.value) (c.deref-2.ensures ∙ sym c.deref.ensures)))
-    c.commit_one.new.self (record { committed = c.in_ok-commit_one.ensures.next; kept = c.in_ok-commit_one.ensures.kept; jobs = c.commit_one.ensures.jobs }) c.requires.playable
+    c.commit_one.new.self (record { committed = c.in_ok-commit_one.ensures.next; kept = c.in_ok-commit_one.ensures.kept; jobs = c.in_ok-commit_one.ensures.jobs }) c.requires.playable
 
 pub returns-in_err-monitor-clause-committed : goal.returns-in_err-monitor-clause-committed
 returns-in_err-monitor-clause-committed c =
@@ -84,7 +84,7 @@ returns-in_err-monitor-clause-committed c =
     (record { number = c.committed-number.result; time = c.deref.result.now.time; element = c.in_ok-clone.field-0 })
     (is_of_next (setup_view c.args.setup.now) c.args.standing.now c.requires.may c.committed-number.result c.deref.result.now c.in_ok-clone.field-0 (next_of c.args.standing.now c.committed-number.result c.state.result c.committed-number.ensures c.state.ensures c.in-Done.is)
     c.committed-number.ensures (c.job-job.ensures ∙ ap Some (sym c.deref.ensures)) (ap element_view c.in_ok-clone.ensures.cases ∙ ap (λ (j : Job). element_view j.element.value) (c.deref-2.ensures ∙ sym c.deref.ensures)))
-    c.commit_one.new.self (record { committed = c.in_ok-commit_one.ensures.next; kept = c.in_ok-commit_one.ensures.kept; jobs = c.commit_one.ensures.jobs })
+    c.commit_one.new.self (record { committed = c.in_ok-commit_one.ensures.next; kept = c.in_ok-commit_one.ensures.kept; jobs = c.in_ok-commit_one.ensures.jobs })
     c.note_last.new.standing c.reserve.new.self c.reserve.ensures.items c.note_last.ensures.occurrences c.note_last.ensures.others
 
 pub returns-in-Some-clause-made : goal.returns-in-Some-clause-made
@@ -93,7 +93,7 @@ returns-in-Some-clause-made c =
     (record { number = c.committed-number.result; time = c.deref.result.now.time; element = c.in_ok-clone.field-0 })
     (is_of_next (setup_view c.args.setup.now) c.args.standing.now c.requires.may c.committed-number.result c.deref.result.now c.in_ok-clone.field-0 (next_of c.args.standing.now c.committed-number.result c.state.result c.committed-number.ensures c.state.ensures c.in-Done.is)
     c.committed-number.ensures (c.job-job.ensures ∙ ap Some (sym c.deref.ensures)) (ap element_view c.in_ok-clone.ensures.cases ∙ ap (λ (j : Job). element_view j.element.value) (c.deref-2.ensures ∙ sym c.deref.ensures)))
-    c.commit_one.new.self (record { committed = c.in_ok-commit_one.ensures.next; kept = c.in_ok-commit_one.ensures.kept; jobs = c.commit_one.ensures.jobs })
+    c.commit_one.new.self (record { committed = c.in_ok-commit_one.ensures.next; kept = c.in_ok-commit_one.ensures.kept; jobs = c.in_ok-commit_one.ensures.jobs })
     c.note_last.new.standing c.reserve.new.self c.reserve.ensures.items c.note_last.ensures.occurrences c.note_last.ensures.others
 
 pub returns-in-Some-clause-committed : goal.returns-in-Some-clause-committed
@@ -102,7 +102,7 @@ returns-in-Some-clause-committed c =
     (record { number = c.committed-number.result; time = c.deref.result.now.time; element = c.in_ok-clone.field-0 })
     (is_of_next (setup_view c.args.setup.now) c.args.standing.now c.requires.may c.committed-number.result c.deref.result.now c.in_ok-clone.field-0 (next_of c.args.standing.now c.committed-number.result c.state.result c.committed-number.ensures c.state.ensures c.in-Done.is)
     c.committed-number.ensures (c.job-job.ensures ∙ ap Some (sym c.deref.ensures)) (ap element_view c.in_ok-clone.ensures.cases ∙ ap (λ (j : Job). element_view j.element.value) (c.deref-2.ensures ∙ sym c.deref.ensures)))
-    c.commit_one.new.self (record { committed = c.in_ok-commit_one.ensures.next; kept = c.in_ok-commit_one.ensures.kept; jobs = c.commit_one.ensures.jobs })
+    c.commit_one.new.self (record { committed = c.in_ok-commit_one.ensures.next; kept = c.in_ok-commit_one.ensures.kept; jobs = c.in_ok-commit_one.ensures.jobs })
     c.note_last.new.standing c.reserve.new.self c.reserve.ensures.items c.note_last.ensures.occurrences c.note_last.ensures.others
 
 pub returns-in-None-clause-made : goal.returns-in-None-clause-made
@@ -111,7 +111,7 @@ returns-in-None-clause-made c =
     (record { number = c.committed-number.result; time = c.deref.result.now.time; element = c.in_ok-clone.field-0 })
     (is_of_next (setup_view c.args.setup.now) c.args.standing.now c.requires.may c.committed-number.result c.deref.result.now c.in_ok-clone.field-0 (next_of c.args.standing.now c.committed-number.result c.state.result c.committed-number.ensures c.state.ensures c.in-Done.is)
     c.committed-number.ensures (c.job-job.ensures ∙ ap Some (sym c.deref.ensures)) (ap element_view c.in_ok-clone.ensures.cases ∙ ap (λ (j : Job). element_view j.element.value) (c.deref-2.ensures ∙ sym c.deref.ensures)))
-    c.commit_one.new.self (record { committed = c.in_ok-commit_one.ensures.next; kept = c.in_ok-commit_one.ensures.kept; jobs = c.commit_one.ensures.jobs })
+    c.commit_one.new.self (record { committed = c.in_ok-commit_one.ensures.next; kept = c.in_ok-commit_one.ensures.kept; jobs = c.in_ok-commit_one.ensures.jobs })
     c.note_last.new.standing c.reserve.new.self c.reserve.ensures.items c.note_last.ensures.occurrences c.note_last.ensures.others
 
 pub returns-in-None-clause-committed : goal.returns-in-None-clause-committed
@@ -120,7 +120,7 @@ returns-in-None-clause-committed c =
     (record { number = c.committed-number.result; time = c.deref.result.now.time; element = c.in_ok-clone.field-0 })
     (is_of_next (setup_view c.args.setup.now) c.args.standing.now c.requires.may c.committed-number.result c.deref.result.now c.in_ok-clone.field-0 (next_of c.args.standing.now c.committed-number.result c.state.result c.committed-number.ensures c.state.ensures c.in-Done.is)
     c.committed-number.ensures (c.job-job.ensures ∙ ap Some (sym c.deref.ensures)) (ap element_view c.in_ok-clone.ensures.cases ∙ ap (λ (j : Job). element_view j.element.value) (c.deref-2.ensures ∙ sym c.deref.ensures)))
-    c.commit_one.new.self (record { committed = c.in_ok-commit_one.ensures.next; kept = c.in_ok-commit_one.ensures.kept; jobs = c.commit_one.ensures.jobs })
+    c.commit_one.new.self (record { committed = c.in_ok-commit_one.ensures.next; kept = c.in_ok-commit_one.ensures.kept; jobs = c.in_ok-commit_one.ensures.jobs })
     c.note_last.new.standing c.reserve.new.self c.reserve.ensures.items c.note_last.ensures.occurrences c.note_last.ensures.others
 
 pub returns-in-Some-clause-leads : goal.returns-in-Some-clause-leads
@@ -129,7 +129,7 @@ returns-in-Some-clause-leads c =
     (record { number = c.committed-number.result; time = c.deref.result.now.time; element = c.in_ok-clone.field-0 })
     (is_of_next (setup_view c.args.setup.now) c.args.standing.now c.requires.may c.committed-number.result c.deref.result.now c.in_ok-clone.field-0 (next_of c.args.standing.now c.committed-number.result c.state.result c.committed-number.ensures c.state.ensures c.in-Done.is)
     c.committed-number.ensures (c.job-job.ensures ∙ ap Some (sym c.deref.ensures)) (ap element_view c.in_ok-clone.ensures.cases ∙ ap (λ (j : Job). element_view j.element.value) (c.deref-2.ensures ∙ sym c.deref.ensures)))
-    c.commit_one.new.self (record { committed = c.in_ok-commit_one.ensures.next; kept = c.in_ok-commit_one.ensures.kept; jobs = c.commit_one.ensures.jobs })
+    c.commit_one.new.self (record { committed = c.in_ok-commit_one.ensures.next; kept = c.in_ok-commit_one.ensures.kept; jobs = c.in_ok-commit_one.ensures.jobs })
     c.note_last.new.standing c.reserve.new.self c.reserve.ensures.items c.note_last.ensures.occurrences c.note_last.ensures.others c.in_ok-monitor.field-0 c.in_ok-monitor.ensures.measured c.in_ok-monitor.ensures.stop c.in-Some.monitor c.in-Some.is
 
 pub returns-in-None-clause-leads : goal.returns-in-None-clause-leads
@@ -138,13 +138,13 @@ returns-in-None-clause-leads c = (
       (record { number = c.committed-number.result; time = c.deref.result.now.time; element = c.in_ok-clone.field-0 })
       (is_of_next (setup_view c.args.setup.now) c.args.standing.now c.requires.may c.committed-number.result c.deref.result.now c.in_ok-clone.field-0 (next_of c.args.standing.now c.committed-number.result c.state.result c.committed-number.ensures c.state.ensures c.in-Done.is)
       c.committed-number.ensures (c.job-job.ensures ∙ ap Some (sym c.deref.ensures)) (ap element_view c.in_ok-clone.ensures.cases ∙ ap (λ (j : Job). element_view j.element.value) (c.deref-2.ensures ∙ sym c.deref.ensures)))
-      c.commit_one.new.self (record { committed = c.in_ok-commit_one.ensures.next; kept = c.in_ok-commit_one.ensures.kept; jobs = c.commit_one.ensures.jobs })
+      c.commit_one.new.self (record { committed = c.in_ok-commit_one.ensures.next; kept = c.in_ok-commit_one.ensures.kept; jobs = c.in_ok-commit_one.ensures.jobs })
       c.note_last.new.standing c.reserve.new.self c.reserve.ensures.items c.note_last.ensures.occurrences c.note_last.ensures.others c.in_ok-monitor.field-0 c.in_ok-monitor.ensures.measured c.in_ok-monitor.ensures.stop c.in-None.is,
   one_committed (setup_view c.args.setup.now) c.args.standing.now c.requires.may (next_of c.args.standing.now c.committed-number.result c.state.result c.committed-number.ensures c.state.ensures c.in-Done.is)
       (record { number = c.committed-number.result; time = c.deref.result.now.time; element = c.in_ok-clone.field-0 })
       (is_of_next (setup_view c.args.setup.now) c.args.standing.now c.requires.may c.committed-number.result c.deref.result.now c.in_ok-clone.field-0 (next_of c.args.standing.now c.committed-number.result c.state.result c.committed-number.ensures c.state.ensures c.in-Done.is)
       c.committed-number.ensures (c.job-job.ensures ∙ ap Some (sym c.deref.ensures)) (ap element_view c.in_ok-clone.ensures.cases ∙ ap (λ (j : Job). element_view j.element.value) (c.deref-2.ensures ∙ sym c.deref.ensures)))
-      c.commit_one.new.self (record { committed = c.in_ok-commit_one.ensures.next; kept = c.in_ok-commit_one.ensures.kept; jobs = c.commit_one.ensures.jobs })
+      c.commit_one.new.self (record { committed = c.in_ok-commit_one.ensures.next; kept = c.in_ok-commit_one.ensures.kept; jobs = c.in_ok-commit_one.ensures.jobs })
       c.note_last.new.standing c.reserve.new.self c.reserve.ensures.items c.note_last.ensures.occurrences c.note_last.ensures.others,
 )
 

@@ -6,7 +6,7 @@ use Rattle.cpn_core.specs.Faults.{fault_view}
 use Rattle.cpn_core.specs.declared.faults.EvalFault.{EvalFault}
 use Rattle.cpn_definitions.specs.Outcome.{Fault}
 use Rattle.cpn_log.specs.Logs.{stands_failed, standings, claims_made}
-use Rattle.cpn_log.specs.LogViews.{log_view, jobs_in}
+use Rattle.cpn_log.specs.LogViews.{log_view, job_in}
 use Rattle.cpn_log.specs.States.{state_view}
 use Rattle.cpn_log.specs.declared.states.ClaimState.{ClaimState}
 use Rattle.cpn_log.specs.declared.states.ClaimState.TheVariants as states
@@ -70,7 +70,7 @@ returns c = record {
       let waits = goes_on setup s c.args.stop c.in_default.not-Some no_more in
       let owes = owes_next setup s waits.0 waits.1 uncut in
       let next : IsNext log (stands_failed fault) = next_stands log (stands_failed fault) (ap (slice_get (standings log)) (sym number) ∙ c.state.ensures ∙ ap (λ t. Some (state_view t)) c.in-Failed.is) in
-      let job : slice_get (jobs_in s.log) (length log.committed) ≡ Some c.deref.result.now = ap (slice_get (jobs_in s.log)) (sym number) ∙ c.job.ensures ∙ ap Some (sym c.deref.ensures) in
+      let job : job_in s.log (length log.committed) ≡ Some c.deref.result.now = ap (job_in s.log) (sym number) ∙ c.job.ensures ∙ ap Some (sym c.deref.ensures) in
       let copied : element_view c.in_ok-element.element ≡ element_view c.deref-2.result.now = ap₂ (λ t b. record { transition = t; binding = b }) c.in_ok-element.ensures.transition c.in_ok-element.ensures.binding in
       let element : element_view c.in_ok-element.element ≡ next.claim.element = copied ∙ ap element_view c.deref-2.ensures ∙ element_next setup s waits.0.told (stands_failed fault) next c.deref.result.now job in (
         waits.0.told,

@@ -21,7 +21,7 @@ use Rattle.cpn_runs.specs.Views.{event_view}
 use Rattle.cpn_runs.specs.declared.events.Event.{Event}
 use Rattle.cpn_runs.specs.declared.events.Event.TheVariants as events
 use Rattle.cpn_book.proofs.DrawnClaims.{drawn_in_time, drawn_covered}
-use Rattle.cpn_book.proofs.OccurredStandings.{HasOccurred, done, all_in, few_outputs, marked_now, may_note_now, commits_no_more, still_occurred, one_more}
+use Rattle.cpn_book.proofs.OccurredStandings.{HasOccurred, done, all_in, few_outputs, outputs_on_places, marked_now, may_note_now, commits_no_more, still_occurred, one_more}
 use Rattle.cpn_book.proofs.occurring.occur.Goals.{After-push_reserved-2}
 use Rattle.cpn_tmset.specs.ChangedViews.{changes_view}
 use Rattle.cpn_book.specs.Telling.{TellsOn}
@@ -55,6 +55,10 @@ occur-requires-clause-covered c = drawn_covered (setup_view c.args.setup.now) c.
 
 pub occur-requires-clause-few : goal.occur-requires-clause-few
 occur-requires-clause-few c = few_outputs (setup_view c.args.setup.now) c.args.standing.now c.args.number c.args.job.value c.args.needs.now c.requires.drawn c.requires.playable c.requires.none_open c.args.outputs c.requires.outputs
+
+pub occur-requires-clause-in_range : goal.occur-requires-clause-in_range
+occur-requires-clause-in_range c =
+    outputs_on_places (setup_view c.args.setup.now) c.args.standing.now c.args.number c.args.job.value c.args.needs.now c.requires.drawn c.requires.playable c.requires.none_open c.args.outputs c.requires.outputs
 
 pub note_last-requires-clause-may : goal.note_last-requires-clause-may
 note_last-requires-clause-may c =
@@ -123,4 +127,4 @@ returns-clause-committed c =
 pub returns-clause-told : goal.returns-clause-told
 returns-clause-told c =
     subst (λ (l : Log). TellsOn (changes_view c.args.told.now) (changes_view c.append.new.self) (log_view c.args.standing.now.log).unclaimed (log_view l).unclaimed) (sym (ap (λ (s : Standing). s.log) c.note_last.ensures.others))
-    (tells_more (changes_view c.args.told.now) (changes_view c.append.new.self) (changes_view c.in_ok-changes.changes) (log_view c.args.standing.now.log).unclaimed (log_view c.occur.new.self).unclaimed c.in_ok-append.ensures.appended c.in_ok-changes.ensures.changes)
+    (tells_more (changes_view c.args.told.now) (changes_view c.append.new.self) (changes_view c.in_ok-changes.changes) (log_view c.args.standing.now.log).unclaimed (log_view c.occur.new.self).unclaimed c.in_ok-append.ensures.appended c.in_ok-changes.ensures.changes.others)

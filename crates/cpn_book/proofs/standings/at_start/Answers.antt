@@ -3,7 +3,7 @@ use Rattle.std.proofs.Common.{◌≡◌, ℕ, zero, suc, ◌<◌, ◌≤◌, ◌
 use Rattle.cpn_definitions.specs.Marking.{Marking, tokens_at, AreSorted}
 use Rattle.cpn_definitions.proofs.Markings.{held_at}
 use Rattle.cpn_log.specs.Kept.{IsKept}
-use Rattle.cpn_log.specs.Logs.{PlainLog, started, heads}
+use Rattle.cpn_log.specs.Logs.{PlainLog, started, head_of}
 use Rattle.cpn_log.specs.LogViews.{log_view}
 use Rattle.cpn_jobs.specs.Views.{job_view}
 use Rattle.cpn_core.specs.Occurrences.{occurrence_view}
@@ -69,7 +69,7 @@ returns-clause-starts c =
         told = subst (λ es. IsTold s es (first_state s) (log_view log) held) (sym empty) stands.told;
         clock = refl;
         cut = refl;
-        jobs = ap (map job_view) c.in_ok-log.ensures.jobs ∙ sym (ap (λ l. map (job_for s.net) (heads l)) is);
+        jobs = ap (map job_view) c.in_ok-log.ensures.jobs ∙ sym (ap (λ l. map (job_for s.net) (map head_of l.claims)) is);
         occurrences = ap (map occurrence_view) c.new-2.ensures.items ∙ ap (numbered 0) (sym (none_taken (length (log_view log).committed)));
         measured =
             measured_alike s s.clock s.clock [] (take (length (log_view log).committed) no_claims) (values_view c.in_ok-values.values) (values_view c.in_ok-values.values) refl (none_taken (length (log_view log).committed)) refl

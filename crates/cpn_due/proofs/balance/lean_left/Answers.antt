@@ -2,24 +2,24 @@
 use Rattle.std.proofs.Common.{◌∷◌, ◌++◌, subst}
 use Rattle.cpn_definitions.specs.Lists.{Rises}
 use Rattle.cpn_due.specs.Marked.{plain_marked, marked_cmp}
-use Rattle.cpn_due.proofs.RisingSides.{rises_right, rises_inner_left, rises_inner_right}
+use Rattle.cpn_due.specs.Sides.{around}
+use Rattle.cpn_due.proofs.RisingSides.{rises_inner_left, rises_inner_right}
+use Rattle.cpn_due.proofs.TurnedForks.{rises_right_apart}
 use Rattle.cpn_due.proofs.balance.lean_left.Goals as goal
 
-pub join-left-requires-clause-rises : goal.join-left-requires-clause-rises
-join-left-requires-clause-rises c =
-    let rise = subst (λ xs. Rises marked_cmp (c.args.parts.left.items ++ plain_marked c.args.parts.root ∷ xs)) c.take_apart-second.ensures.items c.requires.rises in
-    rises_inner_left marked_cmp c.args.parts.left.items (plain_marked c.args.parts.root) c.take_apart-second.result.left.items (plain_marked c.take_apart-second.result.root) c.take_apart-second.result.right.items rise
+pub join-requires-clause-rises : goal.join-requires-clause-rises
+join-requires-clause-rises c =
+    let rise = rises_right_apart c.args.fork.now.left c.args.fork.now.right c.args.fork.now.root c.replace-left.result c.replace-high.result c.replace-root.result c.replace-left.ensures.value c.replace-high.ensures.value c.replace-root.ensures.value c.requires.rises (around c.take_apart-second.result.left (plain_marked c.take_apart-second.result.root) c.take_apart-second.result.right) c.take_apart-second.ensures.items in
+    rises_inner_left marked_cmp c.replace-left.result.items (plain_marked c.replace-root.result) c.take_apart-second.result.left.items (plain_marked c.take_apart-second.result.root) c.take_apart-second.result.right.items rise
 
-pub join-left-requires-2-clause-rises : goal.join-left-requires-2-clause-rises
-join-left-requires-2-clause-rises c =
-    let rise = subst (λ xs. Rises marked_cmp (c.args.parts.left.items ++ plain_marked c.args.parts.root ∷ xs)) c.take_apart-second.ensures.items c.requires.rises in
-    let low = rises_inner_left marked_cmp c.args.parts.left.items (plain_marked c.args.parts.root) c.take_apart-second.result.left.items (plain_marked c.take_apart-second.result.root) c.take_apart-second.result.right.items rise in
-    let inner = subst (λ xs. Rises marked_cmp (c.args.parts.left.items ++ plain_marked c.args.parts.root ∷ xs)) c.take_apart-middle.ensures.items low in
-    rises_inner_left marked_cmp c.args.parts.left.items (plain_marked c.args.parts.root) c.take_apart-middle.result.left.items (plain_marked c.take_apart-middle.result.root) c.take_apart-middle.result.right.items inner
+pub join-requires-2-clause-rises : goal.join-requires-2-clause-rises
+join-requires-2-clause-rises c =
+    let rise = rises_right_apart c.args.fork.now.left c.args.fork.now.right c.args.fork.now.root c.replace-left.result c.replace-high.result c.replace-root-2.result c.replace-left.ensures.value c.replace-high.ensures.value c.replace-root-2.ensures.value c.requires.rises (around c.take_apart-second.result.left (plain_marked c.take_apart-second.result.root) c.take_apart-second.result.right) c.take_apart-second.ensures.items in
+    let low = rises_inner_left marked_cmp c.replace-left.result.items (plain_marked c.replace-root-2.result) c.take_apart-second.result.left.items (plain_marked c.take_apart-second.result.root) c.take_apart-second.result.right.items rise in
+    let inner = subst (λ xs. Rises marked_cmp (c.replace-left.result.items ++ plain_marked c.replace-root-2.result ∷ xs)) c.take_apart-middle.ensures.items low in
+    rises_inner_left marked_cmp c.replace-left.result.items (plain_marked c.replace-root-2.result) c.take_apart-middle.result.left.items (plain_marked c.take_apart-middle.result.root) c.take_apart-middle.result.right.items inner
 
-pub join-right-requires-clause-rises : goal.join-right-requires-clause-rises
-join-right-requires-clause-rises c =
-    let rise = subst (λ xs. Rises marked_cmp (c.args.parts.left.items ++ plain_marked c.args.parts.root ∷ xs)) c.take_apart-second.ensures.items c.requires.rises in
-    let high = (rises_right marked_cmp c.args.parts.left.items (plain_marked c.args.parts.root ∷ (c.take_apart-second.result.left.items ++ plain_marked c.take_apart-second.result.root ∷ c.take_apart-second.result.right.items)) rise).1 in
-    let inner = subst (λ xs. Rises marked_cmp (xs ++ plain_marked c.take_apart-second.result.root ∷ c.take_apart-second.result.right.items)) c.take_apart-middle.ensures.items high in
+pub join-requires-3-clause-rises : goal.join-requires-3-clause-rises
+join-requires-3-clause-rises c =
+    let inner = subst (λ xs. Rises marked_cmp (xs ++ plain_marked c.take_apart-second.result.root ∷ c.take_apart-second.result.right.items)) c.take_apart-middle.ensures.items c.take_apart-second.ensures.rises in
     rises_inner_right marked_cmp c.take_apart-middle.result.left.items (plain_marked c.take_apart-middle.result.root) c.take_apart-middle.result.right.items (plain_marked c.take_apart-second.result.root) c.take_apart-second.result.right.items inner

@@ -14,7 +14,7 @@ pub carry-stamp-requires : goal.carry-stamp-requires
 carry-stamp-requires c =
     let claim = c.claim-item.result in
     let time = time_in_range c.loop-claim.claim-index c.loop-claim.claims claim (let long = c.loop-claim.auto.claims in let test = c.loop-claim-test.true in omega (arith, long, test)) c.claim-item.is c.loop-claim.invariant.in_range in
-    record { in_time = subst (λ (k : Claim). k.job.value.time ≤ last_time) c.claim-item.is time }
+    record { in_time = subst (λ (k : Claim). k.head.time ≤ last_time) c.claim-item.is time }
 
 pub loop-claim-preserved : goal.loop-claim-preserved
 loop-claim-preserved c =

@@ -8,6 +8,7 @@ use Rattle.cpn_book.specs.Books.{setup_in, journal_in}
 use Rattle.cpn_book.specs.Tickets.{evaluated_number, evaluated_job}
 use Rattle.cpn_book.specs.declared.answers.Completed.TheVariants as completions
 use Rattle.cpn_book.proofs.AnsweredCompletions.{held_answers}
+use Rattle.cpn_book.proofs.HeldJobs.{held_behind}
 use Rattle.cpn_book.proofs.OpenNumbers.{held_below}
 use Rattle.cpn_book.proofs.PlayedRounds.{follows_itself}
 use Rattle.cpn_book.proofs.RefusedClaims.{of_another}
@@ -15,7 +16,7 @@ use Rattle.cpn_book.proofs.RunningBooks.{in_state}
 use Rattle.cpn_book.proofs.books.Book.complete_uncut.Goals as goal
 
 pub is_held-requires : goal.is_held-requires
-is_held-requires c = record { within = held_below (setup_in c.args.self.now) c.args.self.now.standing c.requires.running.at }
+is_held-requires c = record { behind = held_behind (setup_in c.args.self.now) c.args.self.now.standing c.requires.running.at; within = held_below (setup_in c.args.self.now) c.args.self.now.standing c.requires.running.at }
 
 pub returns-then-is_held-clause-answer : goal.returns-then-is_held-clause-answer
 returns-then-is_held-clause-answer c =

@@ -10,4 +10,4 @@ use Rattle.cpn_log.proofs.claims.Claim.happen.Goals as goal
 pub add_copies-requires : goal.add_copies-requires
 add_copies-requires c =
     let room = subst (λ (course : Course). HaveRoomFor (length (added (status_view course))) c.args.marking.now) c.in-Done.is c.requires.room in
-    record { room = subst (HaveRoomFor (length c.in-Done.outputs)) (sym c.subtract.ensures.subtracted) (room_subtracted c.deref.result.now.time c.args.self.now.needs (length c.in-Done.outputs) c.args.marking.now room) }
+    record { room = subst (HaveRoomFor (length c.in-Done.outputs)) (sym c.subtract.ensures.subtracted) (room_subtracted c.args.self.now.head.time c.args.self.now.needs (length c.in-Done.outputs) c.args.marking.now room) }

@@ -1,5 +1,5 @@
 -- With the token the marking stays one of the net, and nothing else changes.
-use Rattle.std.proofs.Common.{◌≡◌, sym, subst, ◌∙◌, arith}
+use Rattle.std.proofs.Common.{sym, subst, ◌∙◌, arith}
 use Rattle.cpn_definitions.specs.Sound.{IsMarking}
 use Rattle.cpn_definitions.proofs.Markings.{marking_length}
 use Rattle.cpn_core.specs.Nets.{net_view}
@@ -27,14 +27,12 @@ update-requires-clause-follows g c = record {
       others_stay_put c.args.place _ c.args.stamp c.args.self.marking c.add.new.self _ (omega (arith, same, within)) c.in_ok-changes.ensures.told c.in_ok-add.ensures.added;
 }
 
-pub returns : goal.returns
-returns g c = record {
-  held = record {
-    sound = c.requires.held.sound;
-    marking =
-        subst (IsMarking (net_view c.args.self.net).places) (sym c.in_ok-add.ensures.added)
-        (marking_put (net_view c.args.self.net).places c.args.place _ c.args.stamp c.args.self.marking c.requires.held.marking (c.may_be_put.ensures.held c.if-not-may_be_put.false));
-    enabled = c.in_ok-update.ensures.updated;
-    at = c.in_ok-update.ensures.clock ∙ c.requires.held.at;
-  };
+pub returns-clause-held : goal.returns-clause-held
+returns-clause-held g c = record {
+  sound = c.requires.held.sound;
+  marking =
+      subst (IsMarking (net_view c.args.self.net).places) (sym c.in_ok-add.ensures.added)
+      (marking_put (net_view c.args.self.net).places c.args.place _ c.args.stamp c.args.self.marking c.requires.held.marking (c.may_be_put.ensures.held c.if-not-may_be_put.false));
+  enabled = c.in_ok-update.ensures.updated;
+  at = c.in_ok-update.ensures.clock ∙ c.requires.held.at;
 }

@@ -1,5 +1,5 @@
 -- Without the token the marking stays one of the net, and nothing else changes.
-use Rattle.std.proofs.Common.{◌≡◌, sym, subst, ◌∙◌}
+use Rattle.std.proofs.Common.{sym, subst, ◌∙◌}
 use Rattle.cpn_definitions.specs.Sound.{IsMarking}
 use Rattle.cpn_core.specs.Nets.{net_view}
 use Rattle.cpn_test_index.proofs.ChangedTokens.{others_stay_taken, marking_taken}
@@ -16,12 +16,10 @@ update-requires-clause-follows g c = record {
   stay = others_stay_taken c.args.place _ c.args.latest c.args.self.marking c.take.new.self _ c.in_ok-changes.ensures.told c.take.ensures.taken;
 }
 
-pub returns : goal.returns
-returns g c = record {
-  held = record {
-    sound = c.requires.held.sound;
-    marking = subst (IsMarking (net_view c.args.self.net).places) (sym c.take.ensures.taken) (marking_taken (net_view c.args.self.net).places c.args.place _ c.args.latest c.args.self.marking c.requires.held.marking);
-    enabled = c.in_ok-update.ensures.updated;
-    at = c.in_ok-update.ensures.clock ∙ c.requires.held.at;
-  };
+pub returns-clause-held : goal.returns-clause-held
+returns-clause-held g c = record {
+  sound = c.requires.held.sound;
+  marking = subst (IsMarking (net_view c.args.self.net).places) (sym c.take.ensures.taken) (marking_taken (net_view c.args.self.net).places c.args.place _ c.args.latest c.args.self.marking c.requires.held.marking);
+  enabled = c.in_ok-update.ensures.updated;
+  at = c.in_ok-update.ensures.clock ∙ c.requires.held.at;
 }

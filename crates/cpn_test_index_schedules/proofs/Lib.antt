@@ -1,0 +1,2 @@
+mod StampLists
+mod ToldValues

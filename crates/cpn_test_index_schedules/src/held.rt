@@ -1,0 +1,125 @@
+//! An index that follows the marking of a run.
+ghost use Rattle.std.specs.Prelude.{◌≡◌, IfOk};
+ghost use Rattle.cpn_definitions.specs.Sound.{IsSound, IsMarking};
+ghost use Rattle.cpn_core.specs.Nets.{net_view};
+ghost use Rattle.cpn_test_index_schedules.specs.Held.{IsHeld};
+
+use crate::differences::changes_between;
+use cpn_core::{EnabledElement, Memory, Net};
+use cpn_due::compare_elements;
+use cpn_index::Index;
+use cpn_search::{Plans, Steps};
+use cpn_tmset::Marking;
+use std::alloc::Global;
+use std::cmp::Ordering;
+use std::sync::Arc;
+use std::sync::ledger::Ledger;
+
+/// A net, a marking of it, and the index of both at a clock.
+#[derive(Drop)]
+pub struct Held {
+    /// The net.
+    pub net: Arc<Net>,
+    /// The marking.
+    pub marking: Marking,
+    /// What is enabled in it.
+    pub index: Index,
+    /// The clock of the index.
+    pub clock: u64,
+}
+
+impl Held {
+    /// The index of a marking of a net, at a clock.
+    pub fn of(alloc: Global, net: Arc<Net>, marking: &Marking, clock: u64) -> Result<Held, Memory>
+        requires sound { IsSound (net_view net.value) }
+        requires marking { IsMarking (net_view net.value).places marking.now }
+        ensures held { IfOk result (λ held. IsHeld (net_view held.net.value) held.marking held.index held.clock) }
+        ensures net { IfOk result (λ held. net_view held.net.value ≡ net_view net.value) }
+    {
+        let marking = marking.copy()?;
+        let index = Index::build(alloc, &net, &marking, clock)?;
+        Ok(Held {
+            net,
+            marking,
+            index,
+            clock,
+        })
+    }
+
+    /// The index of another marking, which is told what changed, at a clock that is not before.
+    pub fn follow<L: Ledger>(
+        self,
+        alloc: Global,
+        marking: &Marking,
+        clock: u64,
+        steps: &mut Steps<L>,
+    ) -> Result<Held, Memory>
+        requires held { IsHeld (net_view self.net.value) self.marking self.index self.clock }
+        requires marking { IsMarking (net_view self.net.value).places marking.now }
+        ensures held { IfOk result (λ held. IsHeld (net_view held.net.value) held.marking held.index held.clock) }
+        ensures net { IfOk result (λ held. net_view held.net.value ≡ net_view self.net.value) }
+    {
+        let Held {
+            net,
+            marking: before,
+            mut index,
+            clock: earlier,
+        } = self;
+        let marking = marking.copy()?;
+        let changes = changes_between(alloc, &before, &marking)?;
+        index.update(&net, &marking, &changes, steps)?;
+        let clock = clock.max(earlier);
+        index.advance_to(clock);
+        Ok(Held {
+            net,
+            marking,
+            index,
+            clock,
+        })
+    }
+
+    /// Whether the index keeps just what a search of the whole net finds anew.
+    pub fn agrees(&self, alloc: Global) -> Result<bool, Memory>
+        requires held { IsHeld (net_view self.now.net.value) self.now.marking self.now.index self.now.clock }
+    {
+        let plans = Plans::of(alloc, &self.net)?;
+        let found = plans.enabled(alloc, &self.net, &self.marking, self.clock)?;
+        let as_many = u64::try_from(found.len()) == Ok(self.index.len());
+        let next = self.index.next_time() == least_time(&found);
+        Ok(as_many && next && are_ready(&self.index, &found, self.clock))
+    }
+}
+
+/// The least time of the elements; `None` where there is none.
+fn least_time(found: &[EnabledElement]) -> Option<u64> {
+    let mut least = None;
+    for element in found {
+        let earliest = element.entry.earliest;
+        least = match least {
+            None => Some(earliest),
+            Some(time) => Some(earliest.min(time)),
+        };
+    }
+    least
+}
+
+/// Whether those of the elements that are found for the clock are what is ready, in their order.
+fn are_ready(index: &Index, found: &[EnabledElement], clock: u64) -> bool {
+    let number = index.ready_len();
+    let mut k = 0;
+    for element in found {
+        if element.entry.earliest == clock {
+            if k >= number || !is_same(index.ready(k), element) {
+                return false;
+            }
+            k += 1;
+        }
+    }
+    k == number
+}
+
+/// Whether what is kept is the element that was found. Its own time may be before the clock.
+fn is_same(kept: &EnabledElement, found: &EnabledElement) -> bool {
+    let order = compare_elements(&kept.entry.element, &found.entry.element);
+    order == Ordering::Equal && kept.entry.earliest <= found.entry.earliest
+}
