@@ -15,10 +15,10 @@ GROUPS = []
 
 
 class Group:
-    """A net with its facts. A net that draws nothing is run once, unless its documents differ."""
+    """A net with its facts, and how many workers make its runs. A net that draws nothing is run once, unless its documents differ."""
 
-    def __init__(self, net, name=None, steps=1000, change=None, draws=True):
-        self.net, self.name, self.steps, self.change, self.draws = net, name or net, steps, change, draws
+    def __init__(self, net, name=None, steps=1000, change=None, draws=True, workers=1):
+        self.net, self.name, self.steps, self.change, self.draws, self.workers = net, name or net, steps, change, draws, workers
         self.of_markings, self.of_runs, self.of_all = [], [], []
         GROUPS.append(self)
 
@@ -218,6 +218,7 @@ def an_update_takes_eight_occurrences(run):
 PACKETS = {1: "COL", 2: "OUR", 3: "ED ", 4: "NET"}
 modules = Group("protocol_in_three_modules", steps=3000)
 simple = Group("simple_protocol", steps=3000)
+simple_by_four = Group("simple_protocol", "simple_protocol, by four workers", steps=500, workers=4)
 waiting = Group("stop_and_wait", steps=3000)
 timed = Group("timed_stop_and_wait", steps=3000)
 
@@ -260,6 +261,25 @@ def simple_received_in_order(state):
 def simple_ends(run):
     """the run ends dead, with all three packets received"""
     return run.end == "dead" and run.last.one("Protocol/Data Received") == "COLOURED "
+
+
+@simple_by_four.marking
+def received_in_order_by_four(state):
+    """the receiver has the texts of the packets before the one that it waits for, and the sender waits for none behind that one"""
+    wanted = state.one("Protocol/Next Rec")
+    return state.one("Protocol/Data Received") == text_before(wanted) and 1 <= state.one("Protocol/Next Send") <= wanted <= 4
+
+
+@simple_by_four.marking
+def packets_stay_by_four(state):
+    """the packets to send stay as they are"""
+    return state.counted("Protocol/Packets To Send") == count(*[*PACKETS.items()][:3])
+
+
+@simple_by_four.run
+def simple_ends_by_four(run):
+    """the run ends by the limit of its steps, or dead with all three packets received"""
+    return run.end == "steps" or run.end == "dead" and run.last.one("Protocol/Data Received") == "COLOURED "
 
 
 @waiting.marking
@@ -667,6 +687,48 @@ def the_gate_is_raised_too_early(runs):
         for (enters, train), (leaves, other) in itertools.product(run.of("enter"), run.of("leave"))
         if train == other
     )
+
+
+# ---- machines that count
+
+MOST_STEPS = {9: 19, 97: 118, 871: 178, 6171: 261, 77031: 350, 837799: 524, 8400511: 685, 63728127: 949, 670617279: 986}
+
+
+def steps_to_one(number):
+    """Counts the steps of a number to 1."""
+    count_of = 0
+    while number != 1:
+        number = 3 * number + 1 if number % 2 else number // 2
+        count_of += 1
+    return count_of
+
+
+def any_numbers(draw, document):
+    place_of(document, "Numbers")["initial"] = " ++ ".join(f"1`{draw.randint(1, 10**9)}" for _ in range(4))
+
+
+counting = Group("collatz_machines", draws=False)
+any_counting = Group("collatz_machines", "collatz_machines, its numbers drawn, by four workers", change=any_numbers, workers=4)
+
+
+@counting.marking
+def no_machine_and_no_number_is_lost(state):
+    """the eight machines stay, and the numbers and their steps are 72 together"""
+    machines = state.counted("Hall/Machines") == count(*range(1, 9))
+    return machines and state.number("Hall/Numbers") + state.number("Hall/Steps") == 72
+
+
+@counting.run
+def the_champions_take_the_most_steps(run):
+    """each number takes the most steps of all below its power of ten, eight times"""
+    return run.end == "dead" and run.last.counted("Hall/Steps") == count(*[*MOST_STEPS.items()] * 8)
+
+
+@any_counting.run
+def each_number_takes_its_steps(run):
+    """each number takes as many steps as are counted one by one"""
+    numbers = [int(it) for it in re.findall(r"`(\d+)", place_of(run.document, "Numbers")["initial"])]
+    return run.end == "dead" and run.last.counted("Hall/Steps") == count(*((it, steps_to_one(it)) for it in numbers))
 
 
 # ---- the smaller nets

@@ -227,4 +227,4 @@ module _ (old mid new : Book) (is : IsBook old) (follows : Follows old mid) (spe
   -- and it is a book still
   pub spent_still : is_spent_in new ≡ true → IsBook new
   spent_still now =
-      spent_is_book old new is (ap (λ (b : Book). b.setup) spent.book ∙ follows.setup) (ap (λ (b : Book). b.works) spent.book ∙ follows.works) (ap (λ (b : Book). b.opening) spent.book ∙ follows.opening) events_back committed_still now
+      spent_is_book old new is (ap (λ (b : Book). b.setup) spent.book ∙ follows.setup) (ap (λ (b : Book). b.works) spent.book ∙ follows.works) (ap (λ (b : Book). b.opening) spent.book ∙ follows.opening) (ap (λ (b : Book). b.entered) spent.book ∙ follows.entered) events_back committed_still now

@@ -44,3 +44,8 @@ mod JobsOfClaims
 mod MovedClocks
 mod OpenClaims
 mod OccurredClaims
+mod EnteredBooks
+mod HeldTickets
+pub mod LaterRuns
+pub mod SendableBooks
+pub mod SeatCalls

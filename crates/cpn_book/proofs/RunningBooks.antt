@@ -24,7 +24,7 @@ use Rattle.cpn_runs.proofs.States.{one_state, least_is_unique}
 use Rattle.cpn_book.proofs.LoggedClaims.{unclaimed_left}
 use Rattle.cpn_book.proofs.OpenClaims.{none_held_where_none}
 use Rattle.cpn_book.proofs.MovedClocks.{none_open, ends_by_cut, ends_without, run_is}
-use Rattle.cpn_book.specs.Books.{setup_in, journal_in, index_in, works_in, committed_in, is_spent_in, InState, IsRunning, IsBook, shown}
+use Rattle.cpn_book.specs.Books.{setup_in, journal_in, index_in, works_in, committed_in, is_spent_in, entered_in, InState, IsRunning, IsBook, shown}
 use Rattle.cpn_book.specs.Shown.{outlook_at}
 use Rattle.cpn_book.specs.Standings.{HasCommitted, cut_view}
 use Rattle.cpn_book.specs.States.{IsIndex, AreReady}
@@ -66,7 +66,7 @@ module _ (book : Book) (running : IsRunning book) where
   are_ready number is = (index_in book, index, is ∙ ap (λ (t : ℕ). length (ready t (index_in book))) running.at.at.clock)
 
 -- a book that follows another and is not spent is a book
-module _ (old new : Book) (is : IsBook old) (setup : new.setup ≡ old.setup) (works : new.works ≡ old.works) (opening : new.opening ≡ old.opening) where
+module _ (old new : Book) (is : IsBook old) (setup : new.setup ≡ old.setup) (works : new.works ≡ old.works) (opening : new.opening ≡ old.opening) (entered : new.entered ≡ old.entered) where
   same_setup : setup_in old ≡ setup_in new
   same_setup = ap setup_view (sym setup)
 
@@ -85,6 +85,12 @@ module _ (old new : Book) (is : IsBook old) (setup : new.setup ≡ old.setup) (w
       let Q : Outlook → Type 0 = λ o. HasOutlook (setup_in old) (setup_in old).start (setup_in old).clock o in
       subst P same_setup (subst Q (ap outlook_view (sym opening)) is.opening)
 
+  entered_still : entered_in new ≤ (setup_in new).limits.seats
+  entered_still =
+      let P : PlainSetup → Type 0 = λ s. entered_in new ≤ s.limits.seats in
+      let Q : ℕ → Type 0 = λ n. n ≤ (setup_in old).limits.seats in
+      subst P same_setup (subst Q (sym entered) is.entered)
+
   pub running_is_book : IsRunning new → IsBook new
   running_is_book running = record {
     playable = playable_still;
@@ -94,6 +100,7 @@ module _ (old new : Book) (is : IsBook old) (setup : new.setup ≡ old.setup) (w
     reached = running.at.at.told.reached;
     committed = has_committed_at (setup_in new) new.standing running.at.at;
     running = λ unspent. running;
+    entered = entered_still;
   }
 
   -- and so is one that is spent, with the journal of before
@@ -109,6 +116,7 @@ module _ (old new : Book) (is : IsBook old) (setup : new.setup ≡ old.setup) (w
         subst P same_setup (subst Q (sym journal) is.reached);
     committed = (let P : PlainSetup → Type 0 = λ s. HasCommitted s new.standing in subst P same_setup committed);
     running = λ unspent. (let clash : true ≡ false = sym spent ∙ unspent in cc);
+    entered = entered_still;
   }
 
 -- ---- the end

@@ -1,5 +1,5 @@
 -- A book at the start of its run.
-use Rattle.std.proofs.Common.{◌≡◌, ℕ, ◌<◌, List, length, map, Option, Some, None, refl, sym, ap, ◌∙◌, subst, slice_get, vec_len, vec_capacity}
+use Rattle.std.proofs.Common.{◌≡◌, ℕ, ◌<◌, List, length, map, Option, Some, None, refl, sym, ap, ◌∙◌, subst, arith, slice_get, vec_len, vec_capacity}
 use Rattle.std.specs.Prelude.{IfSome}
 use Rattle.std.specs.Option.{option_map}
 use Rattle.std.proofs.lemmas.List.{length-map}
@@ -16,7 +16,7 @@ use Rattle.cpn_runs.specs.FinishedViews.{outlook_view}
 use Rattle.cpn_runs.specs.Playable.{IsPlayable}
 use Rattle.cpn_runs.specs.Run.{Outlook, HasOutlook}
 use Rattle.cpn_book.specs.StandingRuns.{IsTold}
-use Rattle.cpn_book.specs.Books.{setup_in, index_in, works_in, IsBook, IsRunning}
+use Rattle.cpn_book.specs.Books.{setup_in, index_in, works_in, entered_in, IsBook, IsRunning}
 use Rattle.cpn_book.specs.Shown.{outlook_at}
 use Rattle.cpn_book.specs.Standings.{IsAt, events_in}
 use Rattle.cpn_book.specs.Works.{AreWorks}
@@ -49,6 +49,7 @@ pub record HasStarted (book : Book) (s : Standing) : Type 0 where
   pub at_clock : clock_in book.index ≡ (setup_in book).clock
   pub opening : outlook_view book.opening ≡ outlook_at (setup_in book).clock (index_in book)
   pub room : vec_len book.standing.journal < vec_capacity book.standing.journal
+  pub none_entered : entered_in book ≡ 0
 
 module _ (book : Book) (s : Standing) (did : HasStarted book s) where
   starts_so : IsAt (setup_in book) (record s { journal = book.standing.journal })
@@ -98,4 +99,5 @@ module _ (book : Book) (s : Standing) (did : HasStarted book s) where
     reached = starts_at.at.told.reached;
     committed = has_committed_at (setup_in book) book.standing starts_at.at;
     running = λ unspent. runs;
+    entered = (let none = did.none_entered in omega (arith, none));
   }

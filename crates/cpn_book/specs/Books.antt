@@ -1,5 +1,5 @@
 -- What a book stands for, and what it keeps true. Source: own choice.
-use Rattle.std.specs.Prelude.{◌≡◌, ◌<◌, Bool, false, List, [], map, vec_len, vec_capacity}
+use Rattle.std.specs.Prelude.{◌≡◌, ℕ, ◌<◌, ◌≤◌, Bool, false, List, [], map, vec_len, vec_capacity}
 use Rattle.cpn_definitions.specs.Enabled.{PlainEntry, ready}
 use Rattle.cpn_index.specs.Index.{clock_in, listed_in, IsIndexOf}
 use Rattle.cpn_jobs.specs.Views.{work_view}
@@ -40,6 +40,10 @@ works_in book = map (λ work. work_view work.value) book.works.items
 abbrev pub is_spent_in : Book → Bool
 is_spent_in book = book.spent
 
+-- how many seat numbers were given
+abbrev pub entered_in : Book → ℕ
+entered_in book = book.entered
+
 -- it holds of the state that the book's journal leads to
 abbrev pub InState : Book → (PlainState → Type 0) → Type 0
 InState book P = (state : PlainState) → IsState (setup_in book) (journal_in book) state → P state
@@ -53,7 +57,7 @@ pub record IsRunning (book : Book) : Type 0 where
   pub room : ready book.standing.clock (index_in book) ≡ [] → vec_len book.standing.journal < vec_capacity book.standing.journal
 
 -- A book: from a setup that a run may start from, with the work of each transition and the outlook at the start. Its journal leads to
--- a state, and what was committed stands, also where the book is spent.
+-- a state, and what was committed stands, also where the book is spent. No more seat numbers were given than the run has seats.
 pub record IsBook (book : Book) : Type 0 where
   pub playable : IsPlayable (setup_in book)
   pub works : AreWorks (setup_in book).net (works_in book)
@@ -62,6 +66,7 @@ pub record IsBook (book : Book) : Type 0 where
   pub reached : IsState (setup_in book) (journal_in book) state
   pub committed : HasCommitted (setup_in book) book.standing
   pub running : is_spent_in book ≡ false → IsRunning book
+  pub entered : entered_in book ≤ (setup_in book).limits.seats
 
 -- what the book shows where its run ends by a cause
 abbrev pub shown : Book → PlainEnd → PlainFinished

@@ -9,6 +9,9 @@ pub mod States
 pub mod Bounds
 pub mod Answers
 pub mod OneAnswers
+pub mod HeldTickets
+pub mod Seen
+pub mod Desks
 pub mod GoingAlone
 pub mod Steps
 pub mod Telling

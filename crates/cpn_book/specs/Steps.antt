@@ -16,6 +16,7 @@ pub record Follows (old new : Book) : Type 0 where
   pub works : new.works ≡ old.works
   pub opening : new.opening ≡ old.opening
   pub spent : new.spent ≡ old.spent
+  pub entered : new.entered ≡ old.entered
   pub more : List PlainEvent
   pub events : journal_in new ≡ journal_in old ++ more
   pub committed : StillCommitted (setup_in old) old.standing new.standing
@@ -29,6 +30,10 @@ pub record IsMovedFrom (old new : Book) : Type 0 where
 pub record IsSpentFrom (old new : Book) : Type 0 where
   pub book : new ≡ record old { spent = true; standing = new.standing; index = new.index }
   pub standing : new.standing ≡ record old.standing { journal = new.standing.journal }
+
+-- a book like another, but for how many seat numbers were given
+abbrev pub IsEnteredFrom : Book → Book → Type 0
+IsEnteredFrom old new = new ≡ record old { entered = new.entered }
 
 -- A run that goes on, where no claim is open: no cut stands, fewer claims were made than may be, and the next time is one that it may
 -- reach.

@@ -12,7 +12,7 @@ ghost use Rattle.cpn_runs.specs.Playable.{IsPlayable};
 ghost use Rattle.cpn_definitions.specs.Legal.{PlainOccurrence};
 ghost use Rattle.cpn_runs.specs.State.{claim_made, clock_moved};
 ghost use Rattle.cpn_book.specs.Answers.{AnswersClaim, claim_events, MayClaimNext, AnswersEvaluation, IsNotCut, AnswersAdvance, move_events, AnswersFinish};
-ghost use Rattle.cpn_book.specs.Books.{setup_in, journal_in, index_in, committed_in, is_spent_in, InState, IsBook, IsRunning};
+ghost use Rattle.cpn_book.specs.Books.{setup_in, journal_in, index_in, committed_in, is_spent_in, entered_in, InState, IsBook, IsRunning};
 ghost use Rattle.cpn_book.specs.Committing.{AddsCompletion};
 ghost use Rattle.cpn_book.specs.Standings.{IsAt};
 ghost use Rattle.cpn_book.specs.Steps.{Follows, IsMovedFrom, IsSpentFrom, Moves};
@@ -54,6 +54,7 @@ pub struct Book {
     pub(crate) opening: Outlook,
     pub(crate) index: Index,
     pub(crate) spent: bool,
+    pub(crate) entered: u32,
 }
 
 impl Book {
@@ -68,6 +69,7 @@ impl Book {
         ensures setup { IfOk result (λ book. setup_in book ≡ setup_view setup) }
         ensures journal { IfOk result (λ book. journal_in book ≡ []) }
         ensures unspent { IfOk result (λ book. is_spent_in book ≡ false) }
+        ensures entered { IfOk result (λ book. entered_in book ≡ 0) }
     {
         let works = works_of(alloc, &setup.net)?;
         let mut standing = at_start(alloc, &setup)?;
@@ -82,6 +84,7 @@ impl Book {
             opening,
             index,
             spent: false,
+            entered: 0,
         })
     }
 
@@ -95,6 +98,7 @@ impl Book {
         requires known { seat < (setup_in self.old).limits.seats }
         ensures kept { IsBook self.new }
         ensures setup { setup_in self.new ≡ setup_in self.old }
+        ensures entered { entered_in self.new ≡ entered_in self.old }
         ensures answer { IfOk result (λ answer. InState self.old (λ state. AnswersClaim (setup_in self.old) state seat answer)) }
         ensures events { IfOk result (λ answer. journal_in self.new ≡ journal_in self.old ++ claim_events seat answer) }
         ensures unspent { OnOk result (is_spent_in self.old ≡ false) }
@@ -142,6 +146,7 @@ impl Book {
         requires kept { IsBook self.old }
         ensures kept { IsBook self.new }
         ensures setup { setup_in self.new ≡ setup_in self.old }
+        ensures entered { entered_in self.new ≡ entered_in self.old }
         ensures answer { IfOk result (λ answer. AnswersEvaluation self.old self.new seat done answer) }
         ensures unspent { OnOk result (is_spent_in self.old ≡ false) }
         ensures unspent_still { OnOk result (is_spent_in self.new ≡ false) }
@@ -175,6 +180,7 @@ impl Book {
         requires kept { IsBook self.old }
         ensures kept { IsBook self.new }
         ensures setup { setup_in self.new ≡ setup_in self.old }
+        ensures entered { entered_in self.new ≡ entered_in self.old }
         ensures answer { is_spent_in self.old ≡ false → InState self.old (λ state. AnswersAdvance (setup_in self.old) state result) }
         ensures events { journal_in self.new ≡ journal_in self.old ++ move_events result }
         ensures unchanged { move_events result ≡ [] → self.new ≡ self.old }

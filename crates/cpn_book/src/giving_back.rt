@@ -3,7 +3,7 @@
 ghost use Rattle.std.specs.Prelude.{◌≡◌, ◌≢◌, ℕ, ◌<◌, Some, true, false, [], ◌∷◌, ◌++◌, slice_get, IfOk, OnOk, OnErr};
 ghost use Rattle.cpn_runs.specs.State.{cut_made};
 ghost use Rattle.cpn_book.specs.Answers.{AnswersTicket, IsNotCut};
-ghost use Rattle.cpn_book.specs.Books.{setup_in, journal_in, index_in, committed_in, is_spent_in, InState, IsBook, IsRunning};
+ghost use Rattle.cpn_book.specs.Books.{setup_in, journal_in, index_in, committed_in, is_spent_in, entered_in, InState, IsBook, IsRunning};
 ghost use Rattle.cpn_book.specs.Steps.{Follows};
 ghost use Rattle.cpn_book.specs.Tickets.{number_of};
 ghost use Rattle.cpn_book.specs.declared.standings.Cut.{Cut};
@@ -26,6 +26,7 @@ impl Book {
         requires kept { IsBook self.old }
         ensures kept { IsBook self.new }
         ensures setup { setup_in self.new ≡ setup_in self.old }
+        ensures entered { entered_in self.new ≡ entered_in self.old }
         ensures answer { IfOk result (λ answer. AnswersTicket self.old self.new seat ticket answer) }
         ensures unspent { OnOk result (is_spent_in self.old ≡ false) }
         ensures unspent_still { OnOk result (is_spent_in self.new ≡ false) }

@@ -33,7 +33,7 @@ use std::alloc::Global;
 use std::sync::Arc;
 
 /// Makes the claim of seat 0 that is drawn and evaluated, where no claim is open, and completes it. It leaves room in the journal for one
-/// event more, and adds what is taken, added and put back to what is told. After `Memory` nothing is known of where the run stands.
+/// event more, and adds what changes in the unclaimed marking to what is told. After `Memory` nothing is known of where the run stands.
 pub(crate) fn play_drawn(
     alloc: Global,
     setup: &Setup,

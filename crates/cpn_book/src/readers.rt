@@ -1,6 +1,7 @@
 //! What is to be read in a book.
 
 ghost use Rattle.std.specs.Prelude.{◌≡◌, ◌≤◌, ◌-◌, ◌^◌, Some, false, length, map};
+ghost use Rattle.std.specs.Option.{is_some};
 ghost use Rattle.cpn_definitions.specs.Bounds.{IsBounded};
 ghost use Rattle.cpn_definitions.specs.Legal.{Legal, timed};
 ghost use Rattle.cpn_definitions.specs.Sound.{IsMarking};
@@ -71,6 +72,15 @@ impl Book {
         ensures { InState self.now (λ state. values_view result.now ≡ values_in (setup_in self.now) state) }
     {
         &self.standing.values
+    }
+
+    /// Whether a cut stands. It is asked of a book that is not spent.
+    pub fn is_cut(&self) -> bool
+        requires kept { IsBook self.now }
+        requires unspent { is_spent_in self.now ≡ false }
+        ensures { InState self.now (λ state. result ≡ is_some state.cut) }
+    {
+        self.standing.cut.is_some()
     }
 
     /// How many binding elements are ready: covered in the unclaimed marking at the clock. It is asked of a book that is not spent.

@@ -11,3 +11,4 @@ mod ListedParts
 mod ShapeOrder
 mod ShapeMembers
 mod SmallSets
+pub mod SendableNets

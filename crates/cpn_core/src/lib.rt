@@ -16,6 +16,7 @@ mod needs;
 mod nets;
 mod occurrences;
 mod outputs;
+mod sendable;
 mod small;
 mod values;
 

@@ -8,3 +8,4 @@ mod RankedItems
 mod RisingSides
 mod SummaryLaws
 mod TurnedForks
+pub mod SendableElements

@@ -5,7 +5,7 @@ ghost use Rattle.std.specs.List.{AllByRecursion};
 ghost use Rattle.cpn_core.specs.Inscriptions.{funs_view};
 ghost use Rattle.cpn_core.specs.Nets.{net_view};
 ghost use Rattle.cpn_declared.specs.DeclsViews.{decls_view};
-ghost use Rattle.cpn_book.specs.Books.{journal_in, is_spent_in, IsBook};
+ghost use Rattle.cpn_book.specs.Books.{journal_in, is_spent_in, entered_in, IsBook};
 ghost use Rattle.cpn_definitions.specs.Times.{last_time};
 ghost use Rattle.cpn_document.specs.Views.{edit_view as written_view};
 ghost use Rattle.cpn_document.specs.declared.pointers.Pointer.TheVariants.{Root};
@@ -243,6 +243,7 @@ impl Session {
         ensures kept { IfOk result (λ begun. IsBook begun.1) }
         ensures journal { IfOk result (λ begun. journal_in begun.1 ≡ []) }
         ensures unspent { IfOk result (λ begun. is_spent_in begun.1 ≡ false) }
+        ensures entered { IfOk result (λ begun. entered_in begun.1 ≡ 0) }
     {
         let mut session = self;
         let from = session.take_start(start)?;

@@ -33,3 +33,4 @@ mod UpdateWorkRows
 mod WaitingElements
 mod WatchedPlaces
 mod NeededChanges
+pub mod SendableIndexes

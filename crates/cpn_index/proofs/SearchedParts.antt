@@ -28,9 +28,6 @@ use Rattle.cpn_index.proofs.TouchedElements.{of_the_net}
 abbrev pub IsOfOne : List ℕ → (PlainElement → Type 0) → PlainElement → Type 0
 IsOfOne ts P e = IsIn e.transition ts × P e
 
-pub none_searched : (n : PlainNet) (m : Marking) (P : PlainElement → Type 0) (elements : List PlainEnabled) → HaveAll n m (IsOfOne [] P) elements
-none_searched n m P elements y is has = absurd has.0
-
 -- one transition more
 pub one_searched
     : (n : PlainNet) (m : Marking) (P : PlainElement → Type 0) (ts : List ℕ) (t : ℕ) (old new : List PlainEnabled)

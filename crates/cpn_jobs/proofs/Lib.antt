@@ -1,3 +1,4 @@
 mod AddedTokens
 mod ArcsLeft
 mod NumberedWork
+pub mod SendableJobs

@@ -7,6 +7,7 @@
 
 mod equality;
 mod outputs;
+mod sendable;
 mod work;
 mod works;
 

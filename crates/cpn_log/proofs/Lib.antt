@@ -18,3 +18,4 @@ mod TakenPicks
 mod Completions
 mod CutClaims
 mod ClaimStandings
+pub mod SendableLogs

@@ -1,18 +1,17 @@
 -- What needs took out of a marking, put back with its stamps, in whatever order, gives the marking.
-use Rattle.std.proofs.Common.{◌≡◌, ℕ, zero, suc, ◌<◌, ◌≤◌, Bool, true, false, cond, nat_le, List, [], ◌∷◌, ◌++◌, length, Some, None, slice_get, refl, sym, ap, subst, ◌∙◌, ⊎_elim, nat_cmp, is_lt}
+use Rattle.std.proofs.Common.{◌≡◌, ℕ, zero, suc, ◌<◌, ◌≤◌, Bool, true, false, cond, List, [], ◌∷◌, ◌++◌, length, Some, None, slice_get, refl, sym, ap, subst, ◌∙◌, ⊎_elim, is_lt}
 use Rattle.std.specs.List.{AllByRecursion}
 use Rattle.std.specs.Option.{unwrap_or}
-use Rattle.std.proofs.lemmas.Bool.{cond_both, cond-false, leb-true, cases_lt}
+use Rattle.std.proofs.lemmas.Bool.{cond_both, cases_lt}
 use Rattle.cpn_definitions.specs.Value.{PlainValue}
 use Rattle.cpn_definitions.specs.Order.{same_value}
 use Rattle.cpn_definitions.specs.ValueOrder.{same_value_true}
 use Rattle.cpn_definitions.specs.Lists.{with_item, with_items, in_order}
-use Rattle.cpn_definitions.specs.Marking.{token_at, Tokens, Marking, tokens_at, on_place, add_token, AreSorted, stamps, begins_by, without_latest, without_token}
+use Rattle.cpn_definitions.specs.Marking.{token_at, Tokens, Marking, tokens_at, on_place, add_token, AreSorted, stamps, begins_by, without_token}
 use Rattle.cpn_definitions.specs.Occurrence.{Needed, Made, made_cmp, threshold, subtract, add_made}
-use Rattle.cpn_definitions.proofs.NumberTests.{is_behind}
 use Rattle.cpn_definitions.proofs.OrderedLists.{with_items_append}
 use Rattle.cpn_definitions.proofs.SortedTokens.{add_token_sorted, without_token_sorted}
-use Rattle.cpn_definitions.proofs.Stamps.{AreRising, stamps_rise, stamps_without, stamps_without_other}
+use Rattle.cpn_definitions.proofs.Stamps.{stamps_rise, stamps_without, stamps_without_other}
 use Rattle.cpn_definitions.proofs.SameTokens.{same_tokens}
 use Rattle.cpn_definitions.proofs.ChangedPlaces.{places_with}
 use Rattle.cpn_definitions.proofs.Subtraction.{AllAreSorted, sorted_without}
@@ -20,25 +19,12 @@ use Rattle.cpn_definitions.proofs.Addition.{with_stamp, stamps_with, with_made}
 use Rattle.cpn_definitions.proofs.RicherMarkings.{past_the_last}
 use Rattle.cpn_tmset.specs.Stamps.{latest_stamp}
 use Rattle.cpn_tmset.specs.StampsTaken.{stamp_taken, stamps_taken}
-use Rattle.cpn_tmset.proofs.CarriedStamps.{latest_at_least, is_latest, ahead_of}
+use Rattle.cpn_tmset.proofs.CarriedStamps.{is_latest}
 use Rattle.cpn_runs.proofs.CarriedTokens.{CoveredInTurn, first_found, rest_covered, with_either_way}
+use Rattle.cpn_runs.proofs.Picks.{taken_back}
 use Rattle.cpn_log.specs.Gathered.{token_taken, tokens_taken}
 
 -- ---- one token
-
-stamp_back : (t : ℕ) (ss : List ℕ) → AreRising ss → begins_by t ss ≡ true → with_stamp (latest_stamp t ss) (without_latest t ss) ≡ ss
-stamp_back t [] rising found = cc
-stamp_back t (s ∷ ss) rising found = split (begins_by t ss) refl (λ h. stamp_back t ss rising.1 h)
-  where
-    split
-        : (b : Bool) → begins_by t ss ≡ b
-        → (begins_by t ss ≡ true → with_stamp (latest_stamp t ss) (without_latest t ss) ≡ ss)
-        → with_stamp (cond b (latest_stamp t ss) s) (cond b (s ∷ without_latest t ss) (cond (nat_le s t) ss (s ∷ ss))) ≡ s ∷ ss
-    split true deeper rest =
-        let latest = latest_stamp t ss in
-        let left = without_latest t ss in
-        cond-false (is_lt (nat_cmp latest s)) (latest ∷ s ∷ left) (s ∷ with_stamp latest left) (is_behind latest s (latest_at_least t s ss rising.0 deeper)) ∙ ap (λ rs. s ∷ rs) (rest deeper)
-    split false stops rest = ap (λ b. with_stamp s (cond b ss (s ∷ ss))) found ∙ ahead_of t s ss (leb-true s t found) stops
 
 -- the token that a threshold takes from a place, put back
 token_back : (v : PlainValue) (t : ℕ) (ks : Tokens) → AreSorted ks → begins_by t (stamps v ks) ≡ true → add_token (token_at v (latest_stamp t (stamps v ks))) (without_token v t ks) ≡ ks
@@ -56,7 +42,7 @@ token_back v t ks sorted found =
 
     split : (w : PlainValue) (b : Bool) → same_value w v ≡ b → cond b (with_stamp s (stamps w left)) (stamps w left) ≡ stamps w ks
     split w true is =
-        subst (λ u. with_stamp s (stamps u left) ≡ stamps u ks) (sym (same_value_true w v is)) (ap (with_stamp s) (stamps_without v t ks sorted) ∙ stamp_back t (stamps v ks) (stamps_rise v ks sorted) found)
+        subst (λ u. with_stamp s (stamps u left) ≡ stamps u ks) (sym (same_value_true w v is)) (ap (with_stamp s) (stamps_without v t ks sorted) ∙ taken_back t (stamps v ks) (stamps_rise v ks sorted) found)
     split w false is = stamps_without_other w v t ks is
 
 -- ---- one token in a marking
@@ -71,12 +57,12 @@ both_on_place f g p [] = refl
 both_on_place f g zero (ks ∷ m) = refl
 both_on_place f g (suc p) (ks ∷ m) = ap (λ r. ks ∷ r) (both_on_place f g p m)
 
-taken_back
+need_back
     : (time : ℕ) (need : Needed) (m : Marking)
     → AllAreSorted m
     → begins_by (threshold time need) (stamps need.value (tokens_at m need.place)) ≡ true
     → with_made (token_taken need (stamp_taken time need m)) (on_place need.place (without_token need.value (threshold time need)) m) ≡ m
-taken_back time need m sorted found =
+need_back time need m sorted found =
     let t = threshold time need in
     let ks = tokens_at m need.place in
     let take = without_token need.value t in
@@ -109,7 +95,7 @@ each_back time (need ∷ needs) m sorted all =
     let next = on_place need.place (without_token need.value (threshold time need)) m in
     let first = token_taken need (stamp_taken time need m) in
     let rest = each_back time needs next (sorted_without need.place need.value (threshold time need) m sorted) (rest_covered time need needs m sorted all) in
-    one_later (tokens_taken needs (stamps_taken time needs next)) first (subtract (threshold time) needs next) ∙ ap (with_made first) rest ∙ taken_back time need m sorted found
+    one_later (tokens_taken needs (stamps_taken time needs next)) first (subtract (threshold time) needs next) ∙ ap (with_made first) rest ∙ need_back time need m sorted found
 
 pub all_back
     : (time : ℕ) (needs : List Needed) (m : Marking)

@@ -14,6 +14,7 @@ mod gathered;
 mod logs;
 mod markings;
 mod replay;
+mod sendable;
 mod settled;
 mod states;
 mod tokens;

@@ -4,3 +4,4 @@ mod Rows
 mod ToldRuns
 mod ValueLists
 mod ValueViews
+pub mod SendableMonitors

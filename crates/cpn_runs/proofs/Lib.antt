@@ -12,12 +12,13 @@ pub mod BoundedStates
 pub mod MeasuredStates
 pub mod GrownRuns
 pub mod NumberedJournals
-mod Picks
+pub mod Picks
 mod TwoPlaces
 pub mod CarriedTokens
 pub mod FilledRuns
 pub mod KeptPicks
 pub mod FilledStates
+pub mod HeldClaims
 mod Rows
 mod FilledRows
 mod WorkedNet
@@ -28,6 +29,8 @@ mod MeasuredRows
 mod StopRows
 mod StoppedRuns
 mod GivenBackRows
+mod SeatRows
 mod GrownRows
 mod PlayableRows
 mod PhaseRows
+pub mod SendableRuns

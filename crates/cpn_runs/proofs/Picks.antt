@@ -30,7 +30,7 @@ taken_by [] ss = []
 taken_by (t ∷ ts) ss = latest_stamp t ss ∷ taken_by ts (without_latest t ss)
 
 -- the stamp that is taken and those that are left are what was there
-taken_back : (t : ℕ) (ss : List ℕ) → AreRising ss → begins_by t ss ≡ true → with_stamp (latest_stamp t ss) (without_latest t ss) ≡ ss
+pub taken_back : (t : ℕ) (ss : List ℕ) → AreRising ss → begins_by t ss ≡ true → with_stamp (latest_stamp t ss) (without_latest t ss) ≡ ss
 taken_back t [] rising found = absurd cc
 taken_back t (s ∷ ss) rising found = split (begins_by t ss) refl (λ h. taken_back t ss rising.1 h)
   where

@@ -11,3 +11,5 @@ pub mod Bounds
 pub mod Playable
 pub mod Phases
 pub mod WithoutSeats
+pub mod SeatEvents
+pub mod HeldClaims

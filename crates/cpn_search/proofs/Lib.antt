@@ -20,3 +20,4 @@ mod PlannedTrials
 mod OnceFound
 mod HeldTrials
 mod FoundWith
+pub mod SendablePlans

@@ -71,7 +71,8 @@ fn push_kept(
     Ok(())
 }
 
-/// Adds what the pattern and the value make of the partial binding. It takes a copy of the partial binding, and gives one.
+/// Adds what the pattern and the value make of the partial binding. It takes a copy of the partial binding, and gives
+/// it back where they make nothing.
 #[tactic(auto, using(crate::proofs::TrialSteps::declared_matched))]
 fn push_match(
     net: &Net,
@@ -81,19 +82,29 @@ fn push_match(
     value: &Value,
     tried: usize,
     ahead: &mut Vec<UnderWay>,
-) -> Result<Partial, Memory>
+) -> Result<Option<Partial>, Memory>
     requires declared { AreDeclared (length net.now.variables.items) partial.now }
     requires same { copy ≡ partial.now }
-    ensures same { IfOk result (λ copy. copy ≡ partial.now) }
+    ensures same { IfOk result (λ spare. IfSome spare (λ copy. copy ≡ partial.now)) }
     ensures appended { IfOk result (λ _. all_under_way ahead.new.items ≡ all_under_way ahead.old.items ++ after tried (kept (net_view net.now) (fitted (pattern_view pattern.now) (value_view value.now) partial.now))) }
 {
     let matched = match_pat(pattern, value, &mut copy)?;
     if !matched {
-        return Ok(copy);
+        return Ok(Some(copy));
     }
     push_kept(net, copy, tried, ahead)?;
-    let fresh = partial.copy()?;
-    Ok(fresh)
+    Ok(None)
+}
+
+/// The spare copy of the partial binding, where there is one, or else a new one.
+fn spare_or_copy(spare: Option<Partial>, partial: &Partial) -> Result<Partial, Memory>
+    requires same { IfSome spare (λ copy. copy ≡ partial.now) }
+    ensures same { IfOk result (λ copy. copy ≡ partial.now) }
+{
+    match spare {
+        Some(copy) => Ok(copy),
+        None => partial.copy(),
+    }
 }
 
 /// Adds what the pattern and each of the values make of the partial binding.
@@ -108,9 +119,10 @@ fn push_matches(
     requires declared { AreDeclared (length net.now.variables.items) partial.now }
     ensures appended { OnOk result (all_under_way ahead.new.items ≡ all_under_way ahead.old.items ++ after tried (next (net_view net.now) (matching (pattern_view pattern.now) (pointed_view values.now)) partial.now)) }
 {
-    let mut copy = partial.copy()?;
+    let mut spare = None;
     for value in values {
-        copy = push_match(net, partial, copy, pattern, value, tried, ahead)?;
+        let copy = spare_or_copy(spare, partial)?;
+        spare = push_match(net, partial, copy, pattern, value, tried, ahead)?;
     }
     Ok(())
 }

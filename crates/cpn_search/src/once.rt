@@ -34,6 +34,9 @@ fn push_once(found: &mut Found, element: EnabledElement) -> Result<(), Memory>
 pub fn each_once(alloc: Global, found: Found) -> Result<Found, Memory>
     ensures once { IfOk result (λ kept. kept.items ≡ once_of [] found.items) }
 {
+    if found.len() <= 1 {
+        return Ok(found);
+    }
     let mut kept = Vec::new(alloc);
     for element in found {
         push_once(&mut kept, element)?;

@@ -49,6 +49,10 @@ fn pattern_on(stage: &Stage, place: u32) -> Option<&Pat>
 fn push_all(found: &mut Found, more: Found) -> Result<(), Memory>
     ensures appended { OnOk result (found.new.items ≡ found.old.items ++ more.items) }
 {
+    if found.is_empty() {
+        *found = more;
+        return Ok(());
+    }
     for element in more {
         found.push(element)?;
     }

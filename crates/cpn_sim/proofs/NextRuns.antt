@@ -1,6 +1,6 @@
 -- The run that a book of a session has made is the next one; it can be printed, and has few occurrences.
-use Rattle.std.proofs.Common.{◌≡◌, ◌≢◌, ◌≤◌, [], length, sym, ◌∙◌, subst, arith}
-use Rattle.cpn_book.specs.Books.{setup_in, journal_in, InState}
+use Rattle.std.proofs.Common.{◌≡◌, ◌≢◌, ◌≤◌, length, sym, ◌∙◌, subst, arith}
+use Rattle.cpn_book.specs.Books.{setup_in}
 use Rattle.cpn_book.specs.declared.books.Book.{Book}
 use Rattle.cpn_definitions.specs.Named.{IsNamed}
 use Rattle.cpn_document.specs.declared.document.Start.{Start}
@@ -12,28 +12,22 @@ use Rattle.cpn_edit.proofs.RunSessions.{setup_playable}
 use Rattle.cpn_report.specs.Printable.{IsPrintable, RunsArePrintable}
 use Rattle.cpn_runs.specs.Bounds.{most_steps}
 use Rattle.cpn_runs.specs.FinishedViews.{setup_view, finished_view}
-use Rattle.cpn_runs.specs.GivingBack.{IsCutForMemory}
 use Rattle.cpn_runs.specs.Phases.{PlainPhase}
 use Rattle.cpn_runs.specs.Playable.{IsPlayable}
 use Rattle.cpn_runs.specs.Run.{IsRun}
 use Rattle.cpn_runs.specs.State.{PlainSetup, wants_memory}
 use Rattle.cpn_runs.specs.declared.runs.Finished.{Finished}
 use Rattle.cpn_runs.proofs.GrownRuns.{run_ends_within_limits}
-use Rattle.cpn_sim.proofs.StartedBooks.{none_for_memory}
 
-pub begun_run : (s : PlainSession) (from : Start) (between : Between) (book : Book) → Begins s from between book → journal_in book ≡ [] → (finished : Finished) → setup_view finished.setup ≡ setup_in book
+pub begun_run : (s : PlainSession) (from : Start) (between : Between) (book : Book) → Begins s from between book → (finished : Finished) → setup_view finished.setup ≡ setup_in book
     → IsRun (setup_in book) (finished_view finished) → IsNextRun s from (run_view finished)
-begun_run s from between book begins none finished same is_run = record {
+begun_run s from between book begins finished same is_run = record {
   start = begins.start;
   clock = begins.clock;
   starts_at = begins.starts_at;
   setup_is = same ∙ begins.setup_is;
   is_run = subst (λ (setup : PlainSetup). IsRun setup (finished_view finished)) (sym same) is_run;
 }
-
--- it does not end for want of memory
-pub begun_ends : (book : Book) → journal_in book ≡ [] → (finished : Finished) → ((finished_view finished).cause ≡ wants_memory → InState book (λ state. IsCutForMemory state.cut)) → (finished_view finished).cause ≢ wants_memory
-begun_ends book none finished memory = λ is. none_for_memory book none (memory is)
 
 module _ (s : PlainSession) (valid : IsValid s) (from : Start) (run : PlainPhase) (next : IsNextRun s from run) where
   its_playable : IsPlayable run.setup

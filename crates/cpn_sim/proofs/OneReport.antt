@@ -1,4 +1,4 @@
--- A document has one report under the words, with one status, where probes say the same.
+-- A document has one report under words that say one worker, with one status, where probes say the same.
 use Rattle.std.proofs.Common.{◌≡◌, ℕ, List, sym, ◌∙◌, ap, subst}
 use Rattle.std.proofs.Math.Path.{ap₂}
 use Rattle.std.proofs.lemmas.Option.{same_Some}
@@ -14,7 +14,6 @@ use Rattle.cpn_sim.specs.Causes.{HaveOneReading}
 use Rattle.cpn_sim.specs.Reported.{Sayings, say, IsReport, IsReportUnder, IsReportOf, IsTheReport, session_from, told_runs, status_after_all}
 use Rattle.cpn_sim.specs.declared.statuses.Status.{Status}
 use Rattle.cpn_sim.proofs.AcceptedSessions.{accepted_session}
-use Rattle.cpn_sim.proofs.OptionRanges.{options_in_range}
 
 -- what is read is not refused
 pub read_not_refused : (bytes : List ℕ) → HaveOneReading bytes → (model : PlainModel) (r : ModelRefusal) → IsModel bytes (read model) → IsModel bytes (refused r) → ⊥
@@ -39,18 +38,18 @@ module _ (Says : Sayings) (s s' : Status) (report other : List ℕ) where
       }
 
   -- and so have bytes under words
-  one_report : (bytes : List ℕ) → HaveOneReading bytes → (words : List (List ℕ)) (a : IsReport bytes words Says s report) → IsReport bytes words (say a.is_report.is_report.said) s' other → IsSameReport s s' report other
-  one_report bytes once words a b =
+  one_report : (bytes : List ℕ) → HaveOneReading bytes → (words : List (List ℕ)) (a : IsReport bytes words Says s report) → a.options.workers ≡ 1 → IsReport bytes words (say a.is_report.is_report.said) s' other → IsSameReport s s' report other
+  one_report bytes once words a one b =
       let said = a.is_report.is_report.said in
       let options : b.options ≡ a.options = same_Some b.options a.options (sym b.words_are ∙ a.words_are) in
       let under : IsReportUnder bytes a.options (say said) s' other = subst (λ (o : PlainOptions). IsReportUnder bytes o (say said) s' other) options b.is_report in
       let model : under.model ≡ a.is_report.model = the_one_model bytes once under.model a.is_report.model under.reads a.is_report.reads in
-      of_one_model a.is_report.model a.options (accepted_session bytes words a.is_report.model a.options a.is_report.reads a.words_are) (options_in_range words a.options a.words_are).one_worker a.is_report.is_report
+      of_one_model a.is_report.model a.options (accepted_session bytes words a.is_report.model a.options a.is_report.reads a.words_are) one a.is_report.is_report
       (subst (λ (m : PlainModel). IsReportOf m a.options (say said) s' other) model under.is_report)
 
--- The law: a report of a document that is read once is the only one.
+-- The law: a report of a document that is read once is the only one, where one worker makes its runs.
 pub the_report : (bytes : List ℕ) → HaveOneReading bytes → (words : List (List ℕ)) (Says : Sayings) (status : Status) (report : List ℕ) → IsReport bytes words Says status report → IsTheReport bytes words Says status report
 the_report bytes once words Says status report is = record {
   is_report = is;
-  only = λ other_status other other_is. let same = one_report Says status other_status report other bytes once words is other_is in (same.statuses, same.reports);
+  only = λ one other_status other other_is. let same = one_report Says status other_status report other bytes once words is one other_is in (same.statuses, same.reports);
 }

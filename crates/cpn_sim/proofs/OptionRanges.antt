@@ -1,6 +1,6 @@
 -- The numbers that words give are in the ranges of the command line. By clap's specification of a simple command, what is held for an
 -- option at each step of the walk over the words begins with a value that its parser accepts, as long as nothing has a fault.
-use Rattle.std.proofs.Common.{◌≡◌, ℕ, zero, suc, ◌≤◌, ◌&&◌, ◌||◌, Bool, true, false, true≢false, not, cond, List, [], ◌∷◌, ◌++◌, length, drop, fold, find, Option, Some, None, is_some, refl, sym, ap, ◌∙◌, subst, inl, inr, ◌⊎◌, arith, codes, slice_get}
+use Rattle.std.proofs.Common.{◌≡◌, ℕ, zero, suc, ◌<◌, ◌≤◌, ◌&&◌, ◌||◌, Bool, true, false, true≢false, not, cond, List, [], ◌∷◌, ◌++◌, length, drop, fold, find, Option, Some, None, is_some, refl, sym, ap, ◌∙◌, subst, inl, inr, ◌⊎◌, arith, codes, slice_get}
 use Rattle.std.specs.Prelude.{if◌then◌else◌, unwrap_or, option_and_then, encode_utf8, ◌==◌}
 use Rattle.std.specs.List.{AllByRecursion}
 use Rattle.std.specs.Option.{option_map_or}
@@ -411,7 +411,8 @@ module _ (name : Text) (least most : ℕ) where
 
 -- the options that words give have their ranges
 pub record AreInRange (options : PlainOptions) : Type 0 where
-  pub one_worker : options.workers ≡ 1
+  pub some_worker : 0 < options.workers
+  pub few_workers : options.workers ≤ 64
   pub few_steps : options.steps ≤ most_steps
   pub in_time : options.until ≤ last_time
 
@@ -427,13 +428,13 @@ module _ (words : List Text) (none : fault_of command_line words ≡ []) where
       → (least ≤ number_of name (matches_of command_line words)) × (number_of name (matches_of command_line words) ≤ most)
   in_range name least most ranged there = let is = number_in_range name least most (built command_line).top [] words false [] ranged there none_at_the_top in (is.2, is.3)
 
-  workers_in_range : (1 ≤ number_of (codes "workers") (matches_of command_line words)) × (number_of (codes "workers") (matches_of command_line words) ≤ 1)
+  workers_in_range : (1 ≤ number_of (codes "workers") (matches_of command_line words)) × (number_of (codes "workers") (matches_of command_line words) ≤ 64)
   workers_in_range =
-      in_range (codes "workers") 1 (1) (option refl refl other, (option refl refl other, (option refl refl (λ e. (refl, refl)), (option refl refl other, (option refl refl other, (option refl refl other, tt))))))
+      in_range (codes "workers") 1 64 (option refl refl other, (option refl refl other, (option refl refl (λ e. (refl, refl)), (option refl refl other, (option refl refl other, (option refl refl other, tt))))))
       (inr (inr (inl (refl, (codes "1", [], refl)))))
     where
-      option : {a : Rule} → action_of a ≡ Set → unwrap_or_range a.range ≡ record { start_inclusive = 1; end_inclusive = 1 } → (bytes_eq a.id (codes "workers") ≡ true → (a.ignore_case ≡ false) × (parser_of_value a.parser ≡ vp.Unsigned 1 (1)))
-          → IsRanged (codes "workers") 1 (1) a
+      option : {a : Rule} → action_of a ≡ Set → unwrap_or_range a.range ≡ record { start_inclusive = 1; end_inclusive = 1 } → (bytes_eq a.id (codes "workers") ≡ true → (a.ignore_case ≡ false) × (parser_of_value a.parser ≡ vp.Unsigned 1 64))
+          → IsRanged (codes "workers") 1 64 a
       option set one ranged = record { set = set; one = one; ranged = ranged }
 
   steps_in_range : (1 ≤ number_of (codes "steps") (matches_of command_line words)) × (number_of (codes "steps") (matches_of command_line words) ≤ most_steps)
@@ -486,7 +487,8 @@ options_in_range words options is = by (fault_of command_line words) refl is
         let steps = steps_in_range words none in
         let until = until_in_range words none in
         record {
-          one_worker = (let w = numbers.workers in let l = workers.0 in let m = workers.1 in omega (arith, w, l, m));
+          some_worker = (let w = numbers.workers in let l = workers.0 in omega (arith, w, l));
+          few_workers = (let w = numbers.workers in let m = workers.1 in omega (arith, w, m));
           few_steps = (let w = numbers.steps in let m = steps.1 in omega (arith, w, m));
           in_time = (let w = numbers.until in let m = until.1 in omega (arith, w, m));
         }

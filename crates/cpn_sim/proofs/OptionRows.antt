@@ -15,7 +15,7 @@ no_words : options_from [] ≡ Some (record { mode = modes.Run; seed = 0; worker
 unfolding options_from options_in mode_of trace_in trace_of walk_fault defaults_fault
 no_words = refl
 
-each_option : options_from (codes "--until" ∷ codes "7" ∷ codes "--trace=off" ∷ codes "--seed" ∷ codes "+5" ∷ codes "--steps" ∷ codes "002" ∷ codes "--workers=1" ∷ codes "--mode" ∷ codes "run" ∷ []) ≡ Some (record { mode = modes.Run; seed = 5; workers = 1; steps = 2; until = 7; trace = traces.Off })
+each_option : options_from (codes "--until" ∷ codes "7" ∷ codes "--trace=off" ∷ codes "--seed" ∷ codes "+5" ∷ codes "--steps" ∷ codes "002" ∷ codes "--workers=2" ∷ codes "--mode" ∷ codes "run" ∷ []) ≡ Some (record { mode = modes.Run; seed = 5; workers = 2; steps = 2; until = 7; trace = traces.Off })
 unfolding options_from options_in mode_of trace_in trace_of walk_fault defaults_fault walked
 each_option = refl
 
@@ -32,9 +32,17 @@ mode_reps : options_from (codes "--mode=reps" ∷ []) ≡ None
 unfolding options_from options_in mode_of trace_of walk_fault defaults_fault walked
 mode_reps = refl
 
-two_workers : options_from (codes "--workers" ∷ codes "2" ∷ []) ≡ None
+most_workers : options_from (codes "--workers" ∷ codes "64" ∷ []) ≡ Some (record { mode = modes.Run; seed = 0; workers = 64; steps = 1000; until = 4611686018427387904; trace = traces.On })
+unfolding options_from options_in mode_of trace_in trace_of walk_fault defaults_fault walked
+most_workers = refl
+
+too_many_workers : options_from (codes "--workers" ∷ codes "65" ∷ []) ≡ None
 unfolding options_from options_in trace_of walk_fault defaults_fault walked
-two_workers = refl
+too_many_workers = refl
+
+no_workers : options_from (codes "--workers=0" ∷ []) ≡ None
+unfolding options_from options_in trace_of walk_fault defaults_fault walked
+no_workers = refl
 
 past_the_last_time : options_from (codes "--until" ∷ codes "4611686018427387905" ∷ []) ≡ None
 unfolding options_from options_in trace_of walk_fault defaults_fault walked

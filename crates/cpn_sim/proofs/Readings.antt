@@ -226,7 +226,7 @@ pub given_values : (command : Command) (m : ArgMatches) → IsParsedFrom command
 given_values command m p is = record {
   mode = has_value command m p is (codes "mode") 0 (omega arith) (λ r. refl) refl refl (λ e. cc);
   seed = is_number command m p is (codes "seed") 1 (omega arith) (λ r. refl) refl refl (λ e. cc) 0 18446744073709551615 (other, (its, (other, (other, (other, (other, tt))))));
-  workers = is_number command m p is (codes "workers") 2 (omega arith) (λ r. refl) refl refl (λ e. cc) 1 1 (other, (other, (its, (other, (other, (other, tt))))));
+  workers = is_number command m p is (codes "workers") 2 (omega arith) (λ r. refl) refl refl (λ e. cc) 1 64 (other, (other, (its, (other, (other, (other, tt))))));
   steps = is_number command m p is (codes "steps") 3 (omega arith) (λ r. refl) refl refl (λ e. cc) 1 1000000 (other, (other, (other, (its, (other, (other, tt))))));
   until = is_number command m p is (codes "until") 4 (omega arith) (λ r. refl) refl refl (λ e. cc) 0 4611686018427387904 (other, (other, (other, (other, (its, (other, tt))))));
   trace = has_value command m p is (codes "trace") 5 (omega arith) (λ r. refl) refl refl (λ e. cc);

@@ -1,9 +1,12 @@
--- The laws of what is accepted: its runs start from where runs may start, and a report with its trace tells their journals. Source: own choice.
-use Rattle.std.specs.Prelude.{◌≡◌, ℕ, List, map, Some}
+-- The laws of what is accepted: its runs start from where runs may start and are of as many workers as the options say, and a report with its
+-- trace tells their journals. Source: own choice.
+use Rattle.std.specs.Prelude.{◌≡◌, ◌≤◌, ℕ, List, ◌++◌, map, Some}
 use Rattle.std.specs.List.{AllByRecursion}
+use Rattle.cpn_book.specs.States.{open_claims}
 use Rattle.cpn_edit.specs.Sessions.{AreRuns}
 use Rattle.cpn_runs.specs.Phases.{PlainPhase}
 use Rattle.cpn_runs.specs.Playable.{IsPlayable}
+use Rattle.cpn_runs.specs.State.{PlainEvent, PlainState, IsState}
 use Rattle.cpn_runs.specs.WithoutSeats.{Kind, without_seats}
 use Rattle.cpn_model.specs.Reading.{PlainModel, read}
 use Rattle.cpn_model.specs.Models.{IsModel}
@@ -17,6 +20,14 @@ abbrev pub AcceptedIsPlayable : Type 0
 AcceptedIsPlayable =
     (bytes : List ℕ) (words : List (List ℕ)) (model : PlainModel) (options : PlainOptions) (runs : List PlainPhase) → IsModel bytes (read model) → options_from words ≡ Some options
     → AreRuns (session_from model options) runs → AllByRecursion (λ (run : PlainPhase). IsPlayable run.setup) runs
+
+-- A run of at most so many workers: after none of its events, and not at its start, more claims are open.
+abbrev pub IsOfWorkers : ℕ → PlainPhase → Type 0
+IsOfWorkers workers run = (made later : List PlainEvent) (state : PlainState) → run.run.journal ≡ made ++ later → IsState run.setup made state → open_claims state ≤ workers
+
+-- The runs of a model under options are each of at most as many workers as these say.
+abbrev pub RunsAreOfWorkers : Type 0
+RunsAreOfWorkers = (model : PlainModel) (options : PlainOptions) (runs : List PlainPhase) → AreRuns (session_from model options) runs → AllByRecursion (IsOfWorkers options.workers) runs
 
 -- the options of a report ask for its trace
 abbrev pub HasTrace : {bytes : List ℕ} {words : List (List ℕ)} {Says : Sayings} {status : Status} {text : List ℕ} → IsReport bytes words Says status text → Type 0

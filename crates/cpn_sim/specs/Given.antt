@@ -18,7 +18,7 @@ IsNumberIn least most m name =
 pub record HasValues (m : ArgMatches) : Type 0 where
   pub mode : HasValue m (codes "mode")
   pub seed : IsNumberIn 0 (2 ^ 64 - 1) m (codes "seed")
-  pub workers : IsNumberIn 1 1 m (codes "workers")
+  pub workers : IsNumberIn 1 64 m (codes "workers")
   pub steps : IsNumberIn 1 most_steps m (codes "steps")
   pub until : IsNumberIn 0 last_time m (codes "until")
   pub trace : HasValue m (codes "trace")

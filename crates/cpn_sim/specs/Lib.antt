@@ -10,5 +10,6 @@ pub mod AcceptedRuns
 pub mod Causes
 pub mod RefusalViews
 pub mod Statuses
+pub mod SharedBooks
 pub mod Probing
 pub mod ProbeViews

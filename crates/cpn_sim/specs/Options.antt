@@ -36,7 +36,7 @@ abbrev pub the_options : List Rule
 the_options =
     option (codes "mode") (codes "run")
     ∷ number_option (codes "seed") 0 (2 ^ 64 - 1) (codes "0")
-    ∷ number_option (codes "workers") 1 1 (codes "1")
+    ∷ number_option (codes "workers") 1 64 (codes "1")
     ∷ number_option (codes "steps") 1 most_steps (codes "1000")
     ∷ number_option (codes "until") 0 last_time (codes "4611686018427387904")
     ∷ option (codes "trace") (codes "on")

@@ -104,7 +104,8 @@ pub record IsReport (bytes : List ℕ) (words : List (List ℕ)) (Says : Sayings
 abbrev pub IsOnlyReport : List ℕ → List (List ℕ) → List (List ℕ) → Status → List ℕ → Type 0
 IsOnlyReport bytes words said status report = (other_status : Status) → (other : List ℕ) → IsReport bytes words (say said) other_status other → (status ≡ other_status) × (report ≡ other)
 
--- The text is the report of runs of the model that the bytes are, under the options of the words, and no other is, where probes say the same.
+-- The text is the report of runs of the model that the bytes are, under the options of the words; and where these say one worker no other is, if
+-- probes say the same.
 pub record IsTheReport (bytes : List ℕ) (words : List (List ℕ)) (Says : Sayings) (status : Status) (report : List ℕ) : Type 0 where
   pub is_report : IsReport bytes words Says status report
-  pub only : IsOnlyReport bytes words is_report.is_report.is_report.said status report
+  pub only : is_report.options.workers ≡ 1 → IsOnlyReport bytes words is_report.is_report.is_report.said status report

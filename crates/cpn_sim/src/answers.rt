@@ -29,11 +29,14 @@ use crate::statuses::Status;
 use crate::words::options_from;
 use cpn_core::Memory;
 use cpn_edit::Session;
+use cpn_floor::Gate;
 use cpn_io::{ReadError, Source};
 use cpn_model::{Model, open};
 use cpn_probe::{Probe, report_all};
 use cpn_runs::Limits;
 use std::alloc::Global;
+use std::sync::Wait;
+use std::thread::Threads;
 
 /// A report, and the status of its last run.
 #[derive(Drop)]
@@ -43,12 +46,14 @@ pub struct Report {
 }
 
 /// The report of the runs of the document, under the options of the words, and of what the probes said of them. In mode `large` the document
-/// is a generated net; otherwise it is what the source gives.
-pub fn answer<S: Source, P: Probe>(
+/// is a generated net; otherwise it is what the source gives. The workers of the runs pass the gate.
+pub fn answer<S: Source, P: Probe, G: Gate + Sync, R: Threads + Wait + Sync>(
+    rt: &R,
     alloc: Global,
     words: &[String],
     source: &mut S,
     probes: Vec<P>,
+    gate: &G,
 ) -> Result<Report, Refusal>
     ensures report { IfOk result (λ report. IfSome (document_of (map string_bytes words.now) (S.left source.old)) (λ bytes. (length bytes ≤ most_bytes) × IsTheReport bytes (map string_bytes words.now) (HaveReported P.Notes P.Reports probes.items) report.status (string_bytes report.text))) }
     ensures status { IfOk result (λ report. IsReported report.status) }
@@ -75,18 +80,20 @@ pub fn answer<S: Source, P: Probe>(
         Ok(model) => model,
         Err(error) => return Err(of_document(error)),
     };
-    match report_of(alloc, &options, model, probes) {
+    match report_of(rt, alloc, &options, model, probes, gate) {
         Ok(report) => Ok(report),
         Err(Memory) => Err(Refusal::Memory),
     }
 }
 
 /// The report of the runs of the model under the options, and of what the probes said of them.
-fn report_of<P: Probe>(
+fn report_of<P: Probe, G: Gate + Sync, R: Threads + Wait + Sync>(
+    rt: &R,
     alloc: Global,
     options: &Options,
     model: Model,
     probes: Vec<P>,
+    gate: &G,
 ) -> Result<Report, Memory>
     requires reads { model_in (loaded_view model.loaded) (read (model_view model)) }
     requires ready { IsReady (decls_view model.loaded.decls) (net_view model.loaded.net) model.loaded.initial (monitors_view model.monitors) }
@@ -103,7 +110,7 @@ fn report_of<P: Probe>(
         seats: options.workers as u32,
     };
     let session = Session::of_model(alloc, model, options.seed, limits)?;
-    let status = run_phases(session, &mut told, &mut probes)?;
+    let status = run_phases(rt, alloc, session, &mut told, &mut probes, gate)?;
     let said = report_all(alloc, probes.as_slice())?;
     let text = told.end(said.as_slice())?;
     Ok(Report { text, status })

@@ -3,13 +3,15 @@
 use crate::simulation::simulate;
 use crate::statuses::Status;
 use cpn_core::{Memory, Occurrence, Text};
+use cpn_floor::Open;
 use cpn_io::{BytesSink, BytesSource};
 use cpn_probe::Probe;
 use std::alloc::Global;
 use std::str;
-use std::sync::Arc;
 use std::sync::atomic::{AtomicU64, Ordering};
+use std::sync::{Arc, Wait};
 use std::test::Fail;
+use std::thread::Threads;
 
 // Wants memory at the note after so many, says nothing, and counts its drops.
 struct Counted {
@@ -48,7 +50,12 @@ const THREE_TOKENS: &str =
     r#"{"version": 1, "declarations": ["colset INT = int;", "var x : INT;"], "top": "Top", "modules": [{"name": "Top", "places": [{"name": "A", "colour": "INT", "initial": "3`7"}, {"name": "B", "colour": "INT"}], "transitions": [{"name": "t"}], "arcs": [{"place": "A", "transition": "t", "to": "transition", "expr": "x"}, {"place": "B", "transition": "t", "to": "place", "expr": "x"}]}], "phases": [{"start": "initial"}, {"start": "initial"}]}"#;
 
 // The status of the document with a probe that notes so many occurrences, how often it is dropped, and the last line that was written.
-fn with_probe(alloc: Global, document: &str, left: u64) -> Result<String, Fail> {
+fn with_probe(
+    rt: &(impl Threads + Wait + Sync),
+    alloc: Global,
+    document: &str,
+    left: u64,
+) -> Result<String, Fail> {
     let drops = Arc::new(alloc, AtomicU64::new(0))?;
     let mut probes: Vec<Box<dyn Probe>> = Vec::new(alloc);
     let counted = Counted {
@@ -60,7 +67,7 @@ fn with_probe(alloc: Global, document: &str, left: u64) -> Result<String, Fail> 
     bytes.extend_from_slice(document.as_bytes())?;
     let mut source = BytesSource::new(bytes, Vec::new(alloc), 64);
     let mut sink = BytesSink::new(alloc, Vec::new(alloc), 64, 4096)?;
-    let status = simulate(alloc, &[], &mut source, &mut sink, probes);
+    let status = simulate(rt, alloc, &[], &mut source, &mut sink, probes, &Open);
     let written = str::from_utf8(sink.bytes()).unwrap_or("no text");
     let last = written.lines().last().unwrap_or("nothing");
     Ok(format!(in alloc;
@@ -91,7 +98,7 @@ fn probes_are_dropped_once(rt: HostRuntime) -> Result<(), Fail> {
         ("no memory at the last note", THREE_TOKENS, 5, "8 1 nothing"),
     ];
     for (name, document, left, wanted) in rows {
-        let given = with_probe(rt.alloc(), document, left)?;
+        let given = with_probe(&rt, rt.alloc(), document, left)?;
         assert_eq!(rt; given.as_str(), wanted, "{name}");
     }
     Ok(())

@@ -1,8 +1,8 @@
 //! The program: words and a source in, a report or one error line out.
 //!
 //! `simulate` reads its source to the end, or in mode `large` generates a net, runs the phases of the net, tells its probes, and writes nothing
-//! before the whole report, or the one error line, stands in memory. What the report says is proved to be legal runs of the document; the
-//! crate decides no rule of nets itself.
+//! before the whole report, or the one error line, stands in memory. Each run is driven by workers, who share its book in turns. What the report
+//! says is proved to be legal runs of the document; the crate decides no rule of nets itself.
 #![tactic(auto)]
 
 mod answers;
@@ -17,14 +17,20 @@ mod no_options;
 mod options;
 mod phases;
 mod refusals;
+#[cfg(test)]
+mod shared_books;
 mod simulation;
 mod statuses;
 mod streaks;
+#[cfg(test)]
+mod two_workers;
 mod words;
+mod workers;
 
 use crate::moments::Moments;
 use crate::streaks::Streak;
 use cpn_core::Memory;
+use cpn_floor::Open;
 use cpn_io::{Stdin, Stdout};
 use cpn_probe::Probe;
 pub use laws::accepted_runs;
@@ -34,6 +40,8 @@ pub use simulation::{refuse_words, simulate};
 pub use statuses::{Status, exit_code};
 use std::process::ExitCode;
 use std::rt::Env;
+use std::sync::Wait;
+use std::thread::Threads;
 use std::{env, io};
 pub use words::options_from;
 
@@ -43,7 +51,9 @@ fn main(rt: HostRuntime) -> ExitCode {
 }
 
 /// Simulates standard input under the words of the command line, with the probes of the program, to standard output.
-fn run(rt: &(impl Env + AllocGlobal + Input + Print)) -> Result<Status, Memory> {
+fn run(
+    rt: &(impl Env + AllocGlobal + Input + Print + Threads + Wait + Sync),
+) -> Result<Status, Memory> {
     let words = match command_words(rt) {
         Ok(words) => words,
         Err(error) if error.kind() == io::ErrorKind::OutOfMemory => return Err(Memory),
@@ -54,11 +64,13 @@ fn run(rt: &(impl Env + AllocGlobal + Input + Print)) -> Result<Status, Memory> 
     probes.push(Box::new(alloc, Moments::new(alloc))?)?;
     probes.push(Box::new(alloc, Streak::new(alloc))?)?;
     Ok(simulate(
+        rt,
         alloc,
         words.as_slice(),
         &mut Stdin::new(rt),
         &mut Stdout::new(rt),
         probes,
+        &Open,
     ))
 }
 

@@ -1,6 +1,6 @@
 //! What the program does, and the options of a run.
 
-ghost use Rattle.std.specs.Prelude.{◌≡◌, ◌≤◌, ◌^◌};
+ghost use Rattle.std.specs.Prelude.{◌<◌, ◌≤◌};
 ghost use Rattle.cpn_definitions.specs.Times.{last_time};
 ghost use Rattle.cpn_runs.specs.Bounds.{most_steps};
 
@@ -22,7 +22,7 @@ pub struct Options {
     pub mode: Mode,
     /// The seed of the draws, and in mode `large` the number of the generated net.
     pub seed: u64,
-    /// How many workers make each run: 1.
+    /// How many workers make each run: 1 to 64.
     pub workers: u64,
     /// How many claims the runs may make together: 1 to 1,000,000.
     pub steps: u64,
@@ -30,7 +30,8 @@ pub struct Options {
     pub until: u64,
     /// Which lines of the runs the report has: in mode `large` neither those of the trace nor those of places.
     pub trace: Trace,
-    ghost one_worker: { workers ≡ 1 },
+    ghost some_worker: { 0 < workers },
+    ghost few_workers: { workers ≤ 64 },
     ghost few_steps: { steps ≤ most_steps },
     ghost in_time: { until ≤ last_time },
 }

@@ -14,23 +14,31 @@ ghost use Rattle.cpn_sim.specs.Reported.{shown_start as start_shown, told_runs, 
 ghost use Rattle.cpn_sim.specs.Telling.{HasTold, MayBegin};
 
 use crate::statuses::Status;
+use crate::workers::run_by_workers;
 use cpn_core::Memory;
 use cpn_document::Start;
 use cpn_edit::Session;
+use cpn_floor::Gate;
 use cpn_probe::{Probe, tell_all};
 use cpn_report::{Report, printable_runs};
 use cpn_runs::End;
+use std::alloc::Global;
+use std::sync::Wait;
+use std::thread::Threads;
 
-/// Makes the runs of the phases that are left, one after another; a run that ends by a fault is the last. The report is told each run, and
-/// the probes its occurrences, after it has ended. What is answered is the status of the last end.
+/// Makes the runs of the phases that are left, one after another, each by workers who pass the gate; a run that ends by a fault is the last. The
+/// report is told each run, and the probes its occurrences, after it has ended. What is answered is the status of the last end.
 ///
 /// # Errors
 ///
-/// `Memory` where memory is wanted, also by a probe.
-pub(crate) fn run_phases<P: Probe>(
+/// `Memory` where memory is wanted, also by a worker or a probe.
+pub(crate) fn run_phases<P: Probe, G: Gate + Sync, R: Threads + Wait + Sync>(
+    rt: &R,
+    alloc: Global,
     session: Session,
     told: &mut Report,
     probes: &mut Vec<P>,
+    gate: &G,
 ) -> Result<Status, Memory>
     requires may_begin { MayBegin session told.old }
     ensures runs { IfOk result (λ status. (s : PlainSession) → Stands s session → s.earlier ≡ [] → (trace : Trace) → Tells trace [] told.old
@@ -40,7 +48,7 @@ pub(crate) fn run_phases<P: Probe>(
     let mut session = session;
     let mut status = Status::Done;
     while let Some(start) = session.next_phase()? {
-        (session, status) = run_phase(session, start, told, probes)?;
+        (session, status) = run_phase(rt, alloc, session, start, told, probes, gate)?;
         if let Status::RunFault = status {
             return Ok(status);
         }
@@ -49,11 +57,14 @@ pub(crate) fn run_phases<P: Probe>(
 }
 
 /// Makes one run, tells the report and the probes of it, and answers the session after it and the status of its end.
-fn run_phase<P: Probe>(
+fn run_phase<P: Probe, G: Gate + Sync, R: Threads + Wait + Sync>(
+    rt: &R,
+    alloc: Global,
     session: Session,
     start: Start,
     told: &mut Report,
     probes: &mut Vec<P>,
+    gate: &G,
 ) -> Result<(Session, Status), Memory>
     requires stands { IsSession session }
     requires may_start { MayStart start session }
@@ -64,7 +75,7 @@ fn run_phase<P: Probe>(
     ensures reported { IfOk result (λ after. IsReported after.1) }
 {
     let (between, book) = session.begin(start)?;
-    let finished = book.run_alone()?;
+    let finished = run_by_workers(rt, alloc, book, gate)?;
     printable_runs();
     told.tell(shown_start(start), &finished)?;
     tell_all(probes, finished.occurrences.as_slice())?;

@@ -19,26 +19,36 @@ use crate::answers::answer;
 use crate::refusals::{Refusal, WORDS_LINE, line_of, status_of};
 use crate::statuses::Status;
 use cpn_core::Memory;
+use cpn_floor::Gate;
 use cpn_io::{Sink, Source, write_all};
 use cpn_probe::Probe;
 use std::alloc::Global;
+use std::sync::Wait;
+use std::thread::Threads;
 
 /// Reads the net document that the source gives, or in mode `large`, where the source is not read, generates one, runs its phases one after
 /// another under the options of the words, and writes the report, or one error line, to the sink. Nothing is written before it stands whole in
 /// memory.
 ///
+/// Each run is driven by as many workers as the words say, each in a thread of its own while threads can be made, who share it in turns; each
+/// passes the gate between a claim and its evaluation. What they leave is then taken to its end. The call may wait, and keeps its promise if it
+/// returns.
+///
 /// Each probe is told the committed occurrences of all runs, those of each run after it has ended, and is asked for its report after the last
 /// one. The probes are dropped before the call returns.
-pub fn simulate<S: Source, K: Sink>(
+pub fn simulate<S: Source, K: Sink, G: Gate + Sync, R: Threads + Wait + Sync>(
+    rt: &R,
     alloc: Global,
     words: &[String],
     source: &mut S,
     sink: &mut K,
     probes: Vec<Box<dyn Probe>>,
+    gate: &G,
 ) -> Status
-    // The report was written, and no other could have been, where probes say the same: that of legal runs of the phases of the document,
-    // which was read to its end or generated, and of what the probes said when they had been told the occurrences of all runs. The last run
-    // ended by no fault, or by the fault of the outputs of an element that is covered at the printed marking and clock.
+    // The report was written: that of legal runs of the phases of the document, which was read to its end or generated, each of which some
+    // schedule of at most as many workers as the words say gives, and of what the probes said when they had been told the occurrences of all
+    // runs. With one worker no other could have been written, where probes say the same. The last run ended by no fault, or by the fault of
+    // the outputs of an element that is covered at the printed marking and clock.
     ensures done { result ≡ Status.Done → IfSome (document_of (map string_bytes words.now) (S.left source.old)) (λ bytes. (length bytes ≤ most_bytes)
         × ((report : List ℕ) × IsTheReport bytes (map string_bytes words.now) (HaveReported (Boxed Notes) Reports probes.items) Status.Done report × Appends (K.held sink.old) (K.held sink.new) report)) }
     ensures run_fault { result ≡ Status.RunFault → IfSome (document_of (map string_bytes words.now) (S.left source.old)) (λ bytes. (length bytes ≤ most_bytes)
@@ -97,7 +107,7 @@ pub fn simulate<S: Source, K: Sink>(
         → (model : PlainModel) → IsModel bytes (read model)
         → IsReportedOrExcused result (Rose (S.faults source.old) (S.faults source.new)) (Rose (K.faults sink.old) (K.faults sink.new)) }
 {
-    match answer(alloc, words, source, probes) {
+    match answer(rt, alloc, words, source, probes, gate) {
         Ok(report) => match write_all(sink, report.text.as_bytes()) {
             Ok(()) => report.status,
             Err(_) => Status::WriteFault,

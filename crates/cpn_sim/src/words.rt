@@ -35,7 +35,7 @@ const SEED: NumberOption = NumberOption {
 const WORKERS: NumberOption = NumberOption {
     name: "workers",
     least: 1,
-    most: 1,
+    most: 64,
     default: "1",
 };
 

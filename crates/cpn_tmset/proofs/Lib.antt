@@ -25,3 +25,4 @@ mod RoomLeft
 mod Rows
 mod SubtractedRows
 mod CarriedRows
+pub mod SendableMarkings

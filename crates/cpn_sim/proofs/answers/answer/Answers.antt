@@ -5,7 +5,7 @@ use Rattle.cpn_model.specs.Views.{model_view}
 use Rattle.cpn_model.specs.Answers.{model_refusal_of}
 use Rattle.cpn_model.specs.Reading.{PlainModel, read, refused}
 use Rattle.cpn_model.specs.Models.{IsModel}
-use Rattle.cpn_model.proofs.AcceptedModels.{IsAcceptedModel, model_is_accepted}
+use Rattle.cpn_model.proofs.AcceptedModels.{model_is_accepted}
 use Rattle.cpn_sim.specs.Causes.{GiveOptions, HaveOneReading}
 use Rattle.cpn_sim.specs.Documents.{document_of}
 use Rattle.cpn_sim.specs.OptionsView.{options_view}
@@ -47,11 +47,15 @@ returns-in-Ok-report_of-clause-one_reading g c =
     read_once document bytes is one
 
 -- what was read is accepted
-pub report_of-requires : goal.report_of-requires
-report_of-requires g c =
+pub report_of-requires-clause-reads : goal.report_of-requires-clause-reads
+report_of-requires-clause-reads g c κs within =
     let model : PlainModel = model_view c.in-Ok-open.model in
-    let accepted : IsAcceptedModel model = model_is_accepted _ model c.in-Ok-open.ensures.reads in
-    record { reads = accepted.reads; ready = c.in-Ok-open.ensures.ready; fit = c.in-Ok-open.ensures.fit; starts = model_starts model accepted }
+    (model_is_accepted _ model c.in-Ok-open.ensures.reads).reads
+
+pub report_of-requires-clause-starts : goal.report_of-requires-clause-starts
+report_of-requires-clause-starts g c κs within =
+    let model : PlainModel = model_view c.in-Ok-open.model in
+    model_starts model (model_is_accepted _ model c.in-Ok-open.ensures.reads)
 
 pub returns-in-Ok-report_of-clause-report : goal.returns-in-Ok-report_of-clause-report
 returns-in-Ok-report_of-clause-report g c =

@@ -8,18 +8,16 @@ use Rattle.cpn_sim.specs.OptionsView.{options_view}
 use Rattle.cpn_sim.specs.Reported.{session_from, told_runs}
 use Rattle.cpn_sim.proofs.answers.report_of.Goals as goal
 
-pub run_phases-requires : goal.run_phases-requires
-run_phases-requires g c =
+pub run_phases-requires-clause-may_begin : goal.run_phases-requires-clause-may_begin
+run_phases-requires-clause-may_begin g c κs within =
     let model = model_view c.args.model in
     record {
-      may_begin = record {
-        s = session_from model (options_view c.args.options.now);
-        stands = c.in_ok-session.ensures.stands;
-        none = refl;
-        starts = run_starts model.phases c.requires.starts;
-        trace = c.args.options.now.trace;
-        tells = c.in_ok-told.ensures.tells;
-      };
+      s = session_from model (options_view c.args.options.now);
+      stands = c.in_ok-session.ensures.stands;
+      none = refl;
+      starts = run_starts model.phases c.requires.starts;
+      trace = c.args.options.now.trace;
+      tells = c.in_ok-told.ensures.tells;
     }
 
 pub returns-clause-report : goal.returns-clause-report

@@ -1,21 +1,12 @@
 -- The session stands for some session after each call.
-use Rattle.std.specs.Prelude.{Option, Some, None}
-use Rattle.cpn_document.specs.declared.document.Start.{Start}
-use Rattle.cpn_edit.specs.Answers.{TakesPhase}
-use Rattle.cpn_edit.specs.Sessions.{PlainSession, session_of, after_edit, after_phase}
-use Rattle.cpn_edit.specs.Standing.{IsSession, Stands}
-use Rattle.cpn_edit.specs.declared.sessions.Session.{Session}
+use Rattle.cpn_edit.specs.Sessions.{PlainSession, session_of, after_edit}
 use Rattle.cpn_model.specs.Reading.{PlainModel}
+use Rattle.cpn_sim.proofs.TakenPhases.{taken}
 use Rattle.cpn_sim.proofs.edited_sessions.edited_session.Goals as goal
 
 -- the session of a model, under the limits of the tests
 abbrev begun : PlainModel → PlainSession
 begun model = session_of (record { seed = 1; steps = 10; until = 100; seats = 1 }) model
-
--- after a phase that is taken, and where none is left
-taken : (s : PlainSession) (start : Option Start) (session : Session) → TakesPhase s start session → IsSession session
-taken s None session takes = (s, takes.1)
-taken s (Some start) session takes = (after_phase s takes.0 takes.1, takes.4)
 
 pub next_phase-requires : goal.next_phase-requires
 next_phase-requires c = let is = c.in_ok-session.ensures.stands in record { stands = (begun is.0, is.2) }

@@ -8,7 +8,7 @@ use Rattle.cpn_probe.specs.Told.{AreTold}
 use Rattle.cpn_report.specs.Tells.{Tells}
 use Rattle.cpn_report.specs.declared.starts.Start.{Start}
 use Rattle.cpn_runs.specs.FinishedViews.{setup_view, finished_view}
-use Rattle.cpn_sim.proofs.NextRuns.{begun_run, begun_ends, its_few, its_printable}
+use Rattle.cpn_sim.proofs.NextRuns.{begun_run, its_few, its_printable}
 use Rattle.cpn_sim.proofs.phases.run_phase.Goals as goal
 
 pub tell-requires-clause-printable : goal.tell-requires-clause-printable
@@ -17,9 +17,9 @@ tell-requires-clause-printable g c =
     let stands : Stands s c.args.session = c.requires.stands.1 in
     let begun = c.in_ok-between.ensures.begins s stands in
     let run = run_view c.in_ok-finished.finished in
-    let next : IsNextRun s c.args.start run = begun_run s c.args.start c.in_ok-between.between c.in_ok-between.book begun c.in_ok-between.ensures.journal c.in_ok-finished.finished c.in_ok-finished.ensures.setup c.in_ok-finished.ensures.run in
+    let next : IsNextRun s c.args.start run = begun_run s c.args.start c.in_ok-between.between c.in_ok-between.book begun c.in_ok-finished.finished c.in_ok-finished.ensures.setup c.in_ok-finished.ensures.run in
     its_printable s stands.but_latest.valid c.args.start run next c.printable_runs.ensures.printable
-    (begun_ends c.in_ok-between.book c.in_ok-between.ensures.journal c.in_ok-finished.finished c.in_ok-finished.ensures.ends_for_memory)
+    c.in_ok-finished.ensures.ends_otherwise
 
 pub tell-requires-clause-few_occurrences : goal.tell-requires-clause-few_occurrences
 tell-requires-clause-few_occurrences g c =
@@ -27,7 +27,7 @@ tell-requires-clause-few_occurrences g c =
     let stands : Stands s c.args.session = c.requires.stands.1 in
     let begun = c.in_ok-between.ensures.begins s stands in
     let run = run_view c.in_ok-finished.finished in
-    let next : IsNextRun s c.args.start run = begun_run s c.args.start c.in_ok-between.between c.in_ok-between.book begun c.in_ok-between.ensures.journal c.in_ok-finished.finished c.in_ok-finished.ensures.setup c.in_ok-finished.ensures.run in
+    let next : IsNextRun s c.args.start run = begun_run s c.args.start c.in_ok-between.between c.in_ok-between.book begun c.in_ok-finished.finished c.in_ok-finished.ensures.setup c.in_ok-finished.ensures.run in
     let few = its_few s stands.but_latest.valid c.args.start run next in
     let room = c.requires.few_occurrences in
     omega (arith, few, room)
@@ -37,10 +37,10 @@ returns-clause-run g c = λ s stands.
     let begun = c.in_ok-between.ensures.begins s stands in
     let finished = c.in_ok-finished.finished in
     let run = run_view finished in
-    let next : IsNextRun s c.args.start run = begun_run s c.args.start c.in_ok-between.between c.in_ok-between.book begun c.in_ok-between.ensures.journal finished c.in_ok-finished.ensures.setup c.in_ok-finished.ensures.run in (
+    let next : IsNextRun s c.args.start run = begun_run s c.args.start c.in_ok-between.between c.in_ok-between.book begun finished c.in_ok-finished.ensures.setup c.in_ok-finished.ensures.run in (
       run,
       next,
-      begun_ends c.in_ok-between.book c.in_ok-between.ensures.journal finished c.in_ok-finished.ensures.ends_for_memory,
+      c.in_ok-finished.ensures.ends_otherwise,
       c.end.ensures.stands s c.args.start begun.stands next,
       c.status_after-status.ensures.status,
       (λ trace tolds tells. subst (λ (start : Start). Tells trace (tolds ++ record { start = start; setup = setup_view finished.setup; run = finished_view finished } ∷ []) c.tell.new.self) c.shown_start.ensures.shown (c.in_ok-tell.ensures.tells trace tolds tells)),

@@ -41,7 +41,7 @@ next_phase-requires g c =
     record { stands = (so.made.s, so.made.stands) }
 
 pub run_phase-requires-clause-stands : goal.run_phase-requires-clause-stands
-run_phase-requires-clause-stands g c =
+run_phase-requires-clause-stands g c κs within =
     let w = c.requires.may_begin in
     let few = few_phases w.s c.args.session w.stands (omega (arith, c.args.session.phases.ok.0, c.args.session.phases.ok.1, c.args.session.phases.small)) in
     let so = c.loop-session.invariant.so_far w.s w.trace w.stands w.none w.starts w.tells few in
@@ -49,7 +49,7 @@ run_phase-requires-clause-stands g c =
     (after_phase so.made.s takes.0 takes.1, takes.4)
 
 pub run_phase-requires-clause-may_start : goal.run_phase-requires-clause-may_start
-run_phase-requires-clause-may_start g c =
+run_phase-requires-clause-may_start g c κs within =
     let w = c.requires.may_begin in
     let few = few_phases w.s c.args.session w.stands (omega (arith, c.args.session.phases.ok.0, c.args.session.phases.ok.1, c.args.session.phases.small)) in
     let so = c.loop-session.invariant.so_far w.s w.trace w.stands w.none w.starts w.tells few in
@@ -57,14 +57,14 @@ run_phase-requires-clause-may_start g c =
     turn_may_start g.P.Probe.Notes w.s w.trace c.args.probes.now.items c.loop-session.session c.loop-session.told c.loop-session.probes.items c.loop-session.status so c.in-Some.start c.next_phase.new.self takes c.loop-session.session c.loop-session.told c.loop-session.probes.items c.loop-session.status
 
 pub run_phase-requires-clause-few_runs : goal.run_phase-requires-clause-few_runs
-run_phase-requires-clause-few_runs g c =
+run_phase-requires-clause-few_runs g c κs within =
     let w = c.requires.may_begin in
     let few = few_phases w.s c.args.session w.stands (omega (arith, c.args.session.phases.ok.0, c.args.session.phases.ok.1, c.args.session.phases.small)) in
     let so = c.loop-session.invariant.so_far w.s w.trace w.stands w.none w.starts w.tells few in
     room_for_run g.P.Probe.Notes w.s w.trace c.args.probes.now.items c.loop-session.session c.loop-session.told c.loop-session.probes.items c.loop-session.status so
 
 pub run_phase-requires-clause-few_occurrences : goal.run_phase-requires-clause-few_occurrences
-run_phase-requires-clause-few_occurrences g c =
+run_phase-requires-clause-few_occurrences g c κs within =
     let w = c.requires.may_begin in
     let few = few_phases w.s c.args.session w.stands (omega (arith, c.args.session.phases.ok.0, c.args.session.phases.ok.1, c.args.session.phases.small)) in
     let so = c.loop-session.invariant.so_far w.s w.trace w.stands w.none w.starts w.tells few in

@@ -28,7 +28,7 @@ loop-number-init c =
     let follows = c.in_ok-complete_open.ensures.follows in
     let completed = c.in_ok-complete_open.ensures.completions in
     record {
-      kept = running_is_book c.args.self c.complete_open.new.self c.requires.kept follows.setup follows.works follows.opening c.in_ok-complete_open.ensures.running;
+      kept = running_is_book c.args.self c.complete_open.new.self c.requires.kept follows.setup follows.works follows.opening follows.entered c.in_ok-complete_open.ensures.running;
       running = c.in_ok-complete_open.ensures.running;
       none_open = c.in_ok-complete_open.ensures.none_open;
       setup = follows.setup;
@@ -51,7 +51,7 @@ loop-number-preserved c =
     subst (λ s. GivesNoneBack s (journal_in c.args.self ++ c.loop-number.invariant.events.more) c.in_ok-play_round.ensures.rounds.0) setups
     (subst (λ es. GivesNoneBack (setup_in c.take_end.new.self) es c.in_ok-play_round.ensures.rounds.0) journals round.3) in
     record {
-      kept = running_is_book c.take_end.new.self c.play_round.new.self kept follows.setup follows.works follows.opening c.in_ok-play_round.ensures.running;
+      kept = running_is_book c.take_end.new.self c.play_round.new.self kept follows.setup follows.works follows.opening follows.entered c.in_ok-play_round.ensures.running;
       running = c.in_ok-play_round.ensures.running;
       none_open = c.in_ok-play_round.ensures.none_open;
       setup = follows.setup ∙ ap (λ (b : Book). b.setup) same ∙ c.loop-number.invariant.setup;

@@ -26,4 +26,5 @@ returns-clause-kept c =
       at_clock = c.in_ok-index.ensures.clock;
       opening = c.outlook-opening.ensures.outlook ∙ ap (λ t. outlook_at t (listed_in c.in_ok-index.index)) c.in_ok-index.ensures.clock;
       room = omega (arith, c.in_ok-reserve.ensures.ok);
+      none_entered = refl;
     })

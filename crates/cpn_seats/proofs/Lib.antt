@@ -1,0 +1,10 @@
+mod Answering
+mod HeldClaims
+mod Keeping
+mod Meeting
+mod Numbers
+mod SeatFacts
+pub mod SendableSeats
+mod Sighted
+mod StillHeld
+mod Totals

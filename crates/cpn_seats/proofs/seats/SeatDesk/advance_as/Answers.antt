@@ -1,0 +1,63 @@
+use Rattle.std.proofs.Common.{[], ◌∷◌, Some, refl, ap, ◌∙◌, arith}
+use Rattle.cpn_book.specs.Seen.{AdvancesAt}
+use Rattle.cpn_book.proofs.SeatCalls.{advance_makes, advances_at}
+use Rattle.cpn_book.specs.declared.books.Book.{Book}
+use Rattle.cpn_seats.proofs.Answering.{holds, held_some, puts_back, ends_as, rests, sees}
+use Rattle.cpn_seats.proofs.seats.SeatDesk.advance_as.Goals as goal
+
+pub take-book-requires-clause-held : goal.take-book-requires-clause-held
+take-book-requires-clause-held g c = held_some c.args.token.now.me.0 c.take_turn-turn.new.token.me c.take_turn-turn.ensures.held
+
+pub advance-answer-requires : goal.advance-answer-requires
+advance-answer-requires g c = record { kept = (holds c.args.token.now.me.0 c.take_turn-turn.new.token.me c.take-book.result c.take_turn-turn.ensures.held c.take-book.ensures.taken).finds.is_book }
+
+pub serve-requires-clause-put_back : goal.serve-requires-clause-put_back
+serve-requires-clause-put_back g c =
+    let v = c.args.token.now.me.0 in
+    let m = c.take_turn-turn.new.token.me in
+    let y = c.take-book.result in
+    let e = c.advance-answer.ensures in
+    let b : Book = c.advance-answer.new.self in
+    let h = holds v m y c.take_turn-turn.ensures.held c.take-book.ensures.taken in
+    let is = c.put.ensures.full ∙ ap (λ k. (k.0, (0, Some b) ∷ [])) c.take-book.ensures.empty in
+    let made = advance_makes c.args.number y b c.advance-answer.result e.kept e.setup e.events e.spent_still in
+    puts_back v m c.put.new.token.me y b c.args.number 0 _ h is made c.requires.at_rest.among (omega (arith, e.entered))
+
+pub returns-clause-at_rest : goal.returns-clause-at_rest
+returns-clause-at_rest g c =
+    let v = c.args.token.now.me.0 in
+    let m = c.take_turn-turn.new.token.me in
+    let y = c.take-book.result in
+    let e = c.advance-answer.ensures in
+    let b : Book = c.advance-answer.new.self in
+    let h = holds v m y c.take_turn-turn.ensures.held c.take-book.ensures.taken in
+    let is = c.put.ensures.full ∙ ap (λ k. (k.0, (0, Some b) ∷ [])) c.take-book.ensures.empty in
+    let made = advance_makes c.args.number y b c.advance-answer.result e.kept e.setup e.events e.spent_still in
+    let end = c.leave.ensures.same ∙ ends_as v m c.put.new.token.me c.serve.new.token.me y b h is c.serve.ensures.served in
+    rests v b c.args.number c.args.token.now.me c.leave.new.token.me refl c.requires.at_rest end
+
+pub returns-clause-numbers : goal.returns-clause-numbers
+returns-clause-numbers g c =
+    let v = c.args.token.now.me.0 in
+    let m = c.take_turn-turn.new.token.me in
+    let y = c.take-book.result in
+    let e = c.advance-answer.ensures in
+    let b : Book = c.advance-answer.new.self in
+    let h = holds v m y c.take_turn-turn.ensures.held c.take-book.ensures.taken in
+    let is = c.put.ensures.full ∙ ap (λ k. (k.0, (0, Some b) ∷ [])) c.take-book.ensures.empty in
+    let made = advance_makes c.args.number y b c.advance-answer.result e.kept e.setup e.events e.spent_still in
+    let end = c.leave.ensures.same ∙ ends_as v m c.put.new.token.me c.serve.new.token.me y b h is c.serve.ensures.served in
+    ap (λ k. k.0.numbers) end
+
+pub returns-clause-answer : goal.returns-clause-answer
+returns-clause-answer g c =
+    let v = c.args.token.now.me.0 in
+    let m = c.take_turn-turn.new.token.me in
+    let y = c.take-book.result in
+    let e = c.advance-answer.ensures in
+    let b : Book = c.advance-answer.new.self in
+    let h = holds v m y c.take_turn-turn.ensures.held c.take-book.ensures.taken in
+    let is = c.put.ensures.full ∙ ap (λ k. (k.0, (0, Some b) ∷ [])) c.take-book.ensures.empty in
+    let made = advance_makes c.args.number y b c.advance-answer.result e.kept e.setup e.events e.spent_still in
+    let end = c.leave.ensures.same ∙ ends_as v m c.put.new.token.me c.serve.new.token.me y b h is c.serve.ensures.served in
+    sees (AdvancesAt v.numbers c.advance-answer.result) v y b v.numbers c.leave.new.token.me (ap (λ k. k.0) end) h.finds made.setup (λ seen comes. advances_at v.numbers c.args.number seen y b c.advance-answer.result h.finds.is_book comes made e.answer e.spent e.spent_still)

@@ -1,0 +1,80 @@
+use Rattle.std.proofs.Common.{[], ◌∷◌, Some, refl, ap, ◌∙◌, arith}
+use Rattle.cpn_book.specs.declared.answers.Claimed.{Claimed}
+use Rattle.cpn_book.specs.Seen.{ClaimsAt, WantsMemoryAt}
+use Rattle.cpn_book.proofs.SeatCalls.{claim_makes, claims_at, claim_fails}
+use Rattle.cpn_book.specs.declared.books.Book.{Book}
+use Rattle.cpn_seats.proofs.Answering.{holds, held_some, seat_known, puts_back, ends_as, rests, tells, wants}
+use Rattle.cpn_seats.proofs.seats.SeatDesk.claim_as.Goals as goal
+
+pub take-book-requires-clause-held : goal.take-book-requires-clause-held
+take-book-requires-clause-held g c = held_some c.args.token.now.me.0 c.take_turn-turn.new.token.me c.take_turn-turn.ensures.held
+
+pub claim-answer-requires-clause-kept : goal.claim-answer-requires-clause-kept
+claim-answer-requires-clause-kept g c = (holds c.args.token.now.me.0 c.take_turn-turn.new.token.me c.take-book.result c.take_turn-turn.ensures.held c.take-book.ensures.taken).finds.is_book
+
+pub claim-answer-requires-clause-known : goal.claim-answer-requires-clause-known
+claim-answer-requires-clause-known g c = seat_known c.args.token.now.me.0 c.take-book.result c.args.number (holds c.args.token.now.me.0 c.take_turn-turn.new.token.me c.take-book.result c.take_turn-turn.ensures.held c.take-book.ensures.taken).finds c.requires.at_rest.among
+
+pub serve-requires-clause-put_back : goal.serve-requires-clause-put_back
+serve-requires-clause-put_back g c =
+    let v = c.args.token.now.me.0 in
+    let m = c.take_turn-turn.new.token.me in
+    let y = c.take-book.result in
+    let e = c.claim-answer.ensures in
+    let b : Book = c.claim-answer.new.self in
+    let h = holds v m y c.take_turn-turn.ensures.held c.take-book.ensures.taken in
+    let is = c.put.ensures.full ∙ ap (λ k. (k.0, (0, Some b) ∷ [])) c.take-book.ensures.empty in
+    let made = claim_makes c.args.number y b c.claim-answer.result e.kept e.setup e.events e.events_stay e.spent_same in
+    puts_back v m c.put.new.token.me y b c.args.number 0 _ h is made c.requires.at_rest.among (omega (arith, e.entered))
+
+pub returns-clause-at_rest : goal.returns-clause-at_rest
+returns-clause-at_rest g c =
+    let v = c.args.token.now.me.0 in
+    let m = c.take_turn-turn.new.token.me in
+    let y = c.take-book.result in
+    let e = c.claim-answer.ensures in
+    let b : Book = c.claim-answer.new.self in
+    let h = holds v m y c.take_turn-turn.ensures.held c.take-book.ensures.taken in
+    let is = c.put.ensures.full ∙ ap (λ k. (k.0, (0, Some b) ∷ [])) c.take-book.ensures.empty in
+    let made = claim_makes c.args.number y b c.claim-answer.result e.kept e.setup e.events e.events_stay e.spent_same in
+    let end = c.leave.ensures.same ∙ ends_as v m c.put.new.token.me c.serve.new.token.me y b h is c.serve.ensures.served in
+    rests v b c.args.number c.args.token.now.me c.leave.new.token.me refl c.requires.at_rest end
+
+pub returns-clause-numbers : goal.returns-clause-numbers
+returns-clause-numbers g c =
+    let v = c.args.token.now.me.0 in
+    let m = c.take_turn-turn.new.token.me in
+    let y = c.take-book.result in
+    let e = c.claim-answer.ensures in
+    let b : Book = c.claim-answer.new.self in
+    let h = holds v m y c.take_turn-turn.ensures.held c.take-book.ensures.taken in
+    let is = c.put.ensures.full ∙ ap (λ k. (k.0, (0, Some b) ∷ [])) c.take-book.ensures.empty in
+    let made = claim_makes c.args.number y b c.claim-answer.result e.kept e.setup e.events e.events_stay e.spent_same in
+    let end = c.leave.ensures.same ∙ ends_as v m c.put.new.token.me c.serve.new.token.me y b h is c.serve.ensures.served in
+    ap (λ k. k.0.numbers) end
+
+pub returns-clause-answer : goal.returns-clause-answer
+returns-clause-answer g c =
+    let v = c.args.token.now.me.0 in
+    let m = c.take_turn-turn.new.token.me in
+    let y = c.take-book.result in
+    let e = c.claim-answer.ensures in
+    let b : Book = c.claim-answer.new.self in
+    let h = holds v m y c.take_turn-turn.ensures.held c.take-book.ensures.taken in
+    let is = c.put.ensures.full ∙ ap (λ k. (k.0, (0, Some b) ∷ [])) c.take-book.ensures.empty in
+    let made = claim_makes c.args.number y b c.claim-answer.result e.kept e.setup e.events e.events_stay e.spent_same in
+    let end = c.leave.ensures.same ∙ ends_as v m c.put.new.token.me c.serve.new.token.me y b h is c.serve.ensures.served in
+    tells Claimed (λ a. ClaimsAt v.numbers c.args.number a) v y b v.numbers c.claim-answer.result c.leave.new.token.me (ap (λ k. k.0) end) h.finds made.setup (λ seen comes. claims_at v.numbers c.args.number seen y b c.claim-answer.result comes made e.answer e.unspent e.unspent_still)
+
+pub returns-clause-none : goal.returns-clause-none
+returns-clause-none g c =
+    let v = c.args.token.now.me.0 in
+    let m = c.take_turn-turn.new.token.me in
+    let y = c.take-book.result in
+    let e = c.claim-answer.ensures in
+    let b : Book = c.claim-answer.new.self in
+    let h = holds v m y c.take_turn-turn.ensures.held c.take-book.ensures.taken in
+    let is = c.put.ensures.full ∙ ap (λ k. (k.0, (0, Some b) ∷ [])) c.take-book.ensures.empty in
+    let made = claim_makes c.args.number y b c.claim-answer.result e.kept e.setup e.events e.events_stay e.spent_same in
+    let end = c.leave.ensures.same ∙ ends_as v m c.put.new.token.me c.serve.new.token.me y b h is c.serve.ensures.served in
+    wants Claimed (WantsMemoryAt v.numbers) v y b v.numbers c.claim-answer.result c.leave.new.token.me (ap (λ k. k.0) end) h.finds made.setup (λ seen comes. claim_fails v.numbers c.args.number seen y b c.claim-answer.result comes made e.spent)
