@@ -1,5 +1,5 @@
 //! A net that is held, whose guards are set.
-ghost use Rattle.std.specs.Prelude.{IfOk, IfSome};
+ghost use Rattle.std.specs.Prelude.{IfOk, IfSome, OnOk};
 ghost use Rattle.cpn_core.specs.Nets.{net_view};
 ghost use Rattle.cpn_declared.specs.DeclsViews.{decls_view};
 ghost use Rattle.cpn_edit_texts.specs.Ready.{IsReady};
@@ -8,7 +8,7 @@ ghost use Rattle.cpn_monitor.specs.Views.{monitors_view};
 ghost use Rattle.cpn_test_index.specs.Editable.{IsAccepted, IsEditable};
 ghost use Rattle.cpn_test_index.specs.Held.{IsHeld};
 
-use crate::followed::after;
+use crate::followed::make;
 use crate::held::Held;
 use cpn_core::Memory;
 use cpn_document::Pointer;
@@ -88,53 +88,35 @@ impl Edited {
     }
 
     /// Sets the guard of a transition of a name, where it is accepted there.
-    pub fn set_guard(self, alloc: Global, transition: &str, guard: &str) -> Result<Edited, Memory>
-        requires held { IsHeld (net_view self.held.net) self.held.marking self.held.index self.held.clock }
-        requires editable { IsEditable (decls_view self.decls) (net_view self.held.net) (monitors_view self.monitors) }
-        ensures held { IfOk result (λ edited. IsHeld (net_view edited.held.net) edited.held.marking edited.held.index edited.held.clock) }
-        ensures editable { IfOk result (λ edited. IsEditable (decls_view edited.decls) (net_view edited.held.net) (monitors_view edited.monitors)) }
+    pub fn set_guard(&mut self, alloc: Global, transition: &str, guard: &str) -> Result<(), Memory>
+        requires held { IsHeld (net_view self.old.held.net) self.old.held.marking self.old.held.index self.old.held.clock }
+        requires editable { IsEditable (decls_view self.old.decls) (net_view self.old.held.net) (monitors_view self.old.monitors) }
+        ensures held { OnOk result (IsHeld (net_view self.new.held.net) self.new.held.marking self.new.held.index self.new.held.clock) }
+        ensures editable { OnOk result (IsEditable (decls_view self.new.decls) (net_view self.new.held.net) (monitors_view self.new.monitors)) }
     {
         let found = self.checked(alloc, transition, guard)?;
         match found {
-            None => Ok(self),
+            None => Ok(()),
             Some(edit) => {
-                let Edited {
-                    decls,
-                    monitors,
-                    held,
-                } = self;
-                let held = held.after_edit(edit)?;
-                Ok(Edited {
-                    decls,
-                    monitors,
-                    held,
-                })
+                self.held.edit(edit)?;
+                Ok(())
             }
         }
     }
 
-    /// What is held after a step that leaves the net as it is: a token that is put or taken, or a clock.
-    pub fn after_step<L: Ledger>(
-        self,
+    /// Makes a step that leaves the net as it is: a token that is put or taken, or a clock.
+    pub fn step<L: Ledger>(
+        &mut self,
         alloc: Global,
         step: &str,
         steps: &mut Steps<L>,
-    ) -> Result<Edited, Memory>
-        requires held { IsHeld (net_view self.held.net) self.held.marking self.held.index self.held.clock }
-        requires editable { IsEditable (decls_view self.decls) (net_view self.held.net) (monitors_view self.monitors) }
-        ensures held { IfOk result (λ edited. IsHeld (net_view edited.held.net) edited.held.marking edited.held.index edited.held.clock) }
-        ensures editable { IfOk result (λ edited. IsEditable (decls_view edited.decls) (net_view edited.held.net) (monitors_view edited.monitors)) }
+    ) -> Result<(), Memory>
+        requires held { IsHeld (net_view self.old.held.net) self.old.held.marking self.old.held.index self.old.held.clock }
+        requires editable { IsEditable (decls_view self.old.decls) (net_view self.old.held.net) (monitors_view self.old.monitors) }
+        ensures held { OnOk result (IsHeld (net_view self.new.held.net) self.new.held.marking self.new.held.index self.new.held.clock) }
+        ensures editable { OnOk result (IsEditable (decls_view self.new.decls) (net_view self.new.held.net) (monitors_view self.new.monitors)) }
     {
-        let Edited {
-            decls,
-            monitors,
-            held,
-        } = self;
-        let held = after(alloc, held, step, steps)?;
-        Ok(Edited {
-            decls,
-            monitors,
-            held,
-        })
+        make(alloc, &mut self.held, step, steps)?;
+        Ok(())
     }
 }

@@ -1,5 +1,5 @@
 //! The table of indexes that follow changes of a marking.
-ghost use Rattle.std.specs.Prelude.{◌≡◌, ◌<◌, IfOk};
+ghost use Rattle.std.specs.Prelude.{◌≡◌, ◌<◌, OnOk};
 ghost use Rattle.cpn_core.specs.Nets.{net_view};
 ghost use Rattle.cpn_test_index.specs.Held.{IsHeld};
 
@@ -35,17 +35,17 @@ fn token_in(text: &str) -> Token {
     }
 }
 
-/// What is held after a step: `+` and a token puts it, `-` and a token takes the one with the latest stamp that is not above its own, and `=`
-/// moves the clock.
-pub fn after<L: Ledger>(
+/// Makes a step: `+` and a token puts it, `-` and a token takes the one with the latest stamp that is not above its own, and `=` moves
+/// the clock.
+pub fn make<L: Ledger>(
     alloc: Global,
-    held: Held,
+    held: &mut Held,
     step: &str,
     steps: &mut Steps<L>,
-) -> Result<Held, Memory>
-    requires held { IsHeld (net_view held.net) held.marking held.index held.clock }
-    ensures held { IfOk result (λ held. IsHeld (net_view held.net) held.marking held.index held.clock) }
-    ensures net { IfOk result (λ after. net_view after.net ≡ net_view held.net) }
+) -> Result<(), Memory>
+    requires held { IsHeld (net_view held.old.net) held.old.marking held.old.index held.old.clock }
+    ensures held { OnOk result (IsHeld (net_view held.new.net) held.new.marking held.new.index held.new.clock) }
+    ensures net { OnOk result (net_view held.new.net ≡ net_view held.old.net) }
 {
     if let Some(text) = step.strip_prefix('+') {
         let token = token_in(text);
@@ -56,32 +56,37 @@ pub fn after<L: Ledger>(
         return held.take(alloc, token.place, token.number, token.stamp, steps);
     }
     let clock = step.strip_prefix('=').unwrap_or("");
-    Ok(held.advance_to(clock.parse::<u64>().unwrap_or(0)))
+    held.advance_to(clock.parse::<u64>().unwrap_or(0));
+    Ok(())
 }
 
-/// What is told at the start and after each step of a row.
-fn told<L: Ledger>(alloc: Global, start: Held, row: &String, blank: Blank) -> Result<String, Memory>
-    requires held { IsHeld (net_view start.net) start.marking start.index start.clock }
+/// Tells what is held at the start and after each step of a row.
+fn tell<L: Ledger>(
+    text: &mut String,
+    alloc: Global,
+    held: &mut Held,
+    row: &String,
+    blank: Blank,
+) -> Result<(), Memory>
+    requires held { IsHeld (net_view held.old.net) held.old.marking held.old.index held.old.clock }
     requires name { blank.name ≡ L.name }
     requires parts { blank.parts ≡ L.parts }
     requires some { 0 < blank.parts }
 {
     let mut steps = Steps::<L>::none(blank);
-    let mut text = String::new(alloc);
-    let mut held = start;
-    tell_index(&mut text, &held.index)?;
+    tell_index(text, &held.index)?;
     for step in row.as_str().split(' ') {
-        held = after(alloc, held, step, &mut steps)?;
-        tell_index(&mut text, &held.index)?;
+        make(alloc, held, step, &mut steps)?;
+        tell_index(text, &held.index)?;
     }
-    Ok(text)
+    Ok(())
 }
 
 /// The same, with steps on a ledger of its own.
-fn told_of(alloc: Global, start: Held, row: &String) -> Result<String, Memory>
-    requires held { IsHeld (net_view start.net) start.marking start.index start.clock }
+fn tell_row(text: &mut String, alloc: Global, held: &mut Held, row: &String) -> Result<(), Memory>
+    requires held { IsHeld (net_view held.old.net) held.old.marking held.old.index held.old.clock }
 {
-    told::<Brand>(alloc, start, row, Blank::new(1))
+    tell::<Brand>(text, alloc, held, row, Blank::new(1))
 }
 
 /// Whether a row holds in a net: its steps, an arrow, and what is told.
@@ -91,8 +96,10 @@ fn holds(alloc: Global, document: &str, row: &str) -> Result<bool, Memory> {
     };
     match held_at_start(alloc, document)? {
         Some(start) => {
+            let mut held = start;
             let steps = String::from_str(alloc, asked)?;
-            let text = told_of(alloc, start, &steps)?;
+            let mut text = String::new(alloc);
+            tell_row(&mut text, alloc, &mut held, &steps)?;
             Ok(text.as_str() == wanted)
         }
         None => Ok(false),

@@ -1,5 +1,5 @@
 //! The table of guards that are set while an index follows.
-ghost use Rattle.std.specs.Prelude.{◌≡◌, ◌<◌, IfOk};
+ghost use Rattle.std.specs.Prelude.{◌≡◌, ◌<◌, OnOk};
 ghost use Rattle.cpn_core.specs.Nets.{net_view};
 ghost use Rattle.cpn_declared.specs.DeclsViews.{decls_view};
 ghost use Rattle.cpn_monitor.specs.Views.{monitors_view};
@@ -19,21 +19,21 @@ use std::marker::Brand;
 use std::sync::ledger::{Blank, Ledger};
 use std::test::Fail;
 
-/// What is held after a step: a transition, a colon and a guard set the guard; any other step is one of the table of changes.
-fn after<L: Ledger>(
+/// Makes a step: a transition, a colon and a guard set the guard; any other step is one of the table of changes.
+fn make<L: Ledger>(
     alloc: Global,
-    edited: Edited,
+    edited: &mut Edited,
     step: &str,
     steps: &mut Steps<L>,
-) -> Result<Edited, Memory>
-    requires held { IsHeld (net_view edited.held.net) edited.held.marking edited.held.index edited.held.clock }
-    requires editable { IsEditable (decls_view edited.decls) (net_view edited.held.net) (monitors_view edited.monitors) }
-    ensures held { IfOk result (λ edited. IsHeld (net_view edited.held.net) edited.held.marking edited.held.index edited.held.clock) }
-    ensures editable { IfOk result (λ edited. IsEditable (decls_view edited.decls) (net_view edited.held.net) (monitors_view edited.monitors)) }
+) -> Result<(), Memory>
+    requires held { IsHeld (net_view edited.old.held.net) edited.old.held.marking edited.old.held.index edited.old.held.clock }
+    requires editable { IsEditable (decls_view edited.old.decls) (net_view edited.old.held.net) (monitors_view edited.old.monitors) }
+    ensures held { OnOk result (IsHeld (net_view edited.new.held.net) edited.new.held.marking edited.new.held.index edited.new.held.clock) }
+    ensures editable { OnOk result (IsEditable (decls_view edited.new.decls) (net_view edited.new.held.net) (monitors_view edited.new.monitors)) }
 {
     match step.split_once(':') {
         Some((transition, guard)) => edited.set_guard(alloc, transition, guard),
-        None => edited.after_step(alloc, step, steps),
+        None => edited.step(alloc, step, steps),
     }
 }
 
@@ -54,36 +54,40 @@ fn tell_held(alloc: Global, text: &mut String, held: &Held) -> Result<(), Memory
     Ok(())
 }
 
-/// What is told at the start and after each step of a row.
-fn told<L: Ledger>(
+/// Tells what is held at the start and after each step of a row.
+fn tell<L: Ledger>(
+    text: &mut String,
     alloc: Global,
-    start: Edited,
+    edited: &mut Edited,
     row: &String,
     blank: Blank,
-) -> Result<String, Memory>
-    requires held { IsHeld (net_view start.held.net) start.held.marking start.held.index start.held.clock }
-    requires editable { IsEditable (decls_view start.decls) (net_view start.held.net) (monitors_view start.monitors) }
+) -> Result<(), Memory>
+    requires held { IsHeld (net_view edited.old.held.net) edited.old.held.marking edited.old.held.index edited.old.held.clock }
+    requires editable { IsEditable (decls_view edited.old.decls) (net_view edited.old.held.net) (monitors_view edited.old.monitors) }
     requires name { blank.name ≡ L.name }
     requires parts { blank.parts ≡ L.parts }
     requires some { 0 < blank.parts }
 {
     let mut steps = Steps::<L>::none(blank);
-    let mut text = String::new(alloc);
-    let mut edited = start;
-    tell_held(alloc, &mut text, &edited.held)?;
+    tell_held(alloc, text, &edited.held)?;
     for step in row.as_str().split(' ') {
-        edited = after(alloc, edited, step, &mut steps)?;
-        tell_held(alloc, &mut text, &edited.held)?;
+        make(alloc, edited, step, &mut steps)?;
+        tell_held(alloc, text, &edited.held)?;
     }
-    Ok(text)
+    Ok(())
 }
 
 /// The same, with steps on a ledger of its own.
-fn told_of(alloc: Global, start: Edited, row: &String) -> Result<String, Memory>
-    requires held { IsHeld (net_view start.held.net) start.held.marking start.held.index start.held.clock }
-    requires editable { IsEditable (decls_view start.decls) (net_view start.held.net) (monitors_view start.monitors) }
+fn tell_row(
+    text: &mut String,
+    alloc: Global,
+    edited: &mut Edited,
+    row: &String,
+) -> Result<(), Memory>
+    requires held { IsHeld (net_view edited.old.held.net) edited.old.held.marking edited.old.held.index edited.old.held.clock }
+    requires editable { IsEditable (decls_view edited.old.decls) (net_view edited.old.held.net) (monitors_view edited.old.monitors) }
 {
-    told::<Brand>(alloc, start, row, Blank::new(1))
+    tell::<Brand>(text, alloc, edited, row, Blank::new(1))
 }
 
 /// Whether a row holds in a net: its steps, an arrow, and what is told.
@@ -93,8 +97,10 @@ fn holds(alloc: Global, document: &str, row: &str) -> Result<bool, Memory> {
     };
     match edited_at_start(alloc, document)? {
         Some(start) => {
+            let mut edited = start;
             let steps = String::from_str(alloc, asked)?;
-            let text = told_of(alloc, start, &steps)?;
+            let mut text = String::new(alloc);
+            tell_row(&mut text, alloc, &mut edited, &steps)?;
             Ok(text.as_str() == wanted)
         }
         None => Ok(false),

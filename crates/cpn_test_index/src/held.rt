@@ -1,5 +1,5 @@
 //! A net, a marking of it and their index, whose tokens are put and taken one at a time while the index follows.
-ghost use Rattle.std.specs.Prelude.{◌≡◌, ◌<◌, true, false, [], ◌∷◌, length, IfOk};
+ghost use Rattle.std.specs.Prelude.{◌≡◌, ◌<◌, true, false, [], ◌∷◌, length, IfOk, OnOk};
 ghost use Rattle.cpn_definitions.specs.Marking.{token_at, tokens_at};
 ghost use Rattle.cpn_definitions.specs.Net.{place_at};
 ghost use Rattle.cpn_definitions.specs.Sound.{IsSound, IsMarking, may_hold};
@@ -86,131 +86,84 @@ impl Held {
 
     /// Puts a token on a place, where that may hold it.
     pub fn put<L: Ledger>(
-        self,
+        &mut self,
         alloc: Global,
         place: u32,
         number: i64,
         stamp: u64,
         steps: &mut Steps<L>,
-    ) -> Result<Held, Memory>
-        requires held { IsHeld (net_view self.net) self.marking self.index self.clock }
-        ensures held { IfOk result (λ held. IsHeld (net_view held.net) held.marking held.index held.clock) }
-        ensures net { IfOk result (λ held. net_view held.net ≡ net_view self.net) }
+    ) -> Result<(), Memory>
+        requires held { IsHeld (net_view self.old.net) self.old.marking self.old.index self.old.clock }
+        ensures held { OnOk result (IsHeld (net_view self.new.net) self.new.marking self.new.index self.new.clock) }
+        ensures net { OnOk result (net_view self.new.net ≡ net_view self.old.net) }
     {
         let value = Value::Int(number);
         if !may_be_put(&self.net, place, &value, stamp) {
-            return Ok(self);
+            return Ok(());
         }
         if is_full(&self.marking, place) {
-            return Ok(self);
+            return Ok(());
         }
-        let Held {
-            net,
-            mut marking,
-            mut index,
-            clock,
-        } = self;
         let changes = changes_of(alloc, place, &value)?;
-        marking.add(place, value, stamp)?;
-        index.update(&net, &marking, &changes, steps)?;
-        Ok(Held {
-            net,
-            marking,
-            index,
-            clock,
-        })
+        self.marking.add(place, value, stamp)?;
+        self.index
+            .update(&self.net, &self.marking, &changes, steps)?;
+        Ok(())
     }
 
     /// Takes from a place the token of a number with the latest stamp that is not above `latest`.
     pub fn take<L: Ledger>(
-        self,
+        &mut self,
         alloc: Global,
         place: u32,
         number: i64,
         latest: u64,
         steps: &mut Steps<L>,
-    ) -> Result<Held, Memory>
-        requires held { IsHeld (net_view self.net) self.marking self.index self.clock }
-        ensures held { IfOk result (λ held. IsHeld (net_view held.net) held.marking held.index held.clock) }
-        ensures net { IfOk result (λ held. net_view held.net ≡ net_view self.net) }
+    ) -> Result<(), Memory>
+        requires held { IsHeld (net_view self.old.net) self.old.marking self.old.index self.old.clock }
+        ensures held { OnOk result (IsHeld (net_view self.new.net) self.new.marking self.new.index self.new.clock) }
+        ensures net { OnOk result (net_view self.new.net ≡ net_view self.old.net) }
     {
         if place as usize >= self.marking.len() {
-            return Ok(self);
+            return Ok(());
         }
-        let Held {
-            net,
-            mut marking,
-            mut index,
-            clock,
-        } = self;
         let value = Value::Int(number);
         let changes = changes_of(alloc, place, &value)?;
-        marking.take(place, &value, latest);
-        index.update(&net, &marking, &changes, steps)?;
-        Ok(Held {
-            net,
-            marking,
-            index,
-            clock,
-        })
+        self.marking.take(place, &value, latest);
+        self.index
+            .update(&self.net, &self.marking, &changes, steps)?;
+        Ok(())
     }
 
     /// Moves the clock, where it does not go back.
-    pub fn advance_to(self, clock: u64) -> Held
-        requires held { IsHeld (net_view self.net) self.marking self.index self.clock }
-        ensures held { IsHeld (net_view result.net) result.marking result.index result.clock }
-        ensures net { net_view result.net ≡ net_view self.net }
+    pub fn advance_to(&mut self, clock: u64)
+        requires held { IsHeld (net_view self.old.net) self.old.marking self.old.index self.old.clock }
+        ensures held { IsHeld (net_view self.new.net) self.new.marking self.new.index self.new.clock }
+        ensures net { net_view self.new.net ≡ net_view self.old.net }
     {
-        let Held {
-            net,
-            marking,
-            mut index,
-            clock: before,
-        } = self;
-        if clock < before {
-            return Held {
-                net,
-                marking,
-                index,
-                clock: before,
-            };
+        if clock < self.clock {
+            return;
         }
-        index.advance_to(clock);
-        Held {
-            net,
-            marking,
-            index,
-            clock,
-        }
+        self.index.advance_to(clock);
+        self.clock = clock;
     }
 
     /// Makes an edit, where it is another guard of a transition.
-    pub fn after_edit(self, edit: Edit) -> Result<Held, Memory>
-        requires held { IsHeld (net_view self.net) self.marking self.index self.clock }
-        requires there { IsThere (length (net_view self.net).transitions) (length (net_view self.net).places) (edit_view edit) }
-        requires alike { AreAlikeButGuards (net_after (net_view self.net) (edit_view edit)) (net_view self.net) }
-        requires sound { IsSound (net_after (net_view self.net) (edit_view edit)) }
-        ensures held { IfOk result (λ held. IsHeld (net_view held.net) held.marking held.index held.clock) }
-        ensures net { IfOk result (λ held. net_view held.net ≡ net_after (net_view self.net) (edit_view edit)) }
+    pub fn edit(&mut self, edit: Edit) -> Result<(), Memory>
+        requires held { IsHeld (net_view self.old.net) self.old.marking self.old.index self.old.clock }
+        requires there { IsThere (length (net_view self.old.net).transitions) (length (net_view self.old.net).places) (edit_view edit) }
+        requires alike { AreAlikeButGuards (net_after (net_view self.old.net) (edit_view edit)) (net_view self.old.net) }
+        requires sound { IsSound (net_after (net_view self.old.net) (edit_view edit)) }
+        ensures held { OnOk result (IsHeld (net_view self.new.net) self.new.marking self.new.index self.new.clock) }
+        ensures net { OnOk result (net_view self.new.net ≡ net_after (net_view self.old.net) (edit_view edit)) }
     {
         match edit {
             Edit::Guard(number, edited) => {
-                let Held {
-                    mut net,
-                    marking,
-                    mut index,
-                    clock,
-                } = self;
-                net.transitions[number as usize] = edited;
-                index.set_guard(&net, &marking, number)?;
-                Ok(Held {
-                    net,
-                    marking,
-                    index,
-                    clock,
-                })
+                self.net.transitions[number as usize] = edited;
+                self.index.set_guard(&self.net, &self.marking, number)?;
+                Ok(())
             }
-            Edit::Initial(_place, _tokens) => Ok(self),
+            Edit::Initial(_place, _tokens) => Ok(()),
         }
     }
 }

@@ -1,5 +1,5 @@
 //! Thousands of tokens, which an index follows one at a time.
-ghost use Rattle.std.specs.Prelude.{◌≡◌, ◌<◌, ◌≤◌, IfOk};
+ghost use Rattle.std.specs.Prelude.{◌≡◌, ◌<◌, ◌≤◌, OnOk};
 ghost use Rattle.cpn_core.specs.Nets.{net_view};
 ghost use Rattle.cpn_test_index.specs.Held.{IsHeld};
 
@@ -17,31 +17,29 @@ use std::test::Fail;
 const MANY: u32 = 2000;
 
 /// Puts the numbers from 0 to 1,999 on place 0, each 741 after the one before, round and round, and the even ones on place 1 too.
-fn filled<L: Ledger>(alloc: Global, start: Held, steps: &mut Steps<L>) -> Result<Held, Memory>
-    requires held { IsHeld (net_view start.net) start.marking start.index start.clock }
-    ensures held { IfOk result (λ held. IsHeld (net_view held.net) held.marking held.index held.clock) }
+fn fill<L: Ledger>(alloc: Global, held: &mut Held, steps: &mut Steps<L>) -> Result<(), Memory>
+    requires held { IsHeld (net_view held.old.net) held.old.marking held.old.index held.old.clock }
+    ensures held { OnOk result (IsHeld (net_view held.new.net) held.new.marking held.new.index held.new.clock) }
 {
-    let mut held = start;
     for i in 0..MANY {
         let number = i64::from(i * 741 % MANY);
-        held = held.put(alloc, 0, number, 0, steps)?;
+        held.put(alloc, 0, number, 0, steps)?;
         if number % 2 == 0 {
-            held = held.put(alloc, 1, number, 0, steps)?;
+            held.put(alloc, 1, number, 0, steps)?;
         }
     }
-    Ok(held)
+    Ok(())
 }
 
 /// Takes the numbers below 1,000 from place 0, the greatest first.
-fn taken<L: Ledger>(alloc: Global, start: Held, steps: &mut Steps<L>) -> Result<Held, Memory>
-    requires held { IsHeld (net_view start.net) start.marking start.index start.clock }
-    ensures held { IfOk result (λ held. IsHeld (net_view held.net) held.marking held.index held.clock) }
+fn take<L: Ledger>(alloc: Global, held: &mut Held, steps: &mut Steps<L>) -> Result<(), Memory>
+    requires held { IsHeld (net_view held.old.net) held.old.marking held.old.index held.old.clock }
+    ensures held { OnOk result (IsHeld (net_view held.new.net) held.new.marking held.new.index held.new.clock) }
 {
-    let mut held = start;
     for i in 0..MANY / 2 {
-        held = held.take(alloc, 0, i64::from(MANY / 2 - 1 - i), 0, steps)?;
+        held.take(alloc, 0, i64::from(MANY / 2 - 1 - i), 0, steps)?;
     }
-    Ok(held)
+    Ok(())
 }
 
 /// Whether it is the element of the transition whose variable has the number.
@@ -73,32 +71,35 @@ fn are_ready(held: &Held, first: u32) -> bool
 }
 
 /// Whether thousands of tokens are followed. One of the net is taken first.
-fn are_followed<L: Ledger>(alloc: Global, start: Held, blank: Blank) -> Result<bool, Memory>
-    requires held { IsHeld (net_view start.net) start.marking start.index start.clock }
+fn are_followed<L: Ledger>(alloc: Global, held: &mut Held, blank: Blank) -> Result<bool, Memory>
+    requires held { IsHeld (net_view held.old.net) held.old.marking held.old.index held.old.clock }
     requires name { blank.name ≡ L.name }
     requires parts { blank.parts ≡ L.parts }
     requires some { 0 < blank.parts }
 {
     let mut steps = Steps::<L>::none(blank);
-    let empty = start.take(alloc, 0, 1, 0, &mut steps)?;
-    let full = filled(alloc, empty, &mut steps)?;
-    let all = are_ready(&full, 0);
-    let left = taken(alloc, full, &mut steps)?;
-    Ok(all && are_ready(&left, 1000))
+    held.take(alloc, 0, 1, 0, &mut steps)?;
+    fill(alloc, held, &mut steps)?;
+    let all = are_ready(held, 0);
+    take(alloc, held, &mut steps)?;
+    Ok(all && are_ready(held, 1000))
 }
 
 /// The same, with steps on a ledger of its own.
-fn have_followed(alloc: Global, start: Held) -> Result<bool, Memory>
-    requires held { IsHeld (net_view start.net) start.marking start.index start.clock }
+fn have_followed(alloc: Global, held: &mut Held) -> Result<bool, Memory>
+    requires held { IsHeld (net_view held.old.net) held.old.marking held.old.index held.old.clock }
 {
-    are_followed::<Brand>(alloc, start, Blank::new(1))
+    are_followed::<Brand>(alloc, held, Blank::new(1))
 }
 
 #[test]
 fn thousands_are_followed(rt: HostRuntime) -> Result<(), Fail> {
     let alloc = rt.alloc();
     match held_at_start(alloc, TWO_TRANSITIONS)? {
-        Some(start) => assert!(rt; have_followed(alloc, start)?, "thousands"),
+        Some(start) => {
+            let mut held = start;
+            assert!(rt; have_followed(alloc, &mut held)?, "thousands");
+        }
         None => assert!(rt; false, "no net"),
     }
     Ok(())

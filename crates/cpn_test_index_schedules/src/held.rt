@@ -1,5 +1,5 @@
 //! An index that follows the marking of a run.
-ghost use Rattle.std.specs.Prelude.{◌≡◌, IfOk};
+ghost use Rattle.std.specs.Prelude.{◌≡◌, IfOk, OnOk};
 ghost use Rattle.cpn_definitions.specs.Sound.{IsSound, IsMarking};
 ghost use Rattle.cpn_core.specs.Nets.{net_view};
 ghost use Rattle.cpn_test_index_schedules.specs.Held.{IsHeld};
@@ -46,36 +46,26 @@ impl Held {
         })
     }
 
-    /// The index of another marking, which is told what changed, at a clock that is not before.
+    /// Follows to another marking, of which the index is told what changed, at a clock that is not before.
     pub fn follow<L: Ledger>(
-        self,
+        &mut self,
         alloc: Global,
         marking: &Marking,
         clock: u64,
         steps: &mut Steps<L>,
-    ) -> Result<Held, Memory>
-        requires held { IsHeld (net_view self.net.value) self.marking self.index self.clock }
-        requires marking { IsMarking (net_view self.net.value).places marking.now }
-        ensures held { IfOk result (λ held. IsHeld (net_view held.net.value) held.marking held.index held.clock) }
-        ensures net { IfOk result (λ held. net_view held.net.value ≡ net_view self.net.value) }
+    ) -> Result<(), Memory>
+        requires held { IsHeld (net_view self.old.net.value) self.old.marking self.old.index self.old.clock }
+        requires marking { IsMarking (net_view self.old.net.value).places marking.now }
+        ensures held { OnOk result (IsHeld (net_view self.new.net.value) self.new.marking self.new.index self.new.clock) }
+        ensures net { OnOk result (net_view self.new.net.value ≡ net_view self.old.net.value) }
     {
-        let Held {
-            net,
-            marking: before,
-            mut index,
-            clock: earlier,
-        } = self;
         let marking = marking.copy()?;
-        let changes = changes_between(alloc, &before, &marking)?;
-        index.update(&net, &marking, &changes, steps)?;
-        let clock = clock.max(earlier);
-        index.advance_to(clock);
-        Ok(Held {
-            net,
-            marking,
-            index,
-            clock,
-        })
+        let changes = changes_between(alloc, &self.marking, &marking)?;
+        self.index.update(&self.net, &marking, &changes, steps)?;
+        self.marking = marking;
+        self.clock = self.clock.max(clock);
+        self.index.advance_to(self.clock);
+        Ok(())
     }
 
     /// Whether the index keeps just what a search of the whole net finds anew.

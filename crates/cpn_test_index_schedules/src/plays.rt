@@ -50,9 +50,9 @@ fn play<L: Ledger>(
         out: String::new(alloc),
         tickets: Vec::new(alloc),
     };
-    let book = Book::start(alloc, setup)?;
-    let held = table.begin(&book)?;
-    table.lines(book, held, schedule, &mut steps)?;
+    let mut book = Book::start(alloc, setup)?;
+    let mut held = table.begin(&book)?;
+    table.lines(&mut book, &mut held, schedule, &mut steps)?;
     Ok(table.out)
 }
 
@@ -73,57 +73,36 @@ impl Table {
     /// Plays the lines of the schedule, one after another.
     fn lines<L: Ledger>(
         &mut self,
-        book: Book,
-        held: Held,
+        book: &mut Book,
+        held: &mut Held,
         schedule: &String,
         steps: &mut Steps<L>,
     ) -> Result<(), Memory>
-        requires kept { IsBook book }
-        requires held { IsHeld (net_view held.net.value) held.marking held.index held.clock }
-        requires net { net_view held.net.value ≡ (setup_in book).net }
+        requires kept { IsBook book.old }
+        requires held { IsHeld (net_view held.old.net.value) held.old.marking held.old.index held.old.clock }
+        requires net { net_view held.old.net.value ≡ (setup_in book.old).net }
     {
-        let mut book = book;
-        let mut held = held;
         for line in schedule.as_str().lines() {
-            held = self.line(&mut book, held, line, steps)?;
+            call(book, &mut self.tickets, line)?;
+            follow(self.alloc, book, held, steps)?;
+            push_row(&mut self.out, self.alloc, line, held)?;
         }
         Ok(())
     }
-
-    /// What is held after the call of a line, with its row.
-    fn line<L: Ledger>(
-        &mut self,
-        book: &mut Book,
-        held: Held,
-        line: &str,
-        steps: &mut Steps<L>,
-    ) -> Result<Held, Memory>
-        requires kept { IsBook book.old }
-        requires held { IsHeld (net_view held.net.value) held.marking held.index held.clock }
-        requires net { net_view held.net.value ≡ (setup_in book.old).net }
-        ensures kept { OnOk result (IsBook book.new) }
-        ensures held { IfOk result (λ held. IsHeld (net_view held.net.value) held.marking held.index held.clock) }
-        ensures net { IfOk result (λ held. net_view held.net.value ≡ (setup_in book.new).net) }
-    {
-        call(book, &mut self.tickets, line)?;
-        let held = followed(self.alloc, book, held, steps)?;
-        push_row(&mut self.out, self.alloc, line, &held)?;
-        Ok(held)
-    }
 }
 
-/// What is held once the index follows the run to where it stands.
-fn followed<L: Ledger>(
+/// Follows the run to where it stands.
+fn follow<L: Ledger>(
     alloc: Global,
     book: &Book,
-    held: Held,
+    held: &mut Held,
     steps: &mut Steps<L>,
-) -> Result<Held, Memory>
+) -> Result<(), Memory>
     requires kept { IsBook book.now }
-    requires held { IsHeld (net_view held.net.value) held.marking held.index held.clock }
-    requires net { net_view held.net.value ≡ (setup_in book.now).net }
-    ensures held { IfOk result (λ held. IsHeld (net_view held.net.value) held.marking held.index held.clock) }
-    ensures net { IfOk result (λ held. net_view held.net.value ≡ (setup_in book.now).net) }
+    requires held { IsHeld (net_view held.old.net.value) held.old.marking held.old.index held.old.clock }
+    requires net { net_view held.old.net.value ≡ (setup_in book.now).net }
+    ensures held { OnOk result (IsHeld (net_view held.new.net.value) held.new.marking held.new.index held.new.clock) }
+    ensures net { OnOk result (net_view held.new.net.value ≡ (setup_in book.now).net) }
 {
     if book.is_spent() {
         return Err(Memory);

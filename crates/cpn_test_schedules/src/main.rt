@@ -5,6 +5,10 @@
 //! the answers are the book's.
 #![tactic(auto)]
 
+ghost use Rattle.std.specs.Prelude.{IfOk};
+ghost use Rattle.cpn_runs.specs.FinishedViews.{setup_view};
+ghost use Rattle.cpn_test_schedules.specs.Shown.{IsShownSetup};
+
 mod answers;
 mod calls;
 mod documents;
@@ -21,6 +25,7 @@ use crate::plays::{play, tickets_of};
 use crate::refusals::Refusal;
 use crate::words::{Options, options_from};
 use cpn_io::{Stdout, write_all};
+use cpn_runs::Setup;
 use std::env;
 use std::process::ExitCode;
 use std::rt::{Env, Files};
@@ -47,16 +52,25 @@ fn printed(rt: &(impl AllocGlobal + Print), text: &str, status: ExitCode) -> Exi
 fn table_of(rt: &(impl Env + Files + AllocGlobal)) -> Result<String, Refusal> {
     let words = command_words(rt)?;
     let options = options_from(rt.alloc(), &words)?;
+    let schedule = text_from(rt, options.schedule)?;
     let brought = match options.beside {
-        Some(beside) => tickets_of(
-            rt.alloc(),
-            options.setup(rt.alloc(), model_from(rt, beside)?)?,
-        )?,
+        Some(beside) => tickets_of(rt.alloc(), setup_from(rt, &options, beside)?)?,
         None => Hand::new(rt.alloc()),
     };
-    let setup = options.setup(rt.alloc(), model_from(rt, options.net)?)?;
-    let schedule = text_from(rt, options.schedule)?;
+    let setup = setup_from(rt, &options, options.net)?;
     play(rt.alloc(), setup, brought, &schedule)
+}
+
+/// The setup of a run of the net of a file under the options.
+fn setup_from(
+    rt: &(impl Files + AllocGlobal),
+    options: &Options<'_>,
+    path: &str,
+) -> Result<Setup, Refusal>
+    ensures shown { IfOk result (λ setup. IsShownSetup (setup_view setup)) }
+{
+    let model = model_from(rt, path)?;
+    Ok(options.setup(rt.alloc(), model)?)
 }
 
 /// The words behind the program's name.

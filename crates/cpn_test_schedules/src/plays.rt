@@ -1,7 +1,7 @@
 //! How a schedule is played.
 
-ghost use Rattle.std.specs.Prelude.{◌<◌, IfOk, IfSome};
-ghost use Rattle.cpn_book.specs.Books.{setup_in};
+ghost use Rattle.std.specs.Prelude.{◌<◌, IfOk, IfSome, OnOk};
+ghost use Rattle.cpn_book.specs.Books.{setup_in, IsBook};
 ghost use Rattle.cpn_runs.specs.FinishedViews.{setup_view};
 ghost use Rattle.cpn_runs.specs.Playable.{IsPlayable};
 ghost use Rattle.cpn_test_schedules.specs.Shown.{IsShown, IsShownSetup};
@@ -48,15 +48,22 @@ pub fn play(alloc: Global, setup: Setup, brought: Hand, schedule: &str) -> Resul
 pub fn tickets_of(alloc: Global, setup: Setup) -> Result<Hand, Memory>
     requires playable { IsPlayable (setup_view setup) }
 {
-    let seats = setup.limits.seats;
     let mut book = Book::start(alloc, setup)?;
     let mut found = Hand::new(alloc);
-    for seat in 0..seats {
+    make_claims(&mut book, &mut found)?;
+    Ok(found)
+}
+
+/// A claim of each seat. The tickets are then at hand.
+fn make_claims(book: &mut Book, found: &mut Hand) -> Result<(), Memory>
+    requires kept { IsBook book.old }
+{
+    for seat in 0..book.setup().limits.seats {
         if let Claimed::Ticket(ticket) = book.claim(seat)? {
             found.put_ticket(ticket)?;
         }
     }
-    Ok(found)
+    Ok(())
 }
 
 impl Table {
@@ -91,35 +98,60 @@ impl Table {
         requires shown { IsShown book }
         ensures shown { IfOk result (λ run. IfSome run (λ book. IsShown book)) }
     {
-        let Some(call) = call_in(line) else {
-            return Err(refused(place, "it is no call"));
-        };
-        match call {
-            Call::Claim { seat } => {
-                if book.setup().limits.seats <= seat {
-                    return Err(refused(place, "the run has no such seat"));
-                }
-                Ok(Some(self.claim(book, line, seat)?))
-            }
-            Call::Complete { seat, run, number } => {
-                let Some(done) = self.hand(run).take_evaluation(number)? else {
-                    return Err(refused(place, "no evaluation of that claim is at hand"));
-                };
-                Ok(Some(self.complete(book, line, seat, run, done)?))
-            }
-            Call::GiveBack { seat, run, number } => {
-                let Some(ticket) = self.hand(run).take_ticket(number) else {
-                    return Err(refused(place, "no ticket of that claim is at hand"));
-                };
-                Ok(Some(self.give_back(book, line, seat, run, ticket)?))
-            }
-            Call::Advance => Ok(Some(self.advance(book, line)?)),
-            Call::Search { time } => Ok(Some(self.search(book, line, time)?)),
-            Call::Alone => {
+        match call_in(line) {
+            Some(Call::Alone) => {
                 self.alone(book, line)?;
                 Ok(None)
             }
-            Call::Finish => Ok(self.finish(book, line)?),
+            Some(Call::Finish) => Ok(self.finish(book, line)?),
+            call => self.called(book, place, line, call),
+        }
+    }
+
+    /// The book after a call that leaves the run going on.
+    fn called(
+        &mut self,
+        book: Book,
+        place: u64,
+        line: &str,
+        call: Option<Call>,
+    ) -> Result<Option<Book>, Refusal>
+        requires shown { IsShown book }
+        ensures shown { IfOk result (λ run. IfSome run (λ book. IsShown book)) }
+    {
+        let mut book = book;
+        match self.call(&mut book, place, line, call) {
+            Ok(()) => Ok(Some(book)),
+            Err(refusal) => Err(refusal),
+        }
+    }
+
+    /// Makes a call of the line at a place that leaves the run going on.
+    fn call(
+        &mut self,
+        book: &mut Book,
+        place: u64,
+        line: &str,
+        call: Option<Call>,
+    ) -> Result<(), Refusal>
+        requires shown { IsShown book.old }
+        ensures shown { OnOk result (IsShown book.new) }
+    {
+        match call {
+            Some(Call::Claim { seat }) => self.claim_by(book, place, line, seat),
+            Some(Call::Complete { seat, run, number }) => {
+                match self.hand(run).take_evaluation(number)? {
+                    Some(done) => Ok(self.complete(book, line, seat, run, done)?),
+                    None => Err(refused(place, "no evaluation of that claim is at hand")),
+                }
+            }
+            Some(Call::GiveBack { seat, run, number }) => match self.hand(run).take_ticket(number) {
+                Some(ticket) => Ok(self.give_back(book, line, seat, run, ticket)?),
+                None => Err(refused(place, "no ticket of that claim is at hand")),
+            },
+            Some(Call::Advance) => Ok(self.advance(book, line)?),
+            Some(Call::Search { time }) => Ok(self.search(book, line, time)?),
+            _ => Err(refused(place, "it is no call")),
         }
     }
 
@@ -131,89 +163,100 @@ impl Table {
         }
     }
 
-    /// A claim of a seat. Its ticket is then at hand.
-    fn claim(&mut self, book: Book, line: &str, seat: u32) -> Result<Book, Memory>
-        requires shown { IsShown book }
-        requires known { seat < (setup_in book).limits.seats }
-        ensures shown { IfOk result (λ book. IsShown book) }
+    /// A claim of a seat, where the run has it.
+    fn claim_by(
+        &mut self,
+        book: &mut Book,
+        place: u64,
+        line: &str,
+        seat: u32,
+    ) -> Result<(), Refusal>
+        requires shown { IsShown book.old }
+        ensures shown { OnOk result (IsShown book.new) }
     {
-        let mut book = book;
+        if book.setup().limits.seats <= seat {
+            return Err(refused(place, "the run has no such seat"));
+        }
+        self.claim(book, line, seat)?;
+        Ok(())
+    }
+
+    /// A claim of a seat. Its ticket is then at hand.
+    fn claim(&mut self, book: &mut Book, line: &str, seat: u32) -> Result<(), Memory>
+        requires shown { IsShown book.old }
+        requires known { seat < (setup_in book.old).limits.seats }
+        ensures shown { OnOk result (IsShown book.new) }
+    {
         let claimed = book.claim(seat)?;
-        let answer = claimed_text(self.alloc, net_of(&book), &claimed)?;
-        push_row(&mut self.out, line, answer.as_str(), &book)?;
+        let answer = claimed_text(self.alloc, net_of(book), &claimed)?;
+        push_row(&mut self.out, line, answer.as_str(), book)?;
         if let Claimed::Ticket(ticket) = claimed {
             self.own.put_ticket(ticket)?;
         }
-        Ok(book)
+        Ok(())
     }
 
     /// A completion by a seat. The evaluation is at hand again, where it comes back.
     fn complete(
         &mut self,
-        book: Book,
+        book: &mut Book,
         line: &str,
         seat: u32,
         run: Run,
         done: Evaluated,
-    ) -> Result<Book, Memory>
-        requires shown { IsShown book }
-        ensures shown { IfOk result (λ book. IsShown book) }
+    ) -> Result<(), Memory>
+        requires shown { IsShown book.old }
+        ensures shown { OnOk result (IsShown book.new) }
     {
-        let mut book = book;
         let completed = book.complete(seat, done)?;
-        let answer = completed_text(self.alloc, net_of(&book), &completed)?;
-        push_row(&mut self.out, line, answer.as_str(), &book)?;
+        let answer = completed_text(self.alloc, net_of(book), &completed)?;
+        push_row(&mut self.out, line, answer.as_str(), book)?;
         if let Some(back) = evaluation_of(completed) {
             self.hand(run).put_evaluation(back)?;
         }
-        Ok(book)
+        Ok(())
     }
 
     /// A ticket that a seat gives back. It is at hand again, where it comes back.
     fn give_back(
         &mut self,
-        book: Book,
+        book: &mut Book,
         line: &str,
         seat: u32,
         run: Run,
         ticket: Ticket,
-    ) -> Result<Book, Memory>
-        requires shown { IsShown book }
-        ensures shown { IfOk result (λ book. IsShown book) }
+    ) -> Result<(), Memory>
+        requires shown { IsShown book.old }
+        ensures shown { OnOk result (IsShown book.new) }
     {
-        let mut book = book;
         let given_back = book.give_back(seat, ticket)?;
-        let answer = given_back_text(self.alloc, net_of(&book), &given_back)?;
-        push_row(&mut self.out, line, answer.as_str(), &book)?;
+        let answer = given_back_text(self.alloc, net_of(book), &given_back)?;
+        push_row(&mut self.out, line, answer.as_str(), book)?;
         if let Some(back) = ticket_of(given_back) {
             self.hand(run).put_ticket(back)?;
         }
-        Ok(book)
+        Ok(())
     }
 
     /// A move of the clock.
-    fn advance(&mut self, book: Book, line: &str) -> Result<Book, Memory>
-        requires shown { IsShown book }
-        ensures shown { IfOk result (λ book. IsShown book) }
+    fn advance(&mut self, book: &mut Book, line: &str) -> Result<(), Memory>
+        requires shown { IsShown book.old }
+        ensures shown { OnOk result (IsShown book.new) }
     {
-        let mut book = book;
         let advanced = book.advance();
         let answer = advanced_text(self.alloc, advanced)?;
-        push_row(&mut self.out, line, answer.as_str(), &book)?;
-        Ok(book)
+        push_row(&mut self.out, line, answer.as_str(), book)
     }
 
     /// A search of the unclaimed marking.
-    fn search(&mut self, book: Book, line: &str, time: u64) -> Result<Book, Memory>
-        requires shown { IsShown book }
-        ensures shown { IfOk result (λ book. IsShown book) }
+    fn search(&mut self, book: &Book, line: &str, time: u64) -> Result<(), Memory>
+        requires shown { IsShown book.now }
     {
         if book.is_spent() {
             return Err(Memory);
         }
-        let answer = searched_text(self.alloc, net_of(&book), book.unclaimed(), time)?;
-        push_row(&mut self.out, line, answer.as_str(), &book)?;
-        Ok(book)
+        let answer = searched_text(self.alloc, net_of(book), book.unclaimed(), time)?;
+        push_row(&mut self.out, line, answer.as_str(), book)
     }
 
     /// The run to its end, by one seat.

@@ -9,31 +9,31 @@ use Rattle.cpn_test_index.specs.Editable.{IsAccepted, IsEditable}
 use Rattle.cpn_test_index.proofs.AcceptedEdits.{accepted_there, accepted_alike, accepted_editable}
 use Rattle.cpn_test_index.proofs.edited.Edited.set_guard.Goals as goal
 
-pub after_edit-requires-clause-there : goal.after_edit-requires-clause-there
-after_edit-requires-clause-there c =
-    let ds = decls_view c.args.self.decls in
-    let n = net_view c.args.self.held.net in
-    let ms = monitors_view c.args.self.monitors in
+pub edit-requires-clause-there : goal.edit-requires-clause-there
+edit-requires-clause-there c =
+    let ds = decls_view c.args.self.now.decls in
+    let n = net_view c.args.self.now.held.net in
+    let ms = monitors_view c.args.self.now.monitors in
     accepted_there ds n ms (edit_view c.in-Some.edit) (subst (λ found. IfSome found (λ edit. IsAccepted ds n ms (edit_view edit))) c.in-Some.is c.in_ok-found.ensures.accepted)
 
-pub after_edit-requires-clause-alike : goal.after_edit-requires-clause-alike
-after_edit-requires-clause-alike c =
-    let ds = decls_view c.args.self.decls in
-    let n = net_view c.args.self.held.net in
-    let ms = monitors_view c.args.self.monitors in
+pub edit-requires-clause-alike : goal.edit-requires-clause-alike
+edit-requires-clause-alike c =
+    let ds = decls_view c.args.self.now.decls in
+    let n = net_view c.args.self.now.held.net in
+    let ms = monitors_view c.args.self.now.monitors in
     accepted_alike ds n ms (edit_view c.in-Some.edit) (subst (λ found. IfSome found (λ edit. IsAccepted ds n ms (edit_view edit))) c.in-Some.is c.in_ok-found.ensures.accepted)
 
-pub after_edit-requires-clause-sound : goal.after_edit-requires-clause-sound
-after_edit-requires-clause-sound c =
-    let ds = decls_view c.args.self.decls in
-    let n = net_view c.args.self.held.net in
-    let ms = monitors_view c.args.self.monitors in
+pub edit-requires-clause-sound : goal.edit-requires-clause-sound
+edit-requires-clause-sound c =
+    let ds = decls_view c.args.self.now.decls in
+    let n = net_view c.args.self.now.held.net in
+    let ms = monitors_view c.args.self.now.monitors in
     (accepted_editable ds n ms (edit_view c.in-Some.edit) c.requires.editable (subst (λ found. IfSome found (λ edit. IsAccepted ds n ms (edit_view edit))) c.in-Some.is c.in_ok-found.ensures.accepted)).ready.editable.sound
 
-pub returns-in_ok-held-in-Some-clause-editable : goal.returns-in_ok-held-in-Some-clause-editable
-returns-in_ok-held-in-Some-clause-editable c =
-    let ds = decls_view c.args.self.decls in
-    let n = net_view c.args.self.held.net in
-    let ms = monitors_view c.args.self.monitors in
-    subst (λ k. IsEditable ds k ms) (sym c.in_ok-held-in-Some.ensures.net)
+pub returns-in_ok-edit-in-Some-clause-editable : goal.returns-in_ok-edit-in-Some-clause-editable
+returns-in_ok-edit-in-Some-clause-editable c =
+    let ds = decls_view c.args.self.now.decls in
+    let n = net_view c.args.self.now.held.net in
+    let ms = monitors_view c.args.self.now.monitors in
+    subst (λ k. IsEditable ds k ms) (sym c.in_ok-edit-in-Some.ensures.net)
     (accepted_editable ds n ms (edit_view c.in-Some.edit) c.requires.editable (subst (λ found. IfSome found (λ edit. IsAccepted ds n ms (edit_view edit))) c.in-Some.is c.in_ok-found.ensures.accepted))

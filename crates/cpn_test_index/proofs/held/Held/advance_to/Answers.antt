@@ -6,6 +6,6 @@ pub returns-clause-held : goal.returns-clause-held
 returns-clause-held c = record {
   sound = c.requires.held.sound;
   marking = c.requires.held.marking;
-  enabled = c.advance_to.ensures.index (net_view c.args.self.net) c.args.self.marking c.requires.held.enabled;
+  enabled = c.advance_to.ensures.index (net_view c.args.self.now.net) c.args.self.now.marking c.requires.held.enabled;
   at = c.advance_to.ensures.moved;
 }

@@ -7,19 +7,19 @@ use Rattle.cpn_test_index.proofs.held.Held.take.Goals as goal
 
 pub update-requires-clause-marking : goal.update-requires-clause-marking
 update-requires-clause-marking g c =
-    subst (IsMarking (net_view c.args.self.net).places) (sym c.take.ensures.taken) (marking_taken (net_view c.args.self.net).places c.args.place _ c.args.latest c.args.self.marking c.requires.held.marking)
+    subst (IsMarking (net_view c.args.self.now.net).places) (sym c.take.ensures.taken) (marking_taken (net_view c.args.self.now.net).places c.args.place _ c.args.latest c.args.self.now.marking c.requires.held.marking)
 
 pub update-requires-clause-follows : goal.update-requires-clause-follows
 update-requires-clause-follows g c = record {
-  old = c.args.self.marking;
+  old = c.args.self.now.marking;
   was = c.requires.held.enabled;
-  stay = others_stay_taken c.args.place _ c.args.latest c.args.self.marking c.take.new.self _ c.in_ok-changes.ensures.told c.take.ensures.taken;
+  stay = others_stay_taken c.args.place _ c.args.latest c.args.self.now.marking c.take.new.self _ c.in_ok-changes.ensures.told c.take.ensures.taken;
 }
 
 pub returns-clause-held : goal.returns-clause-held
 returns-clause-held g c = record {
   sound = c.requires.held.sound;
-  marking = subst (IsMarking (net_view c.args.self.net).places) (sym c.take.ensures.taken) (marking_taken (net_view c.args.self.net).places c.args.place _ c.args.latest c.args.self.marking c.requires.held.marking);
+  marking = subst (IsMarking (net_view c.args.self.now.net).places) (sym c.take.ensures.taken) (marking_taken (net_view c.args.self.now.net).places c.args.place _ c.args.latest c.args.self.now.marking c.requires.held.marking);
   enabled = c.in_ok-update.ensures.updated;
   at = c.in_ok-update.ensures.clock ∙ c.requires.held.at;
 }

@@ -9,21 +9,21 @@ use Rattle.cpn_test_index_schedules.proofs.held.Held.follow.Goals as goal
 
 pub changes_between-requires-clause-few : goal.changes_between-requires-clause-few
 changes_between-requires-clause-few g c =
-    let same = marking_length (net_view c.args.self.net.value).places c.args.self.marking c.requires.held.marking in
+    let same = marking_length (net_view c.args.self.now.net.value).places c.args.self.now.marking c.requires.held.marking in
     let few = c.requires.held.sound.few_places in
     omega (arith, same, few)
 
 pub changes_between-requires-clause-as_many : goal.changes_between-requires-clause-as_many
 changes_between-requires-clause-as_many g c =
-    let places = (net_view c.args.self.net.value).places in
-    ap (λ (m : Marking). length m) c.in_ok-marking.ensures.same ∙ marking_length places c.args.marking.now c.requires.marking ∙ sym (marking_length places c.args.self.marking c.requires.held.marking)
+    let places = (net_view c.args.self.now.net.value).places in
+    ap (λ (m : Marking). length m) c.in_ok-marking.ensures.same ∙ marking_length places c.args.marking.now c.requires.marking ∙ sym (marking_length places c.args.self.now.marking c.requires.held.marking)
 
 pub returns-clause-held : goal.returns-clause-held
 returns-clause-held g c = record {
   sound = c.requires.held.sound;
-  marking = subst (IsMarking (net_view c.args.self.net.value).places) (sym c.in_ok-marking.ensures.same) c.requires.marking;
+  marking = subst (IsMarking (net_view c.args.self.now.net.value).places) (sym c.in_ok-marking.ensures.same) c.requires.marking;
   enabled =
-      c.advance_to.ensures.index (net_view c.args.self.net.value) c.in_ok-marking.marking
+      c.advance_to.ensures.index (net_view c.args.self.now.net.value) c.in_ok-marking.marking
       (subst (λ n. IsIndexOf (net_view n) c.in_ok-marking.marking c.update.new.self) c.deref.ensures c.in_ok-update.ensures.updated);
   at = c.advance_to.ensures.moved;
 }

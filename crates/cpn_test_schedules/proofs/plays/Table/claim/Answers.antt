@@ -9,6 +9,6 @@ use Rattle.cpn_test_schedules.proofs.plays.Table.claim.Goals as goal
 
 pub claimed_text-requires-clause-element : goal.claimed_text-requires-clause-element
 claimed_text-requires-clause-element c =
-    let book = c.args.book in
-    let net : net_view c.net_of.result.now ≡ (setup_in c.args.book).net = c.net_of.ensures.net ∙ ap (λ (s : PlainSetup). s.net) c.claim.ensures.setup in
+    let book = c.args.book.now in
+    let net : net_view c.net_of.result.now ≡ (setup_in c.args.book.now).net = c.net_of.ensures.net ∙ ap (λ (s : PlainSetup). s.net) c.claim.ensures.setup in
     subst (λ n. TellsElement n c.in_ok-claimed.claimed) (sym net) (ticket_shown book c.args.seat c.in_ok-claimed.claimed c.requires.shown c.in_ok-claimed.ensures.answer)

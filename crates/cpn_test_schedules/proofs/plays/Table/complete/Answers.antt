@@ -9,6 +9,6 @@ use Rattle.cpn_test_schedules.proofs.plays.Table.complete.Goals as goal
 
 pub completed_text-requires-clause-element : goal.completed_text-requires-clause-element
 completed_text-requires-clause-element c =
-    let book = c.args.book in
-    let net : net_view c.net_of.result.now ≡ (setup_in c.args.book).net = c.net_of.ensures.net ∙ ap (λ (s : PlainSetup). s.net) c.complete.ensures.setup in
+    let book = c.args.book.now in
+    let net : net_view c.net_of.result.now ≡ (setup_in c.args.book.now).net = c.net_of.ensures.net ∙ ap (λ (s : PlainSetup). s.net) c.complete.ensures.setup in
     subst (λ n. KeepsElement n c.in_ok-completed.completed) (sym net) (kept_shown book c.complete.new.self c.args.seat c.args.done c.in_ok-completed.completed c.requires.shown c.in_ok-completed.ensures.answer)

@@ -9,6 +9,6 @@ use Rattle.cpn_test_schedules.proofs.plays.Table.give_back.Goals as goal
 
 pub given_back_text-requires-clause-element : goal.given_back_text-requires-clause-element
 given_back_text-requires-clause-element c =
-    let book = c.args.book in
-    let net : net_view c.net_of.result.now ≡ (setup_in c.args.book).net = c.net_of.ensures.net ∙ ap (λ (s : PlainSetup). s.net) c.give_back.ensures.setup in
+    let book = c.args.book.now in
+    let net : net_view c.net_of.result.now ≡ (setup_in c.args.book.now).net = c.net_of.ensures.net ∙ ap (λ (s : PlainSetup). s.net) c.give_back.ensures.setup in
     subst (λ n. TicketKeepsElement n c.in_ok-given_back.given_back) (sym net) (given_back_shown book c.give_back.new.self c.args.seat c.args.ticket c.in_ok-given_back.given_back c.requires.shown c.in_ok-given_back.ensures.answer)

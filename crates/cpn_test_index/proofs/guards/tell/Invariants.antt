@@ -4,7 +4,7 @@ use Rattle.cpn_declared.specs.DeclsViews.{decls_view}
 use Rattle.cpn_monitor.specs.Views.{monitors_view}
 use Rattle.cpn_test_index.specs.Editable.{IsEditable}
 use Rattle.cpn_test_index.specs.Held.{IsHeld}
-use Rattle.cpn_test_index.proofs.guards.told.Given as goal
+use Rattle.cpn_test_index.proofs.guards.tell.Given as goal
 
 abbrev pub invariant-loop-step : goal.invariant-loop-step
 invariant-loop-step g l = record {
