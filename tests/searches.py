@@ -41,7 +41,7 @@ DECLARATIONS = [
     "var k4 : LIST;",
     "var k5 : REPLY;",
 ]
-SCHEDULE = "search 3\n"
+CALL = "search 3"
 ANSWER = re.compile(r"(\d+ tries)((?: \{.*\}@\d+)*); from then((?: @\d+)*)")
 
 
@@ -78,7 +78,7 @@ def arc_of(text):
 def wrong_answers(answers, table):
     """Returns what is wrong with the answers of a row, by the table that the program printed: nothing where it is right."""
     cells = table.splitlines()[-1].split(" | ") if table else [""]
-    found = ANSWER.fullmatch(cells[1]) if cells[0] == SCHEDULE.strip() else None
+    found = ANSWER.fullmatch(cells[1]) if cells[0] == CALL else None
     if not found:
         return [f"no answer: {table[-200:]!r}"]
     tries, bindings, times = found[1], found[2].strip(), "then" + found[3]

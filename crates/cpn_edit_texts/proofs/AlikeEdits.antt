@@ -10,8 +10,8 @@ use Rattle.cpn_definitions.proofs.RisingLists.{each_implied}
 use Rattle.cpn_document.specs.Phases.{RawEdit, guard, initial, RawPhase, at_edit}
 use Rattle.cpn_document.specs.declared.pointers.EditPart.TheVariants as of_edit
 use Rattle.cpn_document.specs.declared.pointers.Pointer.{Pointer}
-use Rattle.cpn_module_nets.specs.Nets.{net_from}
-use Rattle.cpn_module_nets.specs.Transitions.{IsCompleted}
+use Rattle.cpn_accepted.specs.Completed.{IsCompleted}
+use Rattle.cpn_accepted.specs.Nets.{net_from}
 use Rattle.cpn_module_trees.specs.Parsing.{IsGuard}
 use Rattle.cpn_monitor.specs.Monitors.{PlainMonitor}
 use Rattle.cpn_monitor_texts.specs.Named.{transition_named, place_named, number_among}

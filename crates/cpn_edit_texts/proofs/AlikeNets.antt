@@ -8,7 +8,7 @@ use Rattle.cpn_definitions.specs.Net.{PlainArc, PlainTransition, Coloured, Plain
 use Rattle.cpn_definitions.specs.Occurrence.{binds}
 use Rattle.cpn_definitions.specs.Sound.{IsSoundArc, IsSoundInput, IsSoundTransition}
 use Rattle.cpn_definitions.proofs.RisingLists.{each_implied}
-use Rattle.cpn_module_nets.specs.Nets.{net_from}
+use Rattle.cpn_accepted.specs.Nets.{net_from}
 use Rattle.cpn_typing.specs.DeclaresFor.{DeclaresFor}
 use Rattle.cpn_typing.specs.Names.{Declared}
 

@@ -19,8 +19,8 @@ use Rattle.cpn_document.specs.Phases.{RawEdit, guard, initial}
 use Rattle.cpn_document.specs.declared.pointers.Pointer.{Pointer}
 use Rattle.cpn_flat.proofs.NamedFlatNets.{all_named_there}
 use Rattle.cpn_flat.proofs.StartedWell.{IsStart, terms_start}
-use Rattle.cpn_module_nets.specs.Nets.{net_from}
-use Rattle.cpn_module_nets.specs.Transitions.{with_variables}
+use Rattle.cpn_accepted.specs.Completed.{with_variables}
+use Rattle.cpn_accepted.specs.Nets.{net_from}
 use Rattle.cpn_monitor.specs.Monitors.{PlainMonitor, PlainMeasure, counts, sizes, values, stops_by_count, stops_by_size}
 use Rattle.cpn_monitor_texts.specs.Accepted.{IsAcceptedMeasure, AreAcceptedMonitors}
 use Rattle.cpn_monitor_texts.specs.Variables.{first_outside, unless_outside, over, value_over}

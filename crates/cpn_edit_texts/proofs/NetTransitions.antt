@@ -10,7 +10,7 @@ use Rattle.cpn_definitions.specs.Inscription.{PlainExpr}
 use Rattle.cpn_definitions.specs.Net.{PlainArc, PlainTransition, PlainNet, no_transition, transition_at}
 use Rattle.cpn_definitions.specs.Sound.{IsSoundInput, IsSoundTransition, IsSound}
 use Rattle.cpn_definitions.proofs.RisingLists.{each_implied}
-use Rattle.cpn_module_nets.specs.Transitions.{IsCompleted}
+use Rattle.cpn_accepted.specs.Completed.{IsCompleted}
 use Rattle.cpn_monitor.specs.Monitors.{PlainMonitor, PlainMeasure, counts, sizes, values, stops_by_count, stops_by_size}
 use Rattle.cpn_monitor_texts.specs.Accepted.{IsAcceptedMeasure, AreAcceptedMonitors}
 use Rattle.cpn_monitor_texts.proofs.ValuesOver.{over_parts, variables_declared}

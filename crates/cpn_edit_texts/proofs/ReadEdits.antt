@@ -11,7 +11,7 @@ use Rattle.cpn_definitions.specs.Terms.{PlainTerm, terms_of}
 use Rattle.cpn_document.specs.Phases.{guard, initial}
 use Rattle.cpn_document.specs.declared.pointers.Pointer.{Pointer}
 use Rattle.cpn_flat.specs.InitialMarking.{tokens_of}
-use Rattle.cpn_module_nets.specs.Transitions.{IsCompleted}
+use Rattle.cpn_accepted.specs.Completed.{IsCompleted}
 use Rattle.cpn_module_trees.specs.Parsing.{Parsing, IsGuard, IsInscription}
 use Rattle.cpn_monitor.specs.Monitors.{PlainMonitor}
 use Rattle.cpn_monitor_texts.specs.Named.{transition_named, place_named}

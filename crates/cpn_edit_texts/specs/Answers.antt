@@ -3,7 +3,7 @@ use Rattle.std.specs.Prelude.{◌≡◌, Option, Some, None, option_map, Result,
 use Rattle.cpn_core.specs.Faults.{fault_view}
 use Rattle.cpn_declared.specs.Answers.{refusal_of as type_refusal_of}
 use Rattle.cpn_document.specs.declared.pointers.Pointer.{Pointer}
-use Rattle.cpn_module_nets.specs.Reading.{no_tree, typing}
+use Rattle.cpn_text_refusals.specs.Refusals.{no_tree, typing}
 use Rattle.cpn_module_trees.specs.Parsing.{lexical, syntactic}
 use Rattle.cpn_monitor_texts.specs.Answers.{monitor_refusal_of}
 use Rattle.cpn_readings.specs.Reading.{Refuses}

@@ -9,7 +9,7 @@ use Rattle.cpn_document.specs.Phases.{RawEdit, guard, initial, RawPhase, at_edit
 use Rattle.cpn_document.specs.declared.pointers.EditPart.TheVariants as of_edit
 use Rattle.cpn_document.specs.declared.pointers.Pointer.{Pointer}
 use Rattle.cpn_flat.specs.InitialMarking.{tokens_of}
-use Rattle.cpn_module_nets.specs.Transitions.{IsCompleted}
+use Rattle.cpn_accepted.specs.Completed.{IsCompleted}
 use Rattle.cpn_module_trees.specs.Parsing.{IsGuard, IsInscription}
 use Rattle.cpn_monitor.specs.Monitors.{PlainMonitor}
 use Rattle.cpn_monitor_texts.specs.Named.{transition_named, place_named}

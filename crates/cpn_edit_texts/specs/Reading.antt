@@ -1,7 +1,7 @@
 -- Readings of the monitors and the edits of a document: a value, or the first refusal. Source: own choice.
 use Rattle.cpn_definitions.specs.Outcome.{Fault}
 use Rattle.cpn_document.specs.declared.pointers.Pointer.{Pointer}
-use Rattle.cpn_module_nets.specs.Reading.{TextRefusal}
+use Rattle.cpn_text_refusals.specs.Refusals.{TextRefusal}
 use Rattle.cpn_monitor_texts.specs.Reading.{MonitorRefusal}
 use Rattle.cpn_readings.specs.Reading as readings
 pub use Rattle.cpn_readings.specs.Reading.{read, refused, ◌>>=◌}

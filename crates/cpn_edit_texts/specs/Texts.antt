@@ -5,7 +5,7 @@ use Rattle.cpn_definitions.specs.Inscription.{PlainExpr, ArcInscription}
 use Rattle.cpn_definitions.specs.Outcome.{Outcome, gives, faults, no_meaning}
 use Rattle.cpn_definitions.specs.Terms.{PlainTerm}
 use Rattle.cpn_document.specs.declared.pointers.Pointer.{Pointer}
-use Rattle.cpn_module_nets.specs.Reading.{no_tree, typing}
+use Rattle.cpn_text_refusals.specs.Refusals.{no_tree, typing}
 use Rattle.cpn_module_trees.specs.Parsing.{Parsing, parsed, unparsed}
 use Rattle.cpn_readings.specs.Relations.{just}
 use Rattle.cpn_trees.specs.Trees.{PlainAst, PlainAsts}

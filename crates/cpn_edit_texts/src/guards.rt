@@ -7,7 +7,7 @@ ghost use Rattle.cpn_core.specs.Nets.{arcs_view, net_view, transition_view};
 ghost use Rattle.cpn_declared.specs.Answers.{Answers};
 ghost use Rattle.cpn_declared.specs.DeclsViews.{decls_view};
 ghost use Rattle.cpn_definitions.specs.Net.{transition_at};
-ghost use Rattle.cpn_module_nets.specs.Transitions.{IsCompleted};
+ghost use Rattle.cpn_accepted.specs.Completed.{IsCompleted};
 ghost use Rattle.cpn_module_trees.specs.TreesViews.{conjuncts_view};
 ghost use Rattle.cpn_monitor.specs.Monitors.{PlainMonitor};
 ghost use Rattle.cpn_monitor.specs.Views.{measure_view, monitors_view};

@@ -9,7 +9,7 @@ ghost use Rattle.cpn_definitions.specs.Outcome.{HasMeaning};
 ghost use Rattle.cpn_definitions.specs.Terms.{most_tokens, tokens_in, terms_of as terms_of_inscription};
 ghost use Rattle.cpn_eval.specs.Terms.{items_view};
 ghost use Rattle.cpn_flat.specs.InitialMarking.{tokens_of as tokens_of_terms};
-ghost use Rattle.cpn_module_nets.specs.Views.{initial_view};
+ghost use Rattle.cpn_accepted.specs.Views.{initial_view};
 ghost use Rattle.cpn_module_trees.specs.TreesViews.{tree_view};
 ghost use Rattle.cpn_types.specs.Accepted.{InitHasMeaning};
 ghost use Rattle.cpn_typing.specs.Consistency.{IsConsistent};

@@ -2,7 +2,7 @@
 
 ghost use Rattle.std.specs.Prelude.{◌≡◌, Some, option_map, not, is_some};
 ghost use Rattle.cpn_declared.specs.Answers.{refusal_of as type_refusal_of};
-ghost use Rattle.cpn_module_nets.specs.Reading.{no_tree, typing};
+ghost use Rattle.cpn_text_refusals.specs.Refusals.{no_tree, typing};
 ghost use Rattle.cpn_module_trees.specs.ParsingViews.{unparsed_view};
 ghost use Rattle.cpn_monitor_texts.specs.Answers.{monitor_refusal_of};
 ghost use Rattle.cpn_edit_texts.specs.Answers.{edit_refusal_of};

@@ -6,7 +6,7 @@ use Rattle.cpn_document.specs.Document.{RawDocument, most_declarations}
 use Rattle.cpn_document.specs.WellNamed.{AreWellNamed, HasFewDeclarations}
 use Rattle.cpn_module_trees.specs.Parsing.{most_bytes}
 use Rattle.cpn_module_nets.specs.Documents.{accepted_in}
-use Rattle.cpn_module_nets.specs.Nets.{PlainAccepted, IsWellAccepted}
+use Rattle.cpn_accepted.specs.Nets.{PlainAccepted, IsWellAccepted}
 use Rattle.cpn_module_nets.specs.Reading.{NetRefusal}
 use Rattle.cpn_module_nets.proofs.AcceptedNames.{accepted_as_written}
 use Rattle.cpn_flat.specs.Flat.{PlainLoaded, flat_in}
@@ -26,13 +26,13 @@ loaded_one accepted flat d = then_one (refused_by of_net (accepted_in d)) _ (ref
 -- there are few variables where there are few declarations
 pub few_declared : (d : RawDocument) (a : PlainAccepted) → HasFewDeclarations d → accepted_in d (readings.read a) → length a.declared.variables < 2 ^ 32
 few_declared d a few is =
-    let room = (accepted_as_written d a is).0.few_variables in
+    let room = (accepted_as_written d a is).few_variables in
     let most : most_bytes * most_declarations < 2 ^ 32 = ltb-true (most_bytes * most_declarations) (2 ^ 32) refl in
     omega (arith, few, room, most)
 
 -- and the net is well written, where the document is well named
 pub loaded_well : (d : RawDocument) (a : PlainAccepted) (l : PlainLoaded) → AreWellNamed d → IsWellAccepted a → accepted_in d (readings.read a) → flat_in d a (readings.read l) → IsWellWritten l.net
-loaded_well d a l named well is flat = let as_written = accepted_as_written d a is in well_written d a l named as_written.0 as_written.1 well flat
+loaded_well d a l named well is flat = let as_written = accepted_as_written d a is in well_written d a l named as_written.names as_written.short well flat
 
 module _ (d : RawDocument) where
   -- it is not accepted

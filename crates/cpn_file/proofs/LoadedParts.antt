@@ -9,7 +9,7 @@ use Rattle.cpn_fuse.specs.Compound.{AreCompound}
 use Rattle.cpn_module.specs.Checked.{IsChecked}
 use Rattle.cpn_module_nets.specs.Accepted.{declared_from, places_of}
 use Rattle.cpn_module_nets.specs.Documents.{nets_so, accepted_in}
-use Rattle.cpn_module_nets.specs.Nets.{PlainAccepted}
+use Rattle.cpn_accepted.specs.Nets.{PlainAccepted}
 use Rattle.cpn_module_nets.specs.Reading.{of_modules, each_from}
 use Rattle.cpn_module_nets.proofs.AcceptedTexts.{declared_good}
 use Rattle.cpn_module_nets.proofs.WellAccepted.{checked_read}

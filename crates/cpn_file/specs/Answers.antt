@@ -4,7 +4,7 @@ pub use Rattle.cpn_readings.specs.Reading.{Refuses}
 pub use Rattle.cpn_readings.specs.Relations.{RefusesBy}
 use Rattle.cpn_document.specs.Answers.{refusal_of}
 use Rattle.cpn_module.specs.Answers.{refusal_of as module_refusal_of}
-use Rattle.cpn_module_nets.specs.Answers.{text_refusal_of}
+use Rattle.cpn_text_refusals.specs.Answers.{text_refusal_of}
 use Rattle.cpn_module_nets.specs.Reading.{of_modules, inscription}
 use Rattle.cpn_flat.specs.Answers.{refusal_of as flat_refusal_of}
 use Rattle.cpn_file.specs.Reading.{Refusal, of_form, of_net, of_flat, Reading, read}

@@ -9,7 +9,7 @@ use Rattle.cpn_syntax.specs.declared.refusals.SyntaxError.TheVariants as syntax_
 use Rattle.cpn_typing.specs.Names.{Limit, depth, nodes, variables, Refusal as TypeRefusal, unknown, duplicate, mismatch, not_closed, not_bindable, input_delay, time_not_allowed, too_many, empty_colour}
 use Rattle.cpn_document.specs.declared.pointers.Pointer.{Pointer}
 use Rattle.cpn_module_trees.specs.Parsing.{lexical, syntactic}
-use Rattle.cpn_module_nets.specs.Reading.{TextRefusal, no_tree, typing}
+use Rattle.cpn_text_refusals.specs.Refusals.{TextRefusal, no_tree, typing}
 use Rattle.cpn_file.specs.PointerTexts.{pointer_text}
 use Rattle.cpn_file.specs.Spaces.{with_space}
 

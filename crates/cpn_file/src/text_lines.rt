@@ -3,8 +3,8 @@
 ghost use Rattle.std.specs.Prelude.{◌≡◌, IfOk, IfSome, codes, string_bytes};
 ghost use Rattle.std.specs.Fmt.{decimal};
 ghost use Rattle.cpn_declared.specs.Answers.{refusal_of as type_refusal_of, limit_view};
-ghost use Rattle.cpn_module_nets.specs.Answers.{text_refusal_of};
-ghost use Rattle.cpn_module_nets.specs.Reading.{typing};
+ghost use Rattle.cpn_text_refusals.specs.Answers.{text_refusal_of};
+ghost use Rattle.cpn_text_refusals.specs.Refusals.{typing};
 ghost use Rattle.cpn_file.specs.TextLines.{lexical_number as number_of_lexical, lexical_name as name_of_lexical, lexical_detail as detail_of_lexical, syntactic_number as number_of_syntactic, syntactic_name as name_of_syntactic, syntactic_detail as detail_of_syntactic, typing_number as number_of_typing, typing_name as name_of_typing, typing_detail as detail_of_typing, limit_name as name_of_limit, inscription_line, line_with};
 
 use crate::pointer_texts::pointer_text;

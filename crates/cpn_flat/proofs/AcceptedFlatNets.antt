@@ -11,7 +11,7 @@ use Rattle.cpn_typing.specs.InscriptionVariables.{inscription_variables}
 use Rattle.cpn_typing.specs.Multisets.{Side, input, output}
 use Rattle.cpn_typing.specs.Names.{Declared}
 use Rattle.cpn_classes.specs.Numbering.{Numbering}
-use Rattle.cpn_module_nets.specs.Nets.{PlainModuleNet, PlainAccepted, module_net_at, IsWellAccepted}
+use Rattle.cpn_accepted.specs.Nets.{PlainModuleNet, PlainAccepted, module_net_at, IsWellAccepted}
 use Rattle.cpn_fuse.specs.Instances.{PlainInstance, instance_at}
 use Rattle.cpn_fuse.specs.PlaceInstances.{first_place}
 use Rattle.cpn_fuse.specs.Unfolded.{IsUnfolded, AreInModules}

@@ -8,7 +8,7 @@ use Rattle.std.proofs.lemmas.List.Elements.{All-from_recursion, All-get_or}
 use Rattle.cpn_definitions.specs.Net.{Coloured, nothing}
 use Rattle.cpn_definitions.proofs.RisingLists.{each_mapped, each_implied}
 use Rattle.cpn_classes.specs.Numbering.{Numbering, first_of}
-use Rattle.cpn_module_nets.specs.Nets.{PlainAccepted, module_net_at, IsWellAccepted}
+use Rattle.cpn_accepted.specs.Nets.{PlainAccepted, module_net_at, IsWellAccepted}
 use Rattle.cpn_fuse.specs.Instances.{PlainInstance, instance_at}
 use Rattle.cpn_fuse.specs.Compound.{AreCompound}
 use Rattle.cpn_fuse.specs.Unfolded.{AreInModules}

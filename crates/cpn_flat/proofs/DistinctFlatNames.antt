@@ -3,11 +3,11 @@
 -- flattened names. And its integers have 64 bits.
 use Rattle.std.proofs.Common.{◌≡◌, ℕ, suc, ◌+◌, ◌<◌, Bool, true, List, [], ◌∷◌, ◌++◌, length, take, map, sum, refl, sym, ap, ap₂, ◌∙◌, subst, inl, inr, arith}
 use Rattle.std.specs.Prelude.{slice_index_or}
-use Rattle.std.specs.List.{AllByRecursion, list_all}
+use Rattle.std.specs.List.{list_all}
 use Rattle.std.proofs.lemmas.Bool.{and_from, cases_order}
 use Rattle.std.proofs.lemmas.List.{length-map, map-append, get_or-map}
 use Rattle.std.proofs.lemmas.List.Elements.{recursion_from_All}
-use Rattle.cpn_definitions.specs.DistinctNames.{AreDistinct, is_path, is_word, HasDistinctNames, HasWellSpelledNames}
+use Rattle.cpn_definitions.specs.DistinctNames.{AreDistinct, is_path, HasDistinctNames, HasWellSpelledNames}
 use Rattle.cpn_definitions.specs.Integers.{HasShortIntegers}
 use Rattle.cpn_definitions.specs.Net.{PlainTransition, Coloured, PlainNet, nothing}
 use Rattle.cpn_definitions.proofs.DistinctLists.{TellsPositions, distinct_from_positions, positions_from_distinct}
@@ -18,9 +18,8 @@ use Rattle.cpn_document.specs.WellNamed.{AreNames, AreWellNamed}
 use Rattle.cpn_fuse.specs.Instances.{PlainInstance, instance_at}
 use Rattle.cpn_fuse.specs.Compound.{AreCompound}
 use Rattle.cpn_fuse.specs.Unfolded.{IsUnfolded, AreInModules}
-use Rattle.cpn_module_nets.specs.Nets.{PlainAccepted, IsWellAccepted}
-use Rattle.cpn_module_nets.proofs.AcceptedNames.{names_of_places, names_of_transitions, HasItsNames, HasShortParts}
-use Rattle.cpn_typing.proofs.DistinctDeclared.{names_of_variables, names_of_constructors}
+use Rattle.cpn_accepted.specs.Nets.{PlainAccepted, IsWellAccepted}
+use Rattle.cpn_accepted.specs.AsWritten.{names_of_places, names_of_transitions, HasItsNames, HasShortParts}
 use Rattle.cpn_readings.specs.Relations.{such_that}
 use Rattle.cpn_readings.proofs.Readings.{same_read}
 use Rattle.cpn_readings.proofs.RelatedReadings.{step_parts, such_holds}
@@ -224,27 +223,19 @@ module _ (d : RawDocument) (a : PlainAccepted) (well_named : AreWellNamed d) (ha
     flat_distinct = record {
       places = distinct_from_positions (names_of_places flat_places) classes_told;
       transitions = transitions_distinct;
-      variables = has.declared.variables;
-      constants = has.declared.constants;
-      constructors = has.declared.constructors;
+      variables = has.distinct.variables;
+      constants = has.distinct.constants;
+      constructors = has.distinct.constructors;
     }
 
     flat_spelled : HasWellSpelledNames (flat_net a is names classes)
     flat_spelled = record {
       places = (paths_all (names_of_places flat_places) class_path).spelled;
       transitions = transitions_paths.spelled;
-      variables = words_all (names_of_variables a.declared.variables) has.declared.of_variables;
-      constants = lists_all a.declared.enumerations has.declared.of_constants;
-      constructors = lists_all (map names_of_constructors a.declared.unions) has.declared.of_constructors;
+      variables = has.spelled.variables;
+      constants = has.spelled.constants;
+      constructors = has.spelled.constructors;
     }
-      where
-        words_all : (xs : List (List ℕ)) → AllByRecursion (λ x. is_word x ≡ true) xs → list_all is_word xs ≡ true
-        words_all [] all = refl
-        words_all (x ∷ xs) all = and_from (is_word x) (list_all is_word xs) all.0 (words_all xs all.1)
-
-        lists_all : (xs : List (List (List ℕ))) → AllByRecursion (AllByRecursion (λ x. is_word x ≡ true)) xs → list_all (list_all is_word) xs ≡ true
-        lists_all [] all = refl
-        lists_all (x ∷ xs) all = and_from (list_all is_word x) (list_all (list_all is_word) xs) (words_all x all.0) (lists_all xs all.1)
 
     flat_flat : HasFlatNames (flat_net a is names classes)
     flat_flat = record { places = (paths_all (names_of_places flat_places) class_path).flat; transitions = transitions_paths.flat }

@@ -16,7 +16,7 @@ use Rattle.cpn_fuse.specs.Instances.{PlainInstance, AreInstances}
 use Rattle.cpn_fuse.specs.PlaceInstances.{place_count}
 use Rattle.cpn_fuse.specs.Unfolded.{UnfoldingRefusal, IsUnfolded, IsRefusedFor, AreInModules}
 use Rattle.cpn_module.specs.Named.{hierarchy_in}
-use Rattle.cpn_module_nets.specs.Nets.{PlainAccepted, IsWellAccepted, net_from}
+use Rattle.cpn_accepted.specs.Nets.{PlainAccepted, IsWellAccepted, net_from}
 use Rattle.cpn_readings.specs.Relations.{HasOne}
 use Rattle.cpn_flat.specs.Flat.{all_written, flat_in}
 use Rattle.cpn_flat.specs.FlatNet.{all_places, flat_net}

@@ -11,7 +11,7 @@ use Rattle.cpn_document.specs.Document.{RawDocument}
 use Rattle.cpn_fuse.specs.Compound.{AreCompound}
 use Rattle.cpn_fuse.specs.Instances.{PlainInstance}
 use Rattle.cpn_fuse.specs.Unfolded.{UnfoldingRefusal, IsUnfolded, IsRefusedFor}
-use Rattle.cpn_module_nets.specs.Nets.{Initial, PlainModuleNet, PlainAccepted, IsMeant, net_from}
+use Rattle.cpn_accepted.specs.Nets.{Initial, PlainModuleNet, PlainAccepted, IsMeant, net_from}
 use Rattle.cpn_readings.specs.Relations.{RefusesBy}
 use Rattle.cpn_readings.proofs.RelatedReadings.{then_read, then_refused, refused_first, refused_next}
 use Rattle.cpn_flat.specs.Refusals.{FlatRefusal, read, refused}

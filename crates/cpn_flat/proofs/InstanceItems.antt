@@ -10,7 +10,7 @@ use Rattle.cpn_fuse.specs.Instances.{PlainInstance, no_instance, instance_at}
 use Rattle.cpn_fuse.specs.PlaceInstances.{first_place}
 use Rattle.cpn_fuse.specs.Answers.{AreFirstPlaces}
 use Rattle.cpn_module.specs.Hierarchy.{PlainHierarchy}
-use Rattle.cpn_module_nets.specs.Nets.{PlainModuleNet}
+use Rattle.cpn_accepted.specs.Nets.{PlainModuleNet}
 use Rattle.cpn_flat.specs.FlatNet.{module_net_among, flat_transition, transitions_at}
 use Rattle.cpn_flat.specs.Names.{name_at}
 use Rattle.cpn_flat.specs.Items.{HasItems, HaveItems}

@@ -7,9 +7,10 @@ use Rattle.std.proofs.lemmas.List.Elements.{recursion_from_All, All-from_get_or}
 use Rattle.cpn_document.specs.Document.{RawDocument}
 use Rattle.cpn_module.specs.Hierarchy.{no_structure, structure_at}
 use Rattle.cpn_module.specs.Named.{no_module, structure_in, substitution_in, hierarchy_in}
+use Rattle.cpn_accepted.specs.AsWritten.{raw_module_at}
 use Rattle.cpn_fuse.specs.Instances.{PlainPart, PlainInstance, no_instance, instance_at}
 use Rattle.cpn_fuse.specs.Unfolded.{AreInModules}
-use Rattle.cpn_flat.specs.Names.{raw_module_at, name_at, name_where, HasItsName, IsNamedIn}
+use Rattle.cpn_flat.specs.Names.{name_at, name_where, HasItsName, IsNamedIn}
 use Rattle.cpn_flat.specs.Placed.{IsPlaced, ArePlaced}
 
 module _ (d : RawDocument) (is : List PlainInstance) where

@@ -10,9 +10,10 @@ use Rattle.cpn_document.specs.Texts.{is_name}
 use Rattle.cpn_document.specs.WellNamed.{AreNames, IsWellNamed, AreWellNamed}
 use Rattle.cpn_module.specs.Hierarchy.{PlainHierarchy, PlainStructure, no_structure, structure_at}
 use Rattle.cpn_module.specs.Named.{no_module, structure_in, substitution_in, hierarchy_in}
+use Rattle.cpn_accepted.specs.AsWritten.{raw_module_at}
 use Rattle.cpn_fuse.specs.Instances.{PlainPart, PlainInstance, no_instance, instance_at, AreInstances}
 use Rattle.cpn_fuse.specs.Unfolded.{AreInModules}
-use Rattle.cpn_flat.specs.Names.{joined_name, no_sub, raw_module_at, sub_name_at, name_at, name_where, AreNames as AreInstanceNames}
+use Rattle.cpn_flat.specs.Names.{joined_name, no_sub, sub_name_at, name_at, name_where, AreNames as AreInstanceNames}
 use Rattle.cpn_flat.specs.Placed.{IsPlaced, ArePlaced}
 use Rattle.cpn_flat.proofs.ApartInstances.{one_place}
 use Rattle.cpn_flat.proofs.JoinedNames.{IsPlain, plain_name, joined_once, none_joined, IsPath, path_from_name, path_joined}

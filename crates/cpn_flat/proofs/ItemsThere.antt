@@ -14,7 +14,7 @@ use Rattle.cpn_definitions.specs.Terms.{terms_of}
 use Rattle.cpn_definitions.proofs.RisingLists.{each_implied, each_appended}
 use Rattle.cpn_classes.specs.Numbering.{Numbering, number_of}
 use Rattle.cpn_module.specs.Hierarchy.{places_in, structure_at}
-use Rattle.cpn_module_nets.specs.Nets.{Initial, PlainModuleNet, PlainAccepted, module_net_at, net_of, IsMeant, IsOfColour, IsWellAccepted}
+use Rattle.cpn_accepted.specs.Nets.{Initial, PlainModuleNet, PlainAccepted, module_net_at, net_of, IsMeant, IsOfColour, IsWellAccepted}
 use Rattle.cpn_fuse.specs.Instances.{PlainInstance, instance_at}
 use Rattle.cpn_fuse.specs.PlaceInstances.{place_count, first_place, place_number}
 use Rattle.cpn_fuse.specs.Compound.{AreCompound}

@@ -10,7 +10,7 @@ use Rattle.cpn_classes.specs.Joined.{IsJoined, paired, itself, turned, through}
 use Rattle.cpn_classes.specs.Numbering.{Numbering, number_of, first_of}
 use Rattle.cpn_module.specs.Hierarchy.{PlainAssignment, PlainSubstitution, PlainMember, no_structure, no_substitution, places_in, structure_at, substitution_at}
 use Rattle.cpn_module.specs.Ranges.{IsAssignment, IsSubstitution, IsStructure, IsMember}
-use Rattle.cpn_module_nets.specs.Nets.{PlainAccepted, colour_of_place, IsWellAccepted}
+use Rattle.cpn_accepted.specs.Nets.{PlainAccepted, colour_of_place, IsWellAccepted}
 use Rattle.cpn_fuse.specs.Instances.{PlainPart, PlainInstance, instance_at}
 use Rattle.cpn_fuse.specs.PlaceInstances.{place_count, place_number}
 use Rattle.cpn_fuse.specs.Compound.{port_pairs_at, port_pairs_from, port_pairs, instances_of_from, instances_of, fused, each_with_each, fusion_pairs, joined_pairs, AreCompound}

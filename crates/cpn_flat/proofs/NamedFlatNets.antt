@@ -9,7 +9,7 @@ use Rattle.cpn_definitions.specs.Net.{PlainTransition, Coloured}
 use Rattle.cpn_definitions.proofs.RisingLists.{passes_at, all_pass}
 use Rattle.cpn_typing.specs.Names.{Declared}
 use Rattle.cpn_classes.specs.Numbering.{Numbering}
-use Rattle.cpn_module_nets.specs.Nets.{PlainModuleNet, PlainAccepted, module_net_at, net_from, IsWellAccepted}
+use Rattle.cpn_accepted.specs.Nets.{PlainModuleNet, PlainAccepted, module_net_at, net_from, IsWellAccepted}
 use Rattle.cpn_fuse.specs.Instances.{PlainInstance}
 use Rattle.cpn_fuse.specs.Compound.{AreCompound}
 use Rattle.cpn_fuse.specs.Unfolded.{IsUnfolded}

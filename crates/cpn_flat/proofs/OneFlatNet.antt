@@ -17,7 +17,7 @@ use Rattle.cpn_fuse.specs.PlaceInstances.{place_count}
 use Rattle.cpn_fuse.specs.Unfolded.{UnfoldingRefusal, IsUnfolded, IsRefusedFor}
 use Rattle.cpn_fuse.proofs.InstanceTrees.{instances_come}
 use Rattle.cpn_module.specs.Hierarchy.{PlainSubstitution, PlainHierarchy, structure_at}
-use Rattle.cpn_module_nets.specs.Nets.{Initial, PlainAccepted}
+use Rattle.cpn_accepted.specs.Nets.{Initial, PlainAccepted}
 use Rattle.cpn_readings.specs.Reading as readings
 use Rattle.cpn_readings.specs.Relations.{such_that, After, ◌>>=◌, HasOne}
 use Rattle.cpn_readings.proofs.RelatedReadings.{IsOne, just_one, such_one, then_one_at, then_one, each_so_one}

@@ -7,7 +7,7 @@ use Rattle.std.proofs.lemmas.List.Elements.{All-from_recursion, recursion_from_A
 use Rattle.cpn_definitions.specs.Net.{nothing}
 use Rattle.cpn_classes.specs.Numbering.{Numbering}
 use Rattle.cpn_module.specs.Hierarchy.{places_in, structure_at}
-use Rattle.cpn_module_nets.specs.Nets.{PlainAccepted, no_module_net, module_net_at, IsWellNet, IsWellAccepted}
+use Rattle.cpn_accepted.specs.Nets.{PlainAccepted, no_module_net, module_net_at, IsWellNet, IsWellAccepted}
 use Rattle.cpn_fuse.specs.Instances.{PlainInstance, no_instance, instance_at}
 use Rattle.cpn_fuse.specs.PlaceInstances.{place_count, transition_count, place_number}
 use Rattle.cpn_fuse.specs.Unfolded.{AreInModules}

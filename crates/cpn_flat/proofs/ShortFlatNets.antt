@@ -1,15 +1,13 @@
 -- The integers of the flat net of what is accepted have 64 bits.
-use Rattle.std.proofs.Common.{ℕ, ◌<◌, List, sym, subst}
-use Rattle.std.proofs.lemmas.List.Elements.{All-from_recursion}
+use Rattle.std.proofs.Common.{◌≡◌, ℕ, ◌<◌, true, List, sym, subst}
 use Rattle.std.proofs.lemmas.List.Sums.{list_all-from_AllPass}
 use Rattle.cpn_definitions.specs.Integers.{is_short, HasShortIntegers}
 use Rattle.cpn_classes.specs.Numbering.{Numbering}
-use Rattle.cpn_module_nets.specs.Nets.{PlainAccepted, IsWellAccepted}
-use Rattle.cpn_module_nets.proofs.AcceptedNames.{HasShortParts}
+use Rattle.cpn_accepted.specs.Nets.{PlainAccepted, IsWellAccepted}
+use Rattle.cpn_accepted.specs.AsWritten.{HasShortParts}
 use Rattle.cpn_fuse.specs.Instances.{PlainInstance}
 use Rattle.cpn_fuse.specs.Compound.{AreCompound}
 use Rattle.cpn_fuse.specs.Unfolded.{IsUnfolded}
-use Rattle.cpn_typing.proofs.ShortDeclared.{IsShortColoured}
 use Rattle.cpn_flat.specs.FlatNet.{compound_places, flat_net}
 use Rattle.cpn_flat.proofs.CompoundColours.{of_compound}
 use Rattle.cpn_flat.proofs.PlacedInstances.{placed}
@@ -19,6 +17,6 @@ module _ (accepted : PlainAccepted) (short : HasShortParts accepted) (well : IsW
   pub flat_short : IsUnfolded accepted.hierarchy is → HasShortIntegers (flat_net accepted is names classes)
   flat_short unfolded = record {
     places_short = list_all-from_AllPass is_short (compound_places accepted.modules is names classes)
-        (of_compound accepted well is names classes compound (placed accepted.hierarchy is well.numbers unfolded.instances).1 IsShortColoured (λ whole c h. h) (λ m lt. short.places m (subst (λ (k : ℕ). m < k) (sym well.each) lt)));
-    variables_short = list_all-from_AllPass is_short accepted.declared.variables (All-from_recursion IsShortColoured accepted.declared.variables short.declared.variables);
+        (of_compound accepted well is names classes compound (placed accepted.hierarchy is well.numbers unfolded.instances).1 (λ c. is_short c ≡ true) (λ whole c h. h) (λ m lt. short.places m (subst (λ (k : ℕ). m < k) (sym well.each) lt)));
+    variables_short = short.declared.variables_short;
   }

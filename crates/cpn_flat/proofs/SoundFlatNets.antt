@@ -16,7 +16,7 @@ use Rattle.cpn_typing.specs.Names.{Declared}
 use Rattle.cpn_classes.specs.Numbering.{Numbering, number_of}
 use Rattle.cpn_classes.specs.ClassCounts.{no_more_classes}
 use Rattle.cpn_module.specs.Hierarchy.{places_in, structure_at}
-use Rattle.cpn_module_nets.specs.Nets.{PlainModuleNet, PlainAccepted, module_net_at, net_from, net_of, IsWellAccepted}
+use Rattle.cpn_accepted.specs.Nets.{PlainModuleNet, PlainAccepted, module_net_at, net_from, net_of, IsWellAccepted}
 use Rattle.cpn_fuse.specs.Instances.{PlainInstance, instance_at}
 use Rattle.cpn_fuse.specs.PlaceInstances.{place_count, first_place, place_number}
 use Rattle.cpn_fuse.specs.Compound.{AreCompound}

@@ -9,7 +9,7 @@ use Rattle.cpn_definitions.specs.Net.{Coloured, PlainNet, place_at}
 use Rattle.cpn_definitions.specs.Outcome.{Outcome, gives, faults, no_meaning}
 use Rattle.cpn_definitions.specs.Terms.{PlainTerm, most_tokens, tokens_in, terms_of}
 use Rattle.cpn_definitions.proofs.TokenCounts.{tokens_are_few}
-use Rattle.cpn_module_nets.specs.Nets.{Initial}
+use Rattle.cpn_accepted.specs.Nets.{Initial}
 use Rattle.cpn_readings.specs.Relations.{each_so, RefusesBy}
 use Rattle.cpn_readings.proofs.Readings.{same_read}
 use Rattle.cpn_readings.proofs.RelatedLists.{AreRead, each_read}

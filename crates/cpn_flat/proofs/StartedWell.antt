@@ -24,7 +24,7 @@ use Rattle.cpn_definitions.proofs.PlaceStamps.{all_append, all_replicate, all_wi
 use Rattle.cpn_definitions.proofs.RisingLists.{each_flat}
 use Rattle.cpn_definitions.proofs.Terms.{AreTermsOf, terms_are}
 use Rattle.cpn_definitions.proofs.TokenCounts.{tokens_are_few}
-use Rattle.cpn_module_nets.specs.Nets.{Initial, IsOfColour}
+use Rattle.cpn_accepted.specs.Nets.{Initial, IsOfColour}
 use Rattle.cpn_readings.proofs.Readings.{same_read}
 use Rattle.cpn_readings.proofs.RelatedReadings.{step_parts}
 use Rattle.cpn_readings.proofs.RelatedLists.{AreRead, each_read}

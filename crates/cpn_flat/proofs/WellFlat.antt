@@ -2,7 +2,7 @@
 use Rattle.std.proofs.Common.{◌<◌, ◌^◌, length, refl, sym, subst}
 use Rattle.cpn_document.specs.Document.{RawDocument}
 use Rattle.cpn_fuse.specs.Compound.{AreCompound}
-use Rattle.cpn_module_nets.specs.Nets.{PlainAccepted, IsWellAccepted}
+use Rattle.cpn_accepted.specs.Nets.{PlainAccepted, IsWellAccepted}
 use Rattle.cpn_readings.specs.Relations.{such_that}
 use Rattle.cpn_readings.proofs.Readings.{same_read}
 use Rattle.cpn_readings.proofs.RelatedReadings.{step_parts, such_holds}

@@ -13,7 +13,7 @@ use Rattle.cpn_fuse.specs.Instances.{PlainInstance}
 use Rattle.cpn_fuse.specs.Compound.{AreCompound}
 use Rattle.cpn_fuse.specs.Unfolded as unfolds
 use Rattle.cpn_fuse.specs.Unfolded.{UnfoldingRefusal, IsUnfolded, IsRefusedFor}
-use Rattle.cpn_module_nets.specs.Nets.{Initial, PlainModuleNet, PlainAccepted}
+use Rattle.cpn_accepted.specs.Nets.{Initial, PlainModuleNet, PlainAccepted}
 use Rattle.cpn_readings.specs.Relations.{just, such_that, ◌>>=◌}
 use Rattle.cpn_flat.specs.Refusals.{FlatRefusal, instances, places, transitions, Reading, read, refused}
 use Rattle.cpn_flat.specs.Names.{AreNames}

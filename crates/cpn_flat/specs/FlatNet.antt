@@ -7,7 +7,7 @@ use Rattle.cpn_classes.specs.Numbering.{Numbering, number_of}
 use Rattle.cpn_fuse.specs.Instances.{PlainInstance}
 use Rattle.cpn_fuse.specs.PlaceInstances.{first_place}
 use Rattle.cpn_module.specs.Hierarchy.{PlainHierarchy}
-use Rattle.cpn_module_nets.specs.Nets.{PlainModuleNet, PlainAccepted, no_module_net, net_from}
+use Rattle.cpn_accepted.specs.Nets.{PlainModuleNet, PlainAccepted, no_module_net, net_from}
 use Rattle.cpn_flat.specs.Names.{joined_name, name_at}
 
 -- what each instance has, one instance after another, numbered from i on

@@ -11,7 +11,7 @@ use Rattle.cpn_definitions.specs.Outcome.{Outcome, gives, faults, no_meaning}
 use Rattle.cpn_definitions.specs.Terms.{PlainTerm, terms_of}
 use Rattle.cpn_classes.specs.Numbering.{Numbering}
 use Rattle.cpn_fuse.specs.Instances.{PlainInstance}
-use Rattle.cpn_module_nets.specs.Nets.{Initial, IsMeant, PlainModuleNet}
+use Rattle.cpn_accepted.specs.Nets.{Initial, IsMeant, PlainModuleNet}
 use Rattle.cpn_readings.specs.Relations.{just, ◌>>=◌, each_so}
 use Rattle.cpn_flat.specs.Refusals.{FlatRefusal, init, initial_differs, Reading, read, refused}
 use Rattle.cpn_flat.specs.FlatNet.{each_instance, module_net_among}

@@ -5,7 +5,7 @@ use Rattle.cpn_definitions.specs.Net.{PlainArc, PlainTransition}
 use Rattle.cpn_fuse.specs.Instances.{PlainInstance, instance_at}
 use Rattle.cpn_fuse.specs.PlaceInstances.{first_place}
 use Rattle.cpn_module.specs.Hierarchy.{PlainHierarchy}
-use Rattle.cpn_module_nets.specs.Nets.{PlainModuleNet}
+use Rattle.cpn_accepted.specs.Nets.{PlainModuleNet}
 use Rattle.cpn_flat.specs.FlatNet.{module_net_among}
 
 -- each arc is at one of so many places, of an instance whose places are numbered from `first` on

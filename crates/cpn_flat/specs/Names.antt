@@ -1,8 +1,8 @@
 -- The names of instances: that of the top module, and then, from each instance down, those of the substitution transitions, joined
 -- by `/`. Source: own choice.
 use Rattle.std.specs.Prelude.{◌≡◌, ℕ, ◌<◌, List, [], ◌++◌, length, slice_index_or, Option, Some, None, codes}
-use Rattle.cpn_document.specs.Document.{RawSub, RawModule, RawDocument}
-use Rattle.cpn_module.specs.Named.{no_module}
+use Rattle.cpn_document.specs.Document.{RawSub, RawDocument}
+use Rattle.cpn_accepted.specs.AsWritten.{raw_module_at}
 use Rattle.cpn_fuse.specs.Instances.{PlainPart, PlainInstance, instance_at}
 
 -- the name of something that stands in what has a name
@@ -12,10 +12,7 @@ joined_name whole name = whole ++ codes "/" ++ name
 abbrev pub no_sub : RawSub
 no_sub = record { name = []; submodule = []; assign = [] }
 
--- the module of a document of a number, and the name of its substitution transition of a number
-abbrev pub raw_module_at : RawDocument → ℕ → RawModule
-raw_module_at d m = slice_index_or d.modules m no_module
-
+-- the name of the substitution transition of a number, in the module of a document of a number
 abbrev pub sub_name_at : RawDocument → ℕ → ℕ → List ℕ
 sub_name_at d m i = (slice_index_or (raw_module_at d m).subs i no_sub).name
 

@@ -5,7 +5,7 @@ use Rattle.cpn_classes.specs.Numbering.{Numbering}
 use Rattle.cpn_document.specs.Document.{RawDocument}
 use Rattle.cpn_fuse.specs.Instances.{PlainInstance}
 use Rattle.cpn_module.specs.Hierarchy.{PlainHierarchy}
-use Rattle.cpn_module_nets.specs.Nets.{PlainModuleNet}
+use Rattle.cpn_accepted.specs.Nets.{PlainModuleNet}
 use Rattle.cpn_flat.specs.FlatNet.{compound_places, all_transitions}
 use Rattle.cpn_flat.specs.Names.{AreNames}
 

@@ -9,7 +9,7 @@ use Rattle.cpn_definitions.specs.Net.{PlainNet, place_at}
 use Rattle.cpn_definitions.specs.Terms.{PlainTerm, most_tokens, tokens_in}
 use Rattle.cpn_eval.specs.declared.term.Term.{Term}
 use Rattle.cpn_eval.specs.Terms.{items_view}
-use Rattle.cpn_module_nets.specs.Nets.{Initial, IsOfColour}
+use Rattle.cpn_accepted.specs.Nets.{Initial, IsOfColour}
 use Rattle.cpn_flat.specs.InitialMarking.{token_of}
 
 -- ---- views

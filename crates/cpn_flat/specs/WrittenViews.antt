@@ -3,8 +3,8 @@ use Rattle.std.specs.Prelude.{List, map, Option, option_map, Vec}
 use Rattle.std.specs.Borrow.{Bor}
 use Rattle.std.specs.declared.alloc.Global.{Global}
 use Rattle.cpn_core.specs.declared.inscriptions.ArcExpr.{ArcExpr}
-use Rattle.cpn_module_nets.specs.Nets.{Initial}
-use Rattle.cpn_module_nets.specs.Views.{initial_view}
+use Rattle.cpn_accepted.specs.Nets.{Initial}
+use Rattle.cpn_accepted.specs.Views.{initial_view}
 
 abbrev pub referred_view : Bor ArcExpr → Initial
 referred_view initial = initial_view initial.now

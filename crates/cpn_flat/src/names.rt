@@ -5,7 +5,8 @@ ghost use Rattle.std.specs.List.{AllByRecursion};
 ghost use Rattle.cpn_document.specs.Views.{document_view};
 ghost use Rattle.cpn_fuse.specs.Instances.{instance_at};
 ghost use Rattle.cpn_fuse.specs.Views.{instance_view, instances_view};
-ghost use Rattle.cpn_flat.specs.Names.{joined_name, raw_module_at, sub_name_at, name_at, name_where, AreNames, IsNamedIn};
+ghost use Rattle.cpn_accepted.specs.AsWritten.{raw_module_at};
+ghost use Rattle.cpn_flat.specs.Names.{joined_name, sub_name_at, name_at, name_where, AreNames, IsNamedIn};
 ghost use Rattle.cpn_flat.specs.Placed.{IsBehind, StandBehind};
 
 use cpn_document::Document;

@@ -4,16 +4,16 @@ ghost use Rattle.std.specs.Prelude.{◌≡◌, ◌<◌, ◌++◌, map, length, s
 ghost use Rattle.cpn_core.specs.Nets.{place_view};
 ghost use Rattle.cpn_classes.specs.Numbering.{Numbering};
 ghost use Rattle.cpn_fuse.specs.Views.{instances_view};
-ghost use Rattle.cpn_module_nets.specs.Views.{module_net_view};
+ghost use Rattle.cpn_accepted.specs.Views.{module_net_view};
 ghost use Rattle.cpn_flat.specs.Names.{name_at};
 ghost use Rattle.cpn_flat.specs.Placed.{AreOfModules};
 ghost use Rattle.cpn_flat.specs.FlatNet.{module_net_among, joined_place, all_places as place_instances, compound_among};
 
 use crate::names::{joined, name_of};
+use cpn_accepted::ModuleNet;
 use cpn_classes::Classes;
 use cpn_core::{Memory, Place};
 use cpn_fuse::Instance;
-use cpn_module_nets::ModuleNet;
 use std::alloc::Global;
 
 /// A place of an instance of the name.

@@ -6,18 +6,18 @@ ghost use Rattle.cpn_core.specs.Nets.{arc_view, arcs_view, transition_view};
 ghost use Rattle.cpn_fuse.specs.Answers.{AreFirstPlaces};
 ghost use Rattle.cpn_fuse.specs.Views.{instances_view};
 ghost use Rattle.cpn_module.specs.Views.{hierarchy_view};
-ghost use Rattle.cpn_module_nets.specs.Views.{module_net_view};
+ghost use Rattle.cpn_accepted.specs.Views.{module_net_view};
 ghost use Rattle.cpn_flat.specs.Names.{name_at};
 ghost use Rattle.cpn_flat.specs.FlatNet.{module_net_among, flat_arc as arc_in, flat_transition as transition_in, all_transitions as transition_instances};
 ghost use Rattle.cpn_flat.specs.Items.{AreAtItems, HasItems, HaveItems};
 ghost use Rattle.cpn_flat.specs.Placed.{AreOfModules};
 
 use crate::names::{joined, name_of};
+use cpn_accepted::ModuleNet;
 use cpn_classes::Classes;
 use cpn_core::{Memory, PlaceArc, Transition};
 use cpn_fuse::Instance;
 use cpn_module::Hierarchy;
-use cpn_module_nets::ModuleNet;
 use std::alloc::Global;
 
 /// An arc of an instance, at the compound place of its place. It shares the inscription of the module's arc.

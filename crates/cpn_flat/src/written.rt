@@ -3,16 +3,16 @@
 ghost use Rattle.std.specs.Prelude.{◌≡◌, ℕ, ◌<◌, ◌^◌, ◌++◌, [], map, option_map, length, slice_index_or, IfOk, OnOk};
 ghost use Rattle.cpn_classes.specs.Numbering.{number_of};
 ghost use Rattle.cpn_fuse.specs.Views.{instances_view};
-ghost use Rattle.cpn_module_nets.specs.Views.{module_net_view};
+ghost use Rattle.cpn_accepted.specs.Views.{module_net_view};
 ghost use Rattle.cpn_flat.specs.FlatNet.{module_net_among};
 ghost use Rattle.cpn_flat.specs.Placed.{AreOfModules};
 ghost use Rattle.cpn_flat.specs.InitialMarking.{all_initials as initials_in, added, written_in};
 ghost use Rattle.cpn_flat.specs.WrittenViews.{referred_view, optional_view, lists_view};
 
+use cpn_accepted::ModuleNet;
 use cpn_classes::Classes;
 use cpn_core::{ArcExpr, Memory};
 use cpn_fuse::Instance;
-use cpn_module_nets::ModuleNet;
 use std::alloc::Global;
 
 /// Adds the initial markings of the places of a module, where they are written.

@@ -14,8 +14,8 @@ use Rattle.cpn_document.specs.declared.pointers.Pointer.{Pointer}
 use Rattle.cpn_module.specs.Hierarchy.{PlainEnds}
 use Rattle.cpn_module_trees.specs.Parsing.{Parsing}
 use Rattle.cpn_readings.proofs.Readings.{same_read, steps}
+use Rattle.cpn_accepted.specs.Nets.{colour_at}
 use Rattle.cpn_module_nets.specs.Reading.{read}
-use Rattle.cpn_module_nets.specs.Nets.{colour_at}
 use Rattle.cpn_module_nets.specs.Accepted.{tree_at, accepted_at, Sides, with_first, arc_at, sides_of, is_transition, inscribed, arc_with, is_at, inputs_of, outputs_of}
 use Rattle.cpn_module_nets.proofs.AcceptedTexts.{accepted_is}
 

@@ -1,7 +1,13 @@
--- What is accepted has the names that the document writes, and its integers have 64 bits.
-use Rattle.std.proofs.Common.{◌≡◌, ℕ, suc, ◌<◌, ◌≤◌, ◌*◌, List, [], ◌∷◌, length, map, slice_index_or, refl, sym, ap, ap₂, ◌∙◌, subst}
+-- What is accepted has the names that the document writes, its integers have 64 bits, and it declares no more variables than its texts have
+-- room for.
+use Rattle.std.proofs.Common.{◌≡◌, ℕ, suc, ◌<◌, ◌≤◌, ◌*◌, true, List, [], ◌∷◌, length, map, slice_index_or, refl, sym, ap, ap₂, ◌∙◌, subst}
 use Rattle.std.proofs.Math.Nat.{zero-add}
-use Rattle.std.specs.List.{AllByRecursion}
+use Rattle.std.specs.List.{AllByRecursion, IsDistinct, list_all}
+use Rattle.std.proofs.lemmas.Bool.{and_from}
+use Rattle.std.proofs.lemmas.List.Elements.{All-from_recursion}
+use Rattle.std.proofs.lemmas.List.Sums.{list_all-from_AllPass}
+use Rattle.cpn_definitions.specs.DistinctNames.{is_word, HasDistinctNames, HasWellSpelledNames}
+use Rattle.cpn_definitions.specs.Integers.{is_short, HasShortIntegers}
 use Rattle.cpn_definitions.specs.Net.{PlainTransition, Coloured}
 use Rattle.cpn_document.specs.Document.{RawPlace, RawTransition, RawModule, RawDocument}
 use Rattle.cpn_module.specs.Checked.{IsChecked}
@@ -13,45 +19,31 @@ use Rattle.cpn_readings.specs.ItemByItem.{EachIs}
 use Rattle.cpn_readings.specs.Relations.{just, such_that, refused_by}
 use Rattle.cpn_readings.proofs.Readings.{same_read, steps}
 use Rattle.cpn_readings.proofs.RelatedReadings.{step_parts, such_holds}
-use Rattle.cpn_typing.specs.Names.{Declared, nothing_declared}
+use Rattle.cpn_typing.specs.Names.{Name, Declared, nothing_declared}
 use Rattle.cpn_typing.specs.Declarations.{colour_of}
-use Rattle.cpn_typing.proofs.DistinctDeclared.{AreNamed}
+use Rattle.cpn_typing.proofs.DistinctDeclared.{AreNamed, names_of_variables, names_of_constructors}
 use Rattle.cpn_typing.proofs.ShortDeclared.{IsShortColoured, DeclaresShort, colour_short}
+use Rattle.cpn_accepted.specs.Completed.{IsCompleted}
+use Rattle.cpn_accepted.specs.AsWritten.{raw_module_at, names_of_places, names_of_transitions, net_of_declared, HasItsNames, HasShortParts}
+use Rattle.cpn_accepted.specs.Nets.{PlainModuleNet, PlainAccepted, places_at, no_module_net}
 use Rattle.cpn_module_nets.specs.Reading.{Reading, read, of_modules, each_from}
-use Rattle.cpn_module_nets.specs.Nets.{PlainModuleNet, PlainAccepted, places_at, no_module_net}
 use Rattle.cpn_module_nets.specs.Accepted.{accepted_at, guard_at, delay_at, declared_from, net_place, places_of, bare_transition, Sides, joined_from}
-use Rattle.cpn_module_nets.specs.Transitions.{IsCompleted}
 use Rattle.cpn_module_nets.specs.Documents.{net_so, nets_so, accepted_in}
 use Rattle.cpn_module_nets.specs.Fitting.{no_trees, trees_at}
 use Rattle.cpn_module_nets.specs.Pointers.{colour_pointer, guard_pointer, delay_pointer}
 use Rattle.cpn_module_nets.proofs.AcceptedTexts.{each_from_all, accepted_is}
 use Rattle.cpn_module_nets.proofs.CheckedModules.{kept}
 use Rattle.cpn_module_nets.proofs.DeclaredNames.{IsWord, IsDeclaredWell, all_well}
-use Rattle.cpn_module_nets.proofs.ModuleParts.{raw_at, as_many_trees, trees_are, places_read}
+use Rattle.cpn_module_nets.proofs.ModuleParts.{as_many_trees, trees_are, places_read}
 use Rattle.cpn_module_nets.proofs.WellAccepted.{so_long, so_at, checked_read}
 use Rattle.cpn_module_nets.proofs.WellNets.{net_parts}
 
--- the names of the places and of the transitions of a module
-abbrev pub names_of_places : List Coloured → List (List ℕ)
-names_of_places places = map (λ place. place.name) places
-
-abbrev pub names_of_transitions : List PlainTransition → List (List ℕ)
-names_of_transitions transitions = map (λ transition. transition.name) transitions
-
--- What is accepted: the hierarchy is the one that the document names; the places and the transitions of each module have the names
--- that the document writes; what is declared is well named, and has no more variables than the texts have room for.
-pub record HasItsNames (d : RawDocument) (a : PlainAccepted) : Type 0 where
-  pub hierarchy : a.hierarchy ≡ hierarchy_in d
-  pub many : length a.modules ≡ length d.modules
-  pub places : (m : ℕ) → m < length d.modules → names_of_places (slice_index_or a.modules m no_module_net).places ≡ place_names (raw_at d m)
-  pub transitions : (m : ℕ) → m < length d.modules → names_of_transitions (slice_index_or a.modules m no_module_net).transitions ≡ transition_names (raw_at d m)
-  pub declared : AreNamed IsWord a.declared
+-- What is accepted of a document is as the document writes it: it has its names, its integers have 64 bits, and what is declared has no
+-- more variables than the texts have room for.
+pub record IsAsWritten (d : RawDocument) (a : PlainAccepted) : Type 0 where
+  pub names : HasItsNames d a
+  pub short : HasShortParts a
   pub few_variables : length a.declared.variables ≤ most_bytes * length d.declarations
-
--- The integers of what is accepted have 64 bits: those of what is declared, and of the colour sets of the places of each module.
-pub record HasShortParts (a : PlainAccepted) : Type 0 where
-  pub declared : DeclaresShort a.declared
-  pub places : (m : ℕ) → m < length a.modules → AllByRecursion IsShortColoured (slice_index_or a.modules m no_module_net).places
 
 -- ---- lists
 
@@ -120,6 +112,35 @@ transitions_have ds places m s raw trees net are h =
 net_places : (ds : Declared) (places : List Coloured) (m : ℕ) (s : PlainStructure) (trees : ModuleTrees) (net : PlainModuleNet) → net_so ds places m s trees (read net) → net.places ≡ places
 net_places ds places m s trees net h = let parts = net_parts ds places m s trees net h in ap (λ (x : PlainModuleNet). x.places) parts.is
 
+-- ---- what is declared
+
+words_all : (xs : List Name) → AllByRecursion IsWord xs → list_all is_word xs ≡ true
+words_all [] all = refl
+words_all (x ∷ xs) all = and_from (is_word x) (list_all is_word xs) all.0 (words_all xs all.1)
+
+lists_all : (xs : List (List Name)) → AllByRecursion (AllByRecursion IsWord) xs → list_all (list_all is_word) xs ≡ true
+lists_all [] all = refl
+lists_all (x ∷ xs) all = and_from (list_all is_word x) (list_all (list_all is_word) xs) (words_all x all.0) (lists_all xs all.1)
+
+declared_distinct : (ds : Declared) → AreNamed IsWord ds → HasDistinctNames (net_of_declared ds)
+unfolding IsDistinct
+declared_distinct ds named = record { places = tt; transitions = tt; variables = named.variables; constants = named.constants; constructors = named.constructors }
+
+declared_spelled : (ds : Declared) → AreNamed IsWord ds → HasWellSpelledNames (net_of_declared ds)
+declared_spelled ds named = record {
+  places = refl;
+  transitions = refl;
+  variables = words_all (names_of_variables ds.variables) named.of_variables;
+  constants = lists_all ds.enumerations named.of_constants;
+  constructors = lists_all (map names_of_constructors ds.unions) named.of_constructors;
+}
+
+declared_short : (ds : Declared) → DeclaresShort ds → HasShortIntegers (net_of_declared ds)
+declared_short ds short = record {
+  places_short = refl;
+  variables_short = list_all-from_AllPass is_short ds.variables (All-from_recursion IsShortColoured ds.variables short.variables);
+}
+
 -- ---- the document
 
 module _ (ds : Declared) (d : RawDocument) (trees : DocumentTrees) (are : AreTrees d trees) (ds_is : declared_from 0 nothing_declared trees.declarations ≡ read ds) (places : List (List Coloured)) (places_are : each_from (places_of ds) 0 trees.modules ≡ read places) where
@@ -148,10 +169,10 @@ module _ (ds : Declared) (d : RawDocument) (trees : DocumentTrees) (are : AreTre
       hierarchy = is;
       many = many_nets ∙ as_many_trees ds d trees are;
       places = λ m lt. ap names_of_places (own_places m (below m lt))
-          ∙ places_have ds m (raw_at d m) (trees_at trees.modules m) (places_at places m) (trees_are ds d trees are m lt) (places_read ds d trees are places places_are m (below m lt));
-      transitions = λ m lt. transitions_have ds (places_at places m) m (structure_at h m) (raw_at d m) (trees_at trees.modules m) (slice_index_or nets m no_module_net) (trees_are ds d trees are m lt) (net_read m (below m lt));
-      declared = declared_well.named;
-      few_variables = declared_well.few;
+          ∙ places_have ds m (raw_module_at d m) (trees_at trees.modules m) (places_at places m) (trees_are ds d trees are m lt) (places_read ds d trees are places places_are m (below m lt));
+      transitions = λ m lt. transitions_have ds (places_at places m) m (structure_at h m) (raw_module_at d m) (trees_at trees.modules m) (slice_index_or nets m no_module_net) (trees_are ds d trees are m lt) (net_read m (below m lt));
+      distinct = declared_distinct ds declared_well.named;
+      spelled = declared_spelled ds declared_well.named;
     }
 
     places_short : (m : ℕ) → m < length trees.modules → AllByRecursion IsShortColoured (slice_index_or nets m no_module_net).places
@@ -160,12 +181,15 @@ module _ (ds : Declared) (d : RawDocument) (trees : DocumentTrees) (are : AreTre
 
     all_short : HasShortParts (record { declared = ds; hierarchy = h; modules = nets })
     all_short = record {
-      declared = declared_well.short;
+      declared = declared_short ds declared_well.short;
       places = λ m lt. places_short m (subst (λ (k : ℕ). m < k) many_nets lt);
     }
 
--- What is accepted of a document has the names that the document writes, and its integers have 64 bits.
-pub accepted_as_written : (d : RawDocument) (a : PlainAccepted) → accepted_in d (read a) → HasItsNames d a × HasShortParts a
+    all_written : IsAsWritten d (record { declared = ds; hierarchy = h; modules = nets })
+    all_written = record { names = all_have; short = all_short; few_variables = declared_well.few }
+
+-- The law.
+pub accepted_as_written : (d : RawDocument) (a : PlainAccepted) → accepted_in d (read a) → IsAsWritten d a
 unfolding accepted_in
 accepted_as_written d a h =
     let trees = step_parts (such_that (AreTrees d)) _ a h in
@@ -175,5 +199,5 @@ accepted_as_written d a h =
     let nets = step_parts (nets_so ds.0 places.0 hierarchy.0 trees.0.modules) _ a hierarchy.2 in
     let are = such_holds (AreTrees d) trees.0 trees.1 in
     let checked = kept ds.0 d hierarchy.0 (checked_read of_modules (IsChecked ds.0 d) hierarchy.0 hierarchy.1) in
-    subst (λ (x : PlainAccepted). HasItsNames d x × HasShortParts x) (sym (same_read a (record { declared = ds.0; hierarchy = hierarchy.0; modules = nets.0 }) nets.2))
-    (all_have ds.0 d trees.0 are (sym ds.1) places.0 (sym places.1) hierarchy.0 checked.is nets.0 nets.1, all_short ds.0 d trees.0 are (sym ds.1) places.0 (sym places.1) hierarchy.0 checked.is nets.0 nets.1)
+    subst (IsAsWritten d) (sym (same_read a (record { declared = ds.0; hierarchy = hierarchy.0; modules = nets.0 }) nets.2))
+    (all_written ds.0 d trees.0 are (sym ds.1) places.0 (sym places.1) hierarchy.0 checked.is nets.0 nets.1)

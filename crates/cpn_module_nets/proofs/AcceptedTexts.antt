@@ -19,8 +19,8 @@ use Rattle.cpn_document.specs.declared.pointers.Pointer.TheVariants as pointers
 use Rattle.cpn_readings.proofs.Readings.{same_read, steps}
 use Rattle.cpn_module_trees.specs.Parsing.{Parsing}
 use Rattle.cpn_module_trees.specs.Trees.{PlaceTrees}
+use Rattle.cpn_accepted.specs.Nets.{Initial, IsMeant, IsOfColour, colour_at}
 use Rattle.cpn_module_nets.specs.Reading.{Reading, read, each_from}
-use Rattle.cpn_module_nets.specs.Nets.{Initial, IsMeant, IsOfColour, colour_at}
 use Rattle.cpn_module_nets.specs.Accepted.{tree_at, accepted_at, declared_with, declared_from, initial_at, initial_of}
 use Rattle.cpn_module_nets.specs.Pointers.{initial_pointer}
 

@@ -16,11 +16,12 @@ use Rattle.cpn_module_trees.specs.Parsing.{Parsing}
 use Rattle.cpn_module_trees.specs.Trees.{TransitionTrees, ModuleTrees}
 use Rattle.cpn_readings.specs.ItemByItem.{EachIs}
 use Rattle.cpn_readings.proofs.Readings.{same_read, steps}
+use Rattle.cpn_accepted.specs.Completed.{with_variables, IsCompleted}
 use Rattle.cpn_module_nets.specs.Reading.{read, each_from}
 use Rattle.cpn_module_nets.specs.Fitting.{GoTogether}
 use Rattle.cpn_module_nets.specs.Pointers.{expr_pointer, guard_pointer, delay_pointer}
 use Rattle.cpn_module_nets.specs.Accepted.{tree_at, accepted_at, guard_at, delay_at, bare_transition, Sides, no_ends, ends_at, arc_of, inputs_of, outputs_of, joined_from}
-use Rattle.cpn_module_nets.specs.Transitions.{with_variables, IsCompleted, HasItsTerms}
+use Rattle.cpn_module_nets.specs.Transitions.{HasItsTerms}
 use Rattle.cpn_module_nets.proofs.AcceptedTexts.{accepted_is, each_from_all}
 use Rattle.cpn_module_nets.proofs.AcceptedArcs.{IsGoodArc, IsGoodInput, IfThere, AreGoodSides, arc_good, inputs_all, outputs_all}
 use Rattle.cpn_module_nets.proofs.ListFacts.{all_below}

@@ -9,7 +9,8 @@ use Rattle.cpn_core.specs.declared.nets.Transition.{Transition}
 use Rattle.cpn_typing.specs.Names.{ok, Refusal as TypeRefusal}
 use Rattle.cpn_typing.specs.BindableRule.{IsBindableAnswer}
 use Rattle.cpn_typing.specs.Answers.{RefusesBy as ForbidsBy}
-use Rattle.cpn_module_nets.specs.Reading.{NetRefusal, Reading, read, inscription, typing}
+use Rattle.cpn_text_refusals.specs.Refusals.{typing}
+use Rattle.cpn_module_nets.specs.Reading.{NetRefusal, Reading, read, inscription}
 use Rattle.cpn_module_nets.specs.Answers.{RefusesBy}
 use Rattle.cpn_module_nets.specs.Transitions.{HasItsTerms, AreBindable, none_left, these_are, one_is_not}
 use Rattle.cpn_module_nets.specs.Pointers.{transition_pointer}

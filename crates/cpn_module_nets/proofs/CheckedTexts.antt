@@ -3,7 +3,8 @@ use Rattle.std.proofs.Common.{◌≡◌, refl}
 use Rattle.std.specs.Prelude.{Option, Some, None, option_map}
 use Rattle.cpn_typing.specs.Names.{Checked, Refusal as TypeRefusal}
 use Rattle.cpn_typing.specs.Answers.{Refuses as Forbids}
-use Rattle.cpn_module_nets.specs.Reading.{typing, inscription, NetRefusal, Reading, ◌>>=◌}
+use Rattle.cpn_text_refusals.specs.Refusals.{typing}
+use Rattle.cpn_module_nets.specs.Reading.{inscription, NetRefusal, Reading, ◌>>=◌}
 use Rattle.cpn_module_nets.specs.Accepted.{accepted_at}
 use Rattle.cpn_module_nets.specs.Answers.{Refuses}
 use Rattle.cpn_document.specs.declared.pointers.Pointer.{Pointer}

@@ -25,11 +25,11 @@ use Rattle.cpn_readings.specs.ItemByItem.{EachIs}
 use Rattle.cpn_readings.proofs.Readings.{same_read, steps}
 use Rattle.cpn_module_trees.specs.Parsing.{Parsing}
 use Rattle.cpn_module_trees.specs.Trees.{TransitionTrees}
+use Rattle.cpn_accepted.specs.Completed.{IsCompleted}
+use Rattle.cpn_accepted.specs.Nets.{colour_at}
 use Rattle.cpn_module_nets.specs.Reading.{read, each_from}
 use Rattle.cpn_module_nets.specs.Pointers.{expr_pointer, guard_pointer, delay_pointer}
-use Rattle.cpn_module_nets.specs.Nets.{colour_at}
 use Rattle.cpn_module_nets.specs.Accepted.{tree_at, guard_at, delay_at, bare_transition, Sides, with_first, arc_at, sides_of, inscribed, arc_with, no_ends, ends_at, arc_of, is_at, inputs_of, outputs_of, joined_from}
-use Rattle.cpn_module_nets.specs.Transitions.{IsCompleted}
 use Rattle.cpn_module_nets.proofs.AcceptedArcs.{arc_case}
 use Rattle.cpn_module_nets.proofs.AcceptedTexts.{each_from_all}
 use Rattle.cpn_module_nets.proofs.ListFacts.{all_below}

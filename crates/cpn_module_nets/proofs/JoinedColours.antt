@@ -26,16 +26,17 @@ use Rattle.cpn_module_trees.specs.Trees.{PlaceTrees, DocumentTrees, ArePlaceTree
 use Rattle.cpn_typing.specs.Names.{Name, Declared, colour_named, unknown}
 use Rattle.cpn_typing.specs.Declarations.{colour_of}
 use Rattle.cpn_typing.proofs.Consistent.{required_is}
+use Rattle.cpn_accepted.specs.AsWritten.{raw_module_at}
+use Rattle.cpn_accepted.specs.Nets.{PlainAccepted, places_at, module_net_at, colour_at, colour_of_place, AgreeInColour}
 use Rattle.cpn_module_nets.specs.Reading.{read, each_from}
 use Rattle.cpn_module_nets.specs.Accepted.{accepted_at, net_place, places_of}
 use Rattle.cpn_module_nets.specs.Fitting.{trees_at}
-use Rattle.cpn_module_nets.specs.Nets.{PlainAccepted, places_at, module_net_at, colour_at, colour_of_place, AgreeInColour}
 use Rattle.cpn_module_nets.specs.Pointers.{colour_pointer}
 use Rattle.cpn_module_nets.proofs.AcceptedTexts.{accepted_is, each_from_at, no_place_trees}
 use Rattle.cpn_module_nets.proofs.CheckedModules.{IsKept}
 use Rattle.cpn_module_nets.proofs.KeptRules.{AreKept, both_kept, test_kept, each_with, kept_at}
 use Rattle.cpn_module_nets.proofs.ListFacts.{all_below}
-use Rattle.cpn_module_nets.proofs.ModuleParts.{each_is_at, each_is_long, all_recursive, raw_at, structure_is, trees_are, as_many_trees, places_read}
+use Rattle.cpn_module_nets.proofs.ModuleParts.{each_is_at, each_is_long, all_recursive, structure_is, trees_are, as_many_trees, places_read}
 
 -- ---- colour sets by their names
 
@@ -58,15 +59,15 @@ placed ds m i place made h =
 
 module _ (ds : Declared) (d : RawDocument) (trees : DocumentTrees) (are : AreTrees d trees) (places : List (List Coloured)) (places_are : each_from (places_of ds) 0 trees.modules ≡ read places) where
   -- the colour set of a place of a module is that of its name in the document
-  named_colour : (m p : ℕ) → m < length d.modules → p < length (raw_at d m).places → colour_named (colour_name d m p) ds ≡ Some (colour_at (places_at places m) p)
+  named_colour : (m p : ℕ) → m < length d.modules → p < length (raw_module_at d m).places → colour_named (colour_name d m p) ds ≡ Some (colour_at (places_at places m) p)
   named_colour m p within lt =
       let tree = trees_at trees.modules m in
       let here : m < length trees.modules = subst (λ k. m < k) (sym (as_many_trees ds d trees are)) within in
       let each = (trees_are ds d trees are m within).places in
-      let long = longer (raw_at d m).places tree.places each in
+      let long = longer (raw_module_at d m).places tree.places each in
       let made : net_place ds m (0 + p) (slice_index_or tree.places p no_place_trees) ≡ read (slice_index_or (places_at places m) p nothing) =
       each_from_at (net_place ds m) 0 tree.places (places_at places m) p no_place_trees nothing (places_read ds d trees are places places_are m here) (subst (λ k. p < k) (sym long) lt) in
-      let tree_is = each_is_at ArePlaceTrees (raw_at d m).places tree.places p no_place no_place_trees each lt in
+      let tree_is = each_is_at ArePlaceTrees (raw_module_at d m).places tree.places p no_place no_place_trees each lt in
       subst (λ n. colour_named n ds ≡ Some (colour_at (places_at places m) p)) tree_is.colour (placed ds m (0 + p) (slice_index_or tree.places p no_place_trees) (slice_index_or (places_at places m) p nothing) made)
     where
       longer : (raws : List RawPlace) (ts : List PlaceTrees) → EachIs ArePlaceTrees raws ts → length ts ≡ length raws
@@ -79,8 +80,8 @@ module _ (ds : Declared) (d : RawDocument) (trees : DocumentTrees) (are : AreTre
     many_modules : length h.modules ≡ length d.modules
     many_modules = ap (λ (x : PlainHierarchy). length x.modules) checked.is ∙ length-map d.modules (structure_in d)
 
-    many_places : (m : ℕ) → m < length d.modules → places_in (structure_at h m) ≡ length (raw_at d m).places
-    many_places m lt = ap (λ (x : PlainHierarchy). places_in (structure_at x m)) checked.is ∙ ap places_in (structure_is d m lt) ∙ length-map (raw_at d m).places (λ (p : RawPlace). p.port)
+    many_places : (m : ℕ) → m < length d.modules → places_in (structure_at h m) ≡ length (raw_module_at d m).places
+    many_places m lt = ap (λ (x : PlainHierarchy). places_in (structure_at x m)) checked.is ∙ ap places_in (structure_is d m lt) ∙ length-map (raw_module_at d m).places (λ (p : RawPlace). p.port)
 
     -- places whose names of colour sets agree
     one_colour : (m p n q : ℕ) → m < length h.modules → p < places_in (structure_at h m) → n < length h.modules → q < places_in (structure_at h n) → colours_agree ds (colour_name d m p) (colour_name d n q) ≡ true → colour_of_place accepted m p ≡ colour_of_place accepted n q

@@ -5,17 +5,18 @@ use Rattle.std.specs.List.{AllByRecursion}
 use Rattle.std.proofs.lemmas.List.{length-map, get_or-map}
 use Rattle.std.proofs.Math.Nat.{zero-add}
 use Rattle.cpn_definitions.specs.Net.{Coloured}
-use Rattle.cpn_document.specs.Document.{RawPlace, RawModule, RawDocument}
+use Rattle.cpn_document.specs.Document.{RawPlace, RawDocument}
 use Rattle.cpn_module.specs.Hierarchy.{PlainEnds, PlainStructure, PlainHierarchy, no_structure, structure_at}
 use Rattle.cpn_module.specs.Named.{no_module, ends_in, structure_in, hierarchy_in}
 use Rattle.cpn_module.specs.Ranges.{IsNode, AreEnds, HasItsNumbers}
 use Rattle.cpn_module_trees.specs.Trees.{DocumentTrees, ArePlaceTrees, AreTransitionTrees, IsArcTree, AreModuleTrees, AreTrees}
 use Rattle.cpn_readings.specs.ItemByItem.{EachIs}
 use Rattle.cpn_typing.specs.Names.{Declared}
+use Rattle.cpn_accepted.specs.AsWritten.{raw_module_at}
+use Rattle.cpn_accepted.specs.Nets.{places_at}
 use Rattle.cpn_module_nets.specs.Reading.{read, each_from}
 use Rattle.cpn_module_nets.specs.Accepted.{net_place, places_of}
 use Rattle.cpn_module_nets.specs.Fitting.{GoTogether, no_trees, trees_at}
-use Rattle.cpn_module_nets.specs.Nets.{places_at}
 use Rattle.cpn_module_nets.proofs.AcceptedTexts.{each_from_long, each_from_at}
 use Rattle.cpn_module_nets.proofs.CheckedModules.{IsKept}
 
@@ -40,18 +41,14 @@ all_recursive P (x ∷ xs) all = (all 0 x (omega arith), all_recursive P xs (λ 
 
 -- ---- the module of a number
 
--- the module as it is written
-abbrev pub raw_at : RawDocument → ℕ → RawModule
-raw_at d m = slice_index_or d.modules m no_module
-
-pub structure_is : (d : RawDocument) (m : ℕ) → m < length d.modules → structure_at (hierarchy_in d) m ≡ structure_in d (raw_at d m)
+pub structure_is : (d : RawDocument) (m : ℕ) → m < length d.modules → structure_at (hierarchy_in d) m ≡ structure_in d (raw_module_at d m)
 structure_is d m lt = get_or-map (structure_in d) d.modules m no_module no_structure lt
 
 module _ (ds : Declared) (d : RawDocument) (trees : DocumentTrees) (are : AreTrees d trees) where
   pub as_many_trees : length trees.modules ≡ length d.modules
   as_many_trees = each_is_long AreModuleTrees d.modules trees.modules are.modules
 
-  pub trees_are : (m : ℕ) → m < length d.modules → AreModuleTrees (raw_at d m) (trees_at trees.modules m)
+  pub trees_are : (m : ℕ) → m < length d.modules → AreModuleTrees (raw_module_at d m) (trees_at trees.modules m)
   trees_are m lt = each_is_at AreModuleTrees d.modules trees.modules m no_module no_trees are.modules lt
 
   module _ (places : List (List Coloured)) (places_are : each_from (places_of ds) 0 trees.modules ≡ read places) where
@@ -68,9 +65,9 @@ module _ (ds : Declared) (d : RawDocument) (trees : DocumentTrees) (are : AreTre
     pub as_many_places : (m : ℕ) → m < length trees.modules → length (places_at places m) ≡ length (trees_at trees.modules m).places
     as_many_places m lt = each_from_long (net_place ds m) 0 (trees_at trees.modules m).places (places_at places m) (places_read m lt)
 
-    together : (m : ℕ) → m < length trees.modules → (s : PlainStructure) → s ≡ structure_in d (raw_at d m) → All (AreEnds s) s.arcs → GoTogether (places_at places m) s (trees_at trees.modules m)
+    together : (m : ℕ) → m < length trees.modules → (s : PlainStructure) → s ≡ structure_in d (raw_module_at d m) → All (AreEnds s) s.arcs → GoTogether (places_at places m) s (trees_at trees.modules m)
     together m lt s is ends =
-        let raw = raw_at d m in
+        let raw = raw_module_at d m in
         let below : m < length d.modules = subst (λ k. m < k) as_many_trees lt in
         let tree = trees_are m below in
         let many = as_many_places m lt in

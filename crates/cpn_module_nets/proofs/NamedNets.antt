@@ -12,10 +12,10 @@ use Rattle.cpn_typing.specs.Declarations.{colour_of}
 use Rattle.cpn_typing.specs.Consistency.{IsConsistent}
 use Rattle.cpn_typing.proofs.Consistent.{required_is}
 use Rattle.cpn_typing.proofs.MeaningsInNets.{own_sets}
+use Rattle.cpn_accepted.specs.Nets.{constructor_names, net_from}
 use Rattle.cpn_module_nets.specs.Reading.{read, each_from}
 use Rattle.cpn_module_trees.specs.Trees.{PlaceTrees}
 use Rattle.cpn_module_nets.specs.Accepted.{accepted_at, net_place}
-use Rattle.cpn_module_nets.specs.Nets.{constructor_names, net_from}
 use Rattle.cpn_module_nets.proofs.AcceptedTexts.{each_from_all, accepted_is}
 use Rattle.cpn_module_nets.proofs.ListFacts.{all_numbered, passes_all}
 use Rattle.cpn_readings.proofs.Readings.{same_read, steps}

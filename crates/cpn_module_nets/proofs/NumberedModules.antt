@@ -12,9 +12,9 @@ use Rattle.cpn_module.specs.declared.hierarchy.Structure.{Structure}
 use Rattle.cpn_module_trees.specs.Trees as plain
 use Rattle.cpn_module_trees.specs.TreesViews.{module_trees_view}
 use Rattle.cpn_module_trees.specs.declared.trees.ModuleTrees.{ModuleTrees}
+use Rattle.cpn_accepted.specs.Nets.{places_at}
 use Rattle.cpn_module_nets.specs.AcceptedViews.{places_view}
 use Rattle.cpn_module_nets.specs.Fitting.{no_trees, trees_at}
-use Rattle.cpn_module_nets.specs.Nets.{places_at}
 
 pub structure_there : (h : Hierarchy) (i : ℕ) (s : Structure) → i < length h.modules.items → s ≡ get_or h.modules.items i s → structure_view s ≡ structure_at (hierarchy_view h) i
 structure_there h i s lt at = ap structure_view at ∙ sym (get_or-map structure_view h.modules.items i s no_structure lt)

@@ -19,11 +19,12 @@ use Rattle.cpn_document.specs.Document.{RawDocument}
 use Rattle.cpn_module.specs.Checked.{IsChecked}
 use Rattle.cpn_module.specs.Hierarchy.{PlainStructure, PlainHierarchy, structure_at}
 use Rattle.cpn_module_trees.specs.Trees.{ModuleTrees, AreTrees}
+use Rattle.cpn_accepted.specs.Completed.{with_variables, IsCompleted}
+use Rattle.cpn_accepted.specs.Nets.{places_at, net_from}
 use Rattle.cpn_module_nets.proofs.OneTree.{trees_one}
 use Rattle.cpn_module_nets.specs.Reading.{of_modules, read, each_from}
-use Rattle.cpn_module_nets.specs.Nets.{places_at, net_from}
 use Rattle.cpn_module_nets.specs.Accepted.{declared_from, places_of, initial_of, bare_transition, arc_of, joined_from}
-use Rattle.cpn_module_nets.specs.Transitions.{with_variables, IsCompleted, AreBindable, none_left, these_are, one_is_not}
+use Rattle.cpn_module_nets.specs.Transitions.{AreBindable, none_left, these_are, one_is_not}
 use Rattle.cpn_module_nets.specs.Documents.{transitions_so, net_so, nets_so, accepted_in}
 use Rattle.cpn_module_nets.proofs.CheckedModules.{checks_one}
 

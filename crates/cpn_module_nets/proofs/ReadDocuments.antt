@@ -11,8 +11,8 @@ use Rattle.cpn_module.specs.Hierarchy.{PlainHierarchy}
 use Rattle.cpn_module.specs.Refusals.{ModuleRefusal}
 use Rattle.cpn_module_trees.specs.Trees.{DocumentTrees, AreTrees}
 use Rattle.cpn_typing.specs.Names.{Declared, nothing_declared}
+use Rattle.cpn_accepted.specs.Nets.{PlainModuleNet, PlainAccepted}
 use Rattle.cpn_module_nets.specs.Reading.{NetRefusal, of_modules, Reading, read, each_from}
-use Rattle.cpn_module_nets.specs.Nets.{PlainModuleNet, PlainAccepted}
 use Rattle.cpn_module_nets.specs.Accepted.{declared_from, places_of}
 use Rattle.cpn_module_nets.specs.Documents.{nets_so, accepted_in}
 use Rattle.cpn_module_nets.specs.Answers.{Refuses, RefusesBy}

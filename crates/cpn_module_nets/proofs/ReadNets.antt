@@ -8,10 +8,11 @@ use Rattle.cpn_readings.proofs.RelatedReadings.{then_read, refused_first, refuse
 use Rattle.cpn_module.specs.Hierarchy.{PlainStructure}
 use Rattle.cpn_module_trees.specs.Trees.{ModuleTrees}
 use Rattle.cpn_typing.specs.Names.{Declared}
+use Rattle.cpn_accepted.specs.Completed.{IsCompleted}
+use Rattle.cpn_accepted.specs.Nets.{Initial, net_from}
 use Rattle.cpn_module_nets.specs.Reading.{NetRefusal, Reading, read, each_from}
-use Rattle.cpn_module_nets.specs.Nets.{Initial, net_from}
 use Rattle.cpn_module_nets.specs.Accepted.{initial_of, bare_transition, Sides, arc_of, joined_from}
-use Rattle.cpn_module_nets.specs.Transitions.{IsCompleted, AreBindable}
+use Rattle.cpn_module_nets.specs.Transitions.{AreBindable}
 use Rattle.cpn_module_nets.specs.Documents.{transitions_so, net_so}
 use Rattle.cpn_module_nets.specs.Answers.{Refuses, RefusesBy}
 

@@ -13,9 +13,10 @@ use Rattle.cpn_typing.specs.Names.{Declared, Checked, ok}
 use Rattle.cpn_typing.proofs.MeaningfulTransitions.{accepted_is_meaningful}
 use Rattle.cpn_typing.proofs.SolvableTransitions.{accepted_is_solvable}
 use Rattle.cpn_readings.specs.ItemByItem.{EachIs}
+use Rattle.cpn_accepted.specs.Completed.{IsCompleted}
+use Rattle.cpn_accepted.specs.Nets.{net_from}
 use Rattle.cpn_module_nets.specs.Reading.{Reading, read}
-use Rattle.cpn_module_nets.specs.Nets.{net_from}
-use Rattle.cpn_module_nets.specs.Transitions.{IsCompleted, AreBindable, none_left, these_are}
+use Rattle.cpn_module_nets.specs.Transitions.{AreBindable, none_left, these_are}
 use Rattle.cpn_module_nets.specs.Transitions as listed
 use Rattle.cpn_module_nets.proofs.AcceptedArcs.{IsGoodArc, IsGoodInput}
 use Rattle.cpn_module_nets.proofs.AcceptedTransitions.{IsGoodTransition, good_accepted}

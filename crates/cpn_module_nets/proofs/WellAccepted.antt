@@ -16,8 +16,9 @@ use Rattle.cpn_readings.specs.Relations.{just, such_that, refused_by, each_so}
 use Rattle.cpn_readings.proofs.Readings.{same_read}
 use Rattle.cpn_readings.proofs.RelatedReadings.{step_parts, such_holds}
 use Rattle.cpn_typing.specs.Names.{Declared, nothing_declared}
+use Rattle.cpn_accepted.specs.AsWritten.{raw_module_at}
+use Rattle.cpn_accepted.specs.Nets.{PlainModuleNet, PlainAccepted, places_at, no_module_net, IsWellNet, IsWellAccepted}
 use Rattle.cpn_module_nets.specs.Reading.{Reading, read, of_modules, each_from}
-use Rattle.cpn_module_nets.specs.Nets.{PlainModuleNet, PlainAccepted, places_at, no_module_net, IsWellNet, IsWellAccepted}
 use Rattle.cpn_module_nets.specs.Accepted.{declared_from, places_of}
 use Rattle.cpn_module_nets.specs.Documents.{net_so, nets_so, accepted_in}
 use Rattle.cpn_module_nets.specs.Fitting.{no_trees, trees_at}
@@ -28,7 +29,7 @@ use Rattle.cpn_module_nets.proofs.CheckedModules.{IsKept, kept}
 use Rattle.cpn_module_nets.proofs.ClosedFunctions.{functions_closed}
 use Rattle.cpn_module_nets.proofs.JoinedColours.{agree_in_colour}
 use Rattle.cpn_module_nets.proofs.ListFacts.{all_below, all_numbered}
-use Rattle.cpn_module_nets.proofs.ModuleParts.{raw_at, structure_is, as_many_trees, trees_are, places_read, all_together, as_many_structures}
+use Rattle.cpn_module_nets.proofs.ModuleParts.{structure_is, as_many_trees, trees_are, places_read, all_together, as_many_structures}
 use Rattle.cpn_module_nets.proofs.WellNets.{IsNetOf, net_is}
 
 -- ---- a list whose items are read one after another
@@ -83,7 +84,7 @@ module _ (ds : Declared) (d : RawDocument) (few : HaveFewArcs d) (trees : Docume
     net_at_is : (m : ℕ) → m < length trees.modules → IsNetOf ds (places_at places m) (structure_at h m) (slice_index_or nets m no_module_net)
     net_at_is m lt =
         let within : m < length d.modules = subst (λ k. m < k) (as_many_trees ds d trees are) lt in
-        net_is ds (declared_good trees.declarations ds ds_is) d (raw_at d m) (all_below HasFewArcs no_module d.modules m within few) (places_at places m) m (structure_at h m) (ap (λ x. structure_at x m) checked.is ∙ structure_is d m within)
+        net_is ds (declared_good trees.declarations ds ds_is) d (raw_module_at d m) (all_below HasFewArcs no_module d.modules m within few) (places_at places m) m (structure_at h m) (ap (λ x. structure_at x m) checked.is ∙ structure_is d m within)
         (trees_at trees.modules m) (trees_are ds d trees are m within) (all_together ds d trees are places places_are h checked numbers m lt) (places_read ds d trees are places places_are m lt) (slice_index_or nets m no_module_net) (net_read m lt)
 
     all_well : IsWellAccepted (record { declared = ds; hierarchy = h; modules = nets })

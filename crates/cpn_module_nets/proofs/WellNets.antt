@@ -14,10 +14,11 @@ use Rattle.cpn_readings.proofs.Readings.{same_read}
 use Rattle.cpn_readings.proofs.RelatedReadings.{step_parts, such_holds}
 use Rattle.cpn_typing.specs.Consistency.{IsConsistent}
 use Rattle.cpn_typing.specs.Names.{Declared}
+use Rattle.cpn_accepted.specs.Completed.{IsCompleted}
+use Rattle.cpn_accepted.specs.Nets.{Initial, PlainModuleNet, IsWellNet, net_from}
 use Rattle.cpn_module_nets.specs.Reading.{read, each_from}
-use Rattle.cpn_module_nets.specs.Nets.{Initial, PlainModuleNet, IsWellNet, net_from}
 use Rattle.cpn_module_nets.specs.Accepted.{net_place, initial_of, bare_transition, Sides, arc_of, joined_from}
-use Rattle.cpn_module_nets.specs.Transitions.{IsCompleted, AreBindable}
+use Rattle.cpn_module_nets.specs.Transitions.{AreBindable}
 use Rattle.cpn_module_nets.specs.Documents.{transitions_so, net_so}
 use Rattle.cpn_module_nets.specs.Fitting.{GoTogether}
 use Rattle.cpn_module_nets.proofs.AcceptedTexts.{each_from_long, initials_meant, initials_coloured}

@@ -21,8 +21,9 @@ use Rattle.cpn_module.specs.declared.hierarchy.Node.TheVariants as nodes
 use Rattle.cpn_module.specs.Hierarchy.{PlainEnds, PlainStructure}
 use Rattle.cpn_module_trees.specs.Parsing.{Parsing, parsed, unparsed}
 use Rattle.cpn_module_trees.specs.Trees.{PlaceTrees, TransitionTrees, ModuleTrees}
-use Rattle.cpn_module_nets.specs.Reading.{no_tree, typing, inscription, Reading, read, refused, ◌>>=◌, each_from}
-use Rattle.cpn_module_nets.specs.Nets.{Initial, colour_at}
+use Rattle.cpn_accepted.specs.Nets.{Initial, colour_at}
+use Rattle.cpn_text_refusals.specs.Refusals.{no_tree, typing}
+use Rattle.cpn_module_nets.specs.Reading.{inscription, Reading, read, refused, ◌>>=◌, each_from}
 use Rattle.cpn_module_nets.specs.Pointers.{expr_pointer, colour_pointer, initial_pointer, delay_pointer, guard_pointer}
 
 -- the tree of a text at a pointer, or the refusal of the text

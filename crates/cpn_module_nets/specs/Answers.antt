@@ -1,24 +1,15 @@
 -- How a call answers what a document, or a part of one, is read as.
 use Rattle.std.specs.Prelude.{◌≡◌, ℕ, List, Option, Some, None, option_map, Result, Ok, Err}
 use Rattle.cpn_typing.specs.Names.{unknown}
-use Rattle.cpn_declared.specs.Answers.{refusal_of as type_refusal_of}
-use Rattle.cpn_types.specs.declared.inscription_errors.InscriptionError.{InscriptionError}
-use Rattle.cpn_types.specs.declared.inscription_errors.InscriptionError.TheVariants as texts
 pub use Rattle.cpn_readings.specs.Reading.{Refuses}
 pub use Rattle.cpn_readings.specs.Relations.{RefusesBy}
-use Rattle.cpn_module_trees.specs.Parsing.{lexical, syntactic}
 use Rattle.cpn_module.specs.Answers.{refusal_of as module_refusal_of}
-use Rattle.cpn_module_nets.specs.Reading.{TextRefusal, no_tree, typing, NetRefusal, of_modules, inscription, Reading, read}
+use Rattle.cpn_text_refusals.specs.Refusals.{typing}
+use Rattle.cpn_text_refusals.specs.Answers.{text_refusal_of}
+use Rattle.cpn_module_nets.specs.Reading.{NetRefusal, of_modules, inscription, Reading, read}
 use Rattle.cpn_module_nets.specs.Pointers.{colour_pointer}
 use Rattle.cpn_module_nets.specs.declared.refusals.NetError.{NetError}
 use Rattle.cpn_module_nets.specs.declared.refusals.NetError.TheVariants as nets
-
--- the refusal of a text that an error is; want of memory is none
-abbrev pub text_refusal_of : InscriptionError → Option TextRefusal
-text_refusal_of texts.Memory = None
-text_refusal_of (texts.Lex e) = Some (no_tree (lexical e))
-text_refusal_of (texts.Syntax e) = Some (no_tree (syntactic e))
-text_refusal_of (texts.Typing e) = option_map typing (type_refusal_of e)
 
 -- the refusal of the nets of a document that an error is
 abbrev pub net_refusal_of : NetError → Option NetRefusal

@@ -12,10 +12,11 @@ use Rattle.cpn_module.specs.Checked.{IsChecked}
 use Rattle.cpn_module.specs.Hierarchy.{PlainStructure, PlainHierarchy, structure_at}
 use Rattle.cpn_typing.specs.Names.{Declared, nothing_declared}
 use Rattle.cpn_module_trees.specs.Trees.{ModuleTrees, AreTrees}
+use Rattle.cpn_accepted.specs.Completed.{IsCompleted}
+use Rattle.cpn_accepted.specs.Nets.{PlainModuleNet, PlainAccepted, places_at, net_from}
 use Rattle.cpn_module_nets.specs.Reading.{of_modules, Reading, read, each_from}
-use Rattle.cpn_module_nets.specs.Nets.{PlainModuleNet, PlainAccepted, places_at, net_from}
 use Rattle.cpn_module_nets.specs.Accepted.{declared_from, places_of, initial_of, bare_transition, arc_of, joined_from}
-use Rattle.cpn_module_nets.specs.Transitions.{IsCompleted, AreBindable}
+use Rattle.cpn_module_nets.specs.Transitions.{AreBindable}
 
 -- the transitions of a module with their arcs and their variables, which are bindable
 unfoldable pub transitions_so : Declared → List Coloured → ℕ → PlainStructure → ModuleTrees → Reading (List PlainTransition) → Type 0

@@ -1,11 +1,9 @@
 pub mod Pointers
 pub mod Reading
-pub mod Nets
 pub mod Accepted
 pub mod Transitions
 pub mod Documents
 pub mod Answers
-pub mod Views
 pub mod AcceptedViews
 pub mod Joining
 pub mod Fitting

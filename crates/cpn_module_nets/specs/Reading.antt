@@ -1,16 +1,10 @@
 -- Readings: what a document, or a part of one, is read as: a value, or the first refusal. Source: own choice.
-use Rattle.cpn_typing.specs.Names.{Refusal as TypeRefusal}
 use Rattle.cpn_readings.specs.Reading as readings
 pub use Rattle.cpn_readings.specs.Reading.{read, refused, ◌>>=◌}
 unfoldable pub use Rattle.cpn_readings.specs.Reading.{each_from}
 use Rattle.cpn_document.specs.declared.pointers.Pointer.{Pointer}
 use Rattle.cpn_module.specs.Refusals.{ModuleRefusal}
-use Rattle.cpn_module_trees.specs.Parsing.{NoTree}
-
--- Why a text of the inscription language is refused: it has no tree; its tree breaks a rule of typing.
-pub data TextRefusal : Type 0 where
-  no_tree : NoTree → TextRefusal
-  typing : TypeRefusal → TextRefusal
+use Rattle.cpn_text_refusals.specs.Refusals.{TextRefusal}
 
 -- Why the nets of a document are refused: its modules make no hierarchy; the text at a place is refused, or, of a transition, its
 -- variables are.

@@ -1,23 +1,14 @@
--- The variables of the transitions of a module: they are listed, and have to be bindable. Source: own choice.
+-- The variables of the transitions of a module have to be bindable. Source: own choice.
 use Rattle.std.specs.Prelude.{◌≡◌, ℕ, suc, Bool, true, List, [], ◌∷◌}
 use Rattle.std.specs.List.{AllByRecursion}
 use Rattle.cpn_definitions.specs.Bindable.{binding_terms}
 use Rattle.cpn_definitions.specs.Net.{PlainTransition, PlainNet}
 use Rattle.cpn_typing.specs.Names.{ok}
 use Rattle.cpn_typing.specs.Names as checks
-use Rattle.cpn_typing.specs.AcceptedTransitions.{HasItsVariables}
 use Rattle.cpn_typing.specs.BindableRule.{IsBindableAnswer}
-use Rattle.cpn_module_nets.specs.Reading.{typing, inscription, Reading, read, refused}
+use Rattle.cpn_text_refusals.specs.Refusals.{typing}
+use Rattle.cpn_module_nets.specs.Reading.{inscription, Reading, read, refused}
 use Rattle.cpn_module_nets.specs.Pointers.{transition_pointer}
-
--- a transition with these variables
-abbrev pub with_variables : PlainTransition → List ℕ → PlainTransition
-with_variables t xs = record t { vars = xs }
-
--- The transition with its variables listed.
-pub record IsCompleted (bare t : PlainTransition) : Type 0 where
-  pub same : t ≡ with_variables bare t.vars
-  pub variables : HasItsVariables t
 
 -- each input arc of a transition carries the binding terms of its inscription
 abbrev pub HasItsTerms : PlainTransition → Type 0

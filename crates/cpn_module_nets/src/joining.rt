@@ -4,10 +4,10 @@ ghost use Rattle.std.specs.Prelude.{◌≡◌, ◌<◌, [], ◌∷◌, ◌++◌,
 ghost use Rattle.std.specs.List.{AllByRecursion};
 ghost use Rattle.cpn_core.specs.Nets.{arc_view, arcs_view, transition_view};
 ghost use Rattle.cpn_module.specs.declared.hierarchy.Node.TheVariants.{Transition as of_transition};
+ghost use Rattle.cpn_accepted.specs.Completed.{IsCompleted};
 ghost use Rattle.cpn_module_nets.specs.Accepted.{with_first, joined_from};
 ghost use Rattle.cpn_module_nets.specs.AcceptedViews.{sides_view, sides_views};
 ghost use Rattle.cpn_module_nets.specs.Joining.{IsAtOneOf, joined_with};
-ghost use Rattle.cpn_module_nets.specs.Transitions.{IsCompleted};
 ghost use Rattle.cpn_readings.specs.ItemByItem.{EachIs};
 
 use crate::arcs::Sides;

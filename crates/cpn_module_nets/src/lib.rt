@@ -17,5 +17,5 @@ mod refusals;
 mod transitions;
 
 pub use accepting::{accept, one_acceptance};
-pub use nets::{Accepted, ModuleNet};
+pub use cpn_accepted::{Accepted, ModuleNet};
 pub use refusals::NetError;

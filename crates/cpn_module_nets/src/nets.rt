@@ -1,4 +1,4 @@
-//! What is accepted of a document: the net of each module.
+//! The net of each module of a document.
 
 ghost use Rattle.std.specs.Prelude.{◌≡◌, ℕ, ◌<◌, ◌^◌, map, length};
 ghost use Rattle.cpn_core.specs.Nets.{transition_view, place_view};
@@ -6,12 +6,12 @@ ghost use Rattle.cpn_declared.specs.DeclsViews.{decls_view};
 ghost use Rattle.cpn_module.specs.Hierarchy.{structure_at};
 ghost use Rattle.cpn_module.specs.Views.{structure_view, hierarchy_view};
 ghost use Rattle.cpn_module_trees.specs.TreesViews.{module_trees_view};
+ghost use Rattle.cpn_accepted.specs.Views.{module_net_view};
+ghost use Rattle.cpn_accepted.specs.Nets.{places_at};
 ghost use Rattle.cpn_module_nets.specs.Answers.{LoadsBy};
-ghost use Rattle.cpn_module_nets.specs.Views.{module_net_view};
 ghost use Rattle.cpn_module_nets.specs.AcceptedViews.{places_view};
 ghost use Rattle.cpn_module_nets.specs.Documents.{transitions_so, net_so, nets_so};
 ghost use Rattle.cpn_module_nets.specs.Fitting.{GoTogether, trees_at};
-ghost use Rattle.cpn_module_nets.specs.Nets.{places_at};
 
 use crate::arcs::arcs_of;
 use crate::bindable::check_variables;
@@ -19,7 +19,8 @@ use crate::joining::{join_arcs, with_variables};
 use crate::places::initials_of;
 use crate::refusals::NetError;
 use crate::transitions::bare_transitions;
-use cpn_core::{ArcExpr, Place, Transition};
+use cpn_accepted::ModuleNet;
+use cpn_core::{Place, Transition};
 use cpn_module::{Hierarchy, Structure};
 use cpn_module_trees::ModuleTrees;
 use cpn_types::Decls;
@@ -27,28 +28,6 @@ use std::alloc::Global;
 
 /// How many numbers of 32 bits there are.
 const NUMBERS: usize = 4_294_967_296;
-
-/// The net of a module: its transitions know its own places alone.
-#[derive(Drop)]
-pub struct ModuleNet {
-    /// Its places, in order, each of the name that it has in its module.
-    pub places: Vec<Place>,
-    /// Their initial markings, where one is written.
-    pub initials: Vec<Option<ArcExpr>>,
-    /// Its transitions, in order, with the arcs at them. Arcs at substitution transitions are none of the net's.
-    pub transitions: Vec<Transition>,
-}
-
-/// What is accepted of a document.
-#[derive(Drop)]
-pub struct Accepted {
-    /// What is declared.
-    pub decls: Decls,
-    /// How the modules are put together.
-    pub hierarchy: Hierarchy,
-    /// The net of each module, in order.
-    pub modules: Vec<ModuleNet>,
-}
 
 /// The transitions of a module with their arcs and their variables, which have to be bindable.
 fn transitions_of(

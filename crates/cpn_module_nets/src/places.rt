@@ -4,10 +4,10 @@ ghost use Rattle.std.specs.Prelude.{◌≡◌, ℕ, Some, map, option_map, lengt
 ghost use Rattle.cpn_core.specs.Colours.{colour_view};
 ghost use Rattle.cpn_core.specs.Nets.{place_view as net_place_view};
 ghost use Rattle.cpn_declared.specs.DeclsViews.{decls_view};
+ghost use Rattle.cpn_accepted.specs.Views.{initial_view, initials_view};
 ghost use Rattle.cpn_module_nets.specs.Reading.{each_from};
 ghost use Rattle.cpn_module_nets.specs.Accepted.{net_place as net_place_in, places_of as places_in, initial_at, initial_of as initial_in};
 ghost use Rattle.cpn_module_trees.specs.TreesViews.{tree_view, place_trees_view, module_trees_view};
-ghost use Rattle.cpn_module_nets.specs.Views.{initial_view, initials_view};
 ghost use Rattle.cpn_module_nets.specs.AcceptedViews.{places_view};
 ghost use Rattle.cpn_module_nets.specs.Answers.{Loads, IsUnknown};
 

@@ -4,7 +4,8 @@ ghost use Rattle.std.specs.Prelude.{◌≡◌, Some, option_map};
 ghost use Rattle.cpn_declared.specs.Answers.{refusal_of as type_refusal_of};
 ghost use Rattle.cpn_module.specs.Answers.{refusal_of};
 ghost use Rattle.cpn_module_trees.specs.ParsingViews.{unparsed_view};
-ghost use Rattle.cpn_module_nets.specs.Reading.{inscription, no_tree, typing, of_modules};
+ghost use Rattle.cpn_text_refusals.specs.Refusals.{no_tree, typing};
+ghost use Rattle.cpn_module_nets.specs.Reading.{inscription, of_modules};
 ghost use Rattle.cpn_module_nets.specs.Answers.{net_refusal_of};
 ghost use Rattle.cpn_module_nets.specs.declared.refusals.NetError.TheVariants.{Memory as WantsMemory};
 

@@ -5,7 +5,7 @@ use Rattle.cpn_definitions.specs.Inscription.{PlainExpr}
 use Rattle.cpn_definitions.specs.Net.{PlainNet, transition_at}
 use Rattle.cpn_document.specs.Monitors.{RawMonitor, count, size, value, stop_count, stop_size}
 use Rattle.cpn_document.specs.declared.document.Bound.{Bound}
-use Rattle.cpn_module_nets.specs.Reading.{typing}
+use Rattle.cpn_text_refusals.specs.Refusals.{typing}
 use Rattle.cpn_module_trees.specs.Parsing.{Parsing, parsed, IsInscription}
 use Rattle.cpn_monitor.specs.Monitors.{PlainMeasure, counts, sizes, values, stops_by_count, stops_by_size}
 use Rattle.cpn_readings.specs.Reading.{Refuses}

@@ -1,6 +1,6 @@
 -- How a call answers what the monitors of a document are.
 use Rattle.std.specs.Prelude.{◌≡◌, Option, Some, None, option_map, Result, Ok, Err}
-use Rattle.cpn_module_nets.specs.Answers.{text_refusal_of}
+use Rattle.cpn_text_refusals.specs.Answers.{text_refusal_of}
 use Rattle.cpn_readings.specs.Reading.{Refuses}
 use Rattle.cpn_readings.specs.Relations.{RefusesBy}
 use Rattle.cpn_monitor_texts.specs.Reading.{MonitorRefusal, unknown_name, bad_text, Reading, read}

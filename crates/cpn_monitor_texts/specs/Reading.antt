@@ -2,7 +2,7 @@
 use Rattle.std.specs.Prelude.{ℕ}
 use Rattle.cpn_readings.specs.Reading as readings
 pub use Rattle.cpn_readings.specs.Reading.{read, refused, ◌>>=◌}
-use Rattle.cpn_module_nets.specs.Reading.{TextRefusal}
+use Rattle.cpn_text_refusals.specs.Refusals.{TextRefusal}
 
 -- Why monitors are refused: the monitor of a number names a transition, or a place, that is not in the net; its text is refused, as the
 -- texts of nets are, or since it has a variable that is none of its transition's.

@@ -1,7 +1,7 @@
 -- The texts of monitors. Source: own choice.
 use Rattle.std.specs.Prelude.{ℕ, List}
 use Rattle.cpn_definitions.specs.Inscription.{PlainExpr}
-use Rattle.cpn_module_nets.specs.Reading.{no_tree, typing}
+use Rattle.cpn_text_refusals.specs.Refusals.{no_tree, typing}
 use Rattle.cpn_module_trees.specs.Parsing.{Parsing, parsed, unparsed}
 use Rattle.cpn_trees.specs.Trees.{PlainAst}
 use Rattle.cpn_typing.specs.Names.{Declared, Checked, ok}

@@ -1,16 +1,1 @@
-mod AcceptedRuns
-mod AcceptedSessions
-mod FewOpenClaims
-mod NextRuns
-mod OneReport
-mod OptionRanges
-mod OptionRows
-mod ReadDocuments
-mod Readings
-mod RefusalCauses
-mod RefusedDocuments
 mod Rows
-mod SessionRuns
-mod SharedSeats
-mod TakenPhases
-mod WrittenReports

@@ -1,31 +1,11 @@
-//! The program: words and a source in, a report or one error line out.
+//! The program: the words of the command line and standard input in, a report or one error line on standard output.
 //!
-//! `simulate` reads its source to the end, or in mode `large` generates a net, runs the phases of the net, tells its probes, and writes nothing
-//! before the whole report, or the one error line, stands in memory. Each run is driven by workers, who share its book in turns. What the report
-//! says is proved to be legal runs of the document; the crate decides no rule of nets itself.
+//! `main` hands `simulate` the words, the standard streams, two probes of its own and the open gate, and ends with the exit status of the answer.
+//! All else is `cpn_simulation`.
 #![tactic(auto)]
 
-mod answers;
-mod documents;
-#[cfg(test)]
-mod dropped_probes;
-#[cfg(test)]
-mod edited_sessions;
-mod laws;
 mod moments;
-mod no_options;
-mod options;
-mod phases;
-mod refusals;
-#[cfg(test)]
-mod shared_books;
-mod simulation;
-mod statuses;
 mod streaks;
-#[cfg(test)]
-mod two_workers;
-mod words;
-mod workers;
 
 use crate::moments::Moments;
 use crate::streaks::Streak;
@@ -33,17 +13,15 @@ use cpn_core::Memory;
 use cpn_floor::Open;
 use cpn_io::{Stdin, Stdout};
 use cpn_probe::Probe;
-pub use laws::accepted_runs;
-pub use no_options::NoOptions;
-pub use options::{Mode, Options};
-pub use simulation::{refuse_words, simulate};
-pub use statuses::{Status, exit_code};
+pub use cpn_simulation::{
+    Mode, NoOptions, Options, Status, accepted_runs, exit_code, options_from, refuse_words,
+    simulate,
+};
 use std::process::ExitCode;
 use std::rt::Env;
 use std::sync::Wait;
 use std::thread::Threads;
 use std::{env, io};
-pub use words::options_from;
 
 fn main(rt: HostRuntime) -> ExitCode {
     let status = run(&rt).unwrap_or(Status::Memory);

@@ -4,7 +4,6 @@ ghost use Rattle.std.specs.Prelude.{◌<◌, ◌↔◌, IsTrue, All};
 use cpn_classes::Classes;
 use cpn_memory::Memory;
 use std::alloc::Global;
-use std::fmt::Write;
 use std::test::Fail;
 
 /// Whether each number of each pair is an item.
@@ -16,26 +15,25 @@ fn are_items(count: u32, pairs: &[(u32, u32)]) -> bool
         .all(|(one, other)| *one < count && *other < count)
 }
 
+/// The pair of a word: `0-3`.
+fn pair_in(word: &str) -> Option<(u32, u32)> {
+    let (one, other) = word.split_once('-')?;
+    Some((one.parse().ok()?, other.parse().ok()?))
+}
+
 /// The pairs of a row: `0-3 3-5`.
 fn pairs_in(alloc: Global, text: &str) -> Result<Vec<(u32, u32)>, Memory> {
     let mut pairs = Vec::new(alloc);
-    for pair in text.split(' ') {
-        if let Some((one, other)) = pair.split_once('-') {
-            if let (Ok(one), Ok(other)) = (one.parse::<u32>(), other.parse::<u32>()) {
-                pairs.push((one, other))?;
-            }
+    for word in text.split(' ') {
+        if let Some(pair) = pair_in(word) {
+            pairs.push(pair)?;
         }
     }
     Ok(pairs)
 }
 
-/// The number of each item's class, and behind a bar the first member of each class.
-fn told(alloc: Global, count: u32, pairs: &[(u32, u32)]) -> Result<String, Memory> {
-    let mut text = String::new(alloc);
-    if !are_items(count, pairs) {
-        return Ok(text);
-    }
-    let classes = Classes::of(alloc, count, pairs)?;
+/// Writes the number of each item's class, and behind a bar the first member of each class.
+fn tell(text: &mut String, classes: &Classes) -> Result<(), Memory> {
     for item in 0..classes.items() {
         let number = classes.number(item);
         write!(text, "{number} ")?;
@@ -45,6 +43,15 @@ fn told(alloc: Global, count: u32, pairs: &[(u32, u32)]) -> Result<String, Memor
         let first = classes.first(class);
         write!(text, " {first}")?;
     }
+    Ok(())
+}
+
+/// What is told of the classes of so many items that the pairs join; nothing where one of the pairs is none of items.
+fn told(alloc: Global, count: u32, pairs: &[(u32, u32)]) -> Result<String, Memory> {
+    let mut text = String::new(alloc);
+    if are_items(count, pairs) {
+        tell(&mut text, &Classes::of(alloc, count, pairs)?)?;
+    }
     Ok(text)
 }
 
@@ -53,7 +60,7 @@ fn holds(alloc: Global, row: &str) -> Result<bool, Memory> {
     let (asked, wanted) = row.split_once(" -> ").unwrap_or((row, ""));
     let (count, pairs) = asked.split_once(':').unwrap_or((asked, ""));
     let pairs = pairs_in(alloc, pairs)?;
-    Ok(told(alloc, count.parse::<u32>().unwrap_or(0), &pairs)?.as_str() == wanted)
+    Ok(told(alloc, count.parse().unwrap_or(0), &pairs)?.as_str() == wanted)
 }
 
 const ROWS: &str = "0: -> |
@@ -73,20 +80,32 @@ fn joined_items_have_one_class(rt: HostRuntime) -> Result<(), Fail> {
 
 const MANY: u32 = 16_384;
 
-/// The pairs of many items: each with the next one, from the first on; or those that join classes of one item, then of two, of four
-/// and so on, each with one as large.
-fn many_pairs(alloc: Global, by_levels: bool) -> Result<Vec<(u32, u32)>, Memory> {
+/// The pairs of many items, each with the next one, from the first on.
+fn chain(alloc: Global) -> Result<Vec<(u32, u32)>, Memory> {
     let mut pairs = Vec::new(alloc);
-    for level in 0..14 {
-        for item in 1..MANY {
-            if by_levels && item.trailing_zeros() == level {
-                pairs.push((item & (item - 1), item))?;
-            } else if !by_levels && level == 0 {
-                pairs.push((item - 1, item))?;
-            }
-        }
+    for item in 1..MANY {
+        pairs.push((item - 1, item))?;
     }
     Ok(pairs)
+}
+
+/// The pairs that join classes of one item, then of two, of four and so on, each with one as large.
+fn tree(alloc: Global) -> Result<Vec<(u32, u32)>, Memory> {
+    let mut pairs = Vec::new(alloc);
+    for level in 0..14 {
+        push_level(&mut pairs, level)?;
+    }
+    Ok(pairs)
+}
+
+/// Appends the pairs of a level: each item whose lowest bit is the one of that number, with the item that lacks that bit alone.
+fn push_level(pairs: &mut Vec<(u32, u32)>, level: u32) -> Result<(), Memory> {
+    for item in 1..MANY {
+        if item.trailing_zeros() == level {
+            pairs.push((item & (item - 1), item))?;
+        }
+    }
+    Ok(())
 }
 
 /// How many classes many items have that the pairs join; none where one of the pairs is none of items.
@@ -99,7 +118,7 @@ fn classes_of(alloc: Global, pairs: &[(u32, u32)]) -> Result<u32, Memory> {
 
 #[test]
 fn many_items_come_into_one_class_or_stay_alone(rt: HostRuntime) -> Result<(), Fail> {
-    let mut chain = many_pairs(rt.alloc(), false)?;
+    let mut chain = chain(rt.alloc())?;
     assert_eq!(rt;
         classes_of(rt.alloc(), &chain)?,
         1,
@@ -107,7 +126,7 @@ fn many_items_come_into_one_class_or_stay_alone(rt: HostRuntime) -> Result<(), F
     );
     chain.reverse();
     assert_eq!(rt; classes_of(rt.alloc(), &chain)?, 1, "from the last pair on");
-    let tree = many_pairs(rt.alloc(), true)?;
+    let tree = tree(rt.alloc())?;
     assert_eq!(rt; tree.len(), 16_383);
     assert_eq!(rt; classes_of(rt.alloc(), &tree)?, 1, "class by class");
     assert_eq!(rt; classes_of(rt.alloc(), &[])?, MANY, "alone");

@@ -24,10 +24,9 @@ fn marking(alloc: Global) -> Result<Marking, Memory>
     ensures sorted { IfOk result (λ m. (p : ℕ) → AreSorted (tokens_at m p)) }
     ensures few { IfOk result (λ m. (p : ℕ) → length (tokens_at m p) ≤ 3) }
 {
+    let outputs = outputs_on(alloc, 3, &[(0, 7, 0), (1, 8, 3), (2, 9, 0)])?;
     let mut marking = Marking::new(alloc, 3)?;
-    marking.add(0, Value::Int(7), 0)?;
-    marking.add(1, Value::Int(8), 3)?;
-    marking.add(2, Value::Int(9), 0)?;
+    marking.add_made(outputs)?;
     Ok(marking)
 }
 
@@ -165,22 +164,45 @@ fn occur(
     Ok(Some(changes))
 }
 
+// Fails an open claim; whether it was open.
+fn fail(log: &mut Log, number: u64) -> bool
+    requires { IsKept (log_view log.old) }
+    ensures { IsKept (log_view log.new) }
+{
+    if number >= log.len() {
+        return false;
+    }
+    match log.state(number) {
+        ClaimState::Open => {
+            log.fail(number, EvalFault::DivideByZero);
+            true
+        }
+        ClaimState::Done => false,
+        ClaimState::Failed(_) => false,
+    }
+}
+
+// Cuts at a claim that is not committed.
+fn cut(log: &mut Log, number: u64) -> Result<Option<Changes>, Memory>
+    requires { IsKept (log_view log.old) }
+    ensures { OnOk result (IsKept (log_view log.new)) }
+{
+    if number < log.committed() || number > log.len() {
+        return Ok(None);
+    }
+    let changes = log.cut(number)?;
+    Ok(Some(changes))
+}
+
 // Fails an open claim, and cuts at it.
 fn fail_and_cut(log: &mut Log, number: u64) -> Result<Option<Changes>, Memory>
     requires { IsKept (log_view log.old) }
     ensures { OnOk result (IsKept (log_view log.new)) }
 {
-    if number >= log.len() || number < log.committed() {
-        return Ok(None);
-    }
-    match log.state(number) {
-        ClaimState::Open => {
-            log.fail(number, EvalFault::DivideByZero);
-            let changes = log.cut(number)?;
-            Ok(Some(changes))
-        }
-        ClaimState::Done => Ok(None),
-        ClaimState::Failed(_) => Ok(None),
+    if fail(log, number) {
+        cut(log, number)
+    } else {
+        Ok(None)
     }
 }
 

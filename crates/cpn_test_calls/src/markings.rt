@@ -46,23 +46,28 @@ fn push_tokens(text: &mut String, alloc: Global, marking: &Marking) -> Result<()
     Ok(())
 }
 
-/// What is told of a marking with these tokens on its second place, and of these needs.
-pub fn told_of_marking(
+/// Writes what is told of a marking with these tokens on its second place, and of these needs, which are taken at the time 10.
+pub fn tell_marking(
+    text: &mut String,
     alloc: Global,
     tokens: &[(i64, u64)],
     needed: &[(i64, u64)],
-) -> Result<String, Memory> {
+) -> Result<(), Memory> {
     let mut marking = marking_of(alloc, tokens)?;
     let needs = needs_of(alloc, needed)?;
-    let mut text = String::new(alloc);
+    push_start(text, &marking, &needs)?;
+    marking.subtract(&needs, 10);
+    push_tokens(text, alloc, &marking)
+}
+
+/// Writes whether a 7 stands on the second place, and from when on the marking covers the needs.
+fn push_start(text: &mut String, marking: &Marking, needs: &Needs) -> Result<(), Memory> {
     if marking.holds(1, &Value::Int(7)) {
         text.push_str("held ")?;
     }
-    match marking.earliest(&needs) {
+    match marking.earliest(needs) {
         Some(time) => write!(text, "from {time}")?,
         None => text.push_str("never")?,
     }
-    marking.subtract(&needs, 10);
-    push_tokens(&mut text, alloc, &marking)?;
-    Ok(text)
+    Ok(())
 }

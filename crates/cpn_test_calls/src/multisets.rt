@@ -11,40 +11,50 @@ pub const MANY: u64 = 1_000_000;
 pub fn multiset_of(alloc: Global, counts: &[(i64, u64)]) -> Result<MSet, Memory> {
     let mut multiset = MSet::new(alloc);
     for (number, count) in counts {
-        let value = Value::Int(*number);
-        if multiset.count(&value) < MANY && *count < MANY {
-            multiset.add(value, *count)?;
-        }
+        add(&mut multiset, *number, *count)?;
     }
     Ok(multiset)
 }
 
+fn add(multiset: &mut MSet, number: i64, count: u64) -> Result<(), Memory> {
+    let value = Value::Int(number);
+    if multiset.count(&value) < MANY && count < MANY {
+        multiset.add(value, count)?;
+    }
+    Ok(())
+}
+
 /// The number that a value is, or -1.
 pub fn number_of(value: &Value) -> i64 {
-    match value {
-        Value::Int(number) => *number,
-        _ => -1,
+    if let Value::Int(number) = value {
+        *number
+    } else {
+        -1
     }
 }
 
-/// Whether the first multiset covers the second, and what is left without it.
-pub fn told_of_multisets(
+/// Writes whether the first multiset covers the second, and what is left without it.
+pub fn tell_multisets(
+    text: &mut String,
     alloc: Global,
     first: &[(i64, u64)],
     second: &[(i64, u64)],
-) -> Result<String, Memory> {
+) -> Result<(), Memory> {
     let mut first = multiset_of(alloc, first)?;
     let second = multiset_of(alloc, second)?;
-    let mut text = String::new(alloc);
-    if !first.covers(&second) {
+    tell_difference(text, &mut first, &second)
+}
+
+fn tell_difference(text: &mut String, first: &mut MSet, second: &MSet) -> Result<(), Memory> {
+    if !first.covers(second) {
         text.push_str("not covered")?;
-        return Ok(text);
+        return Ok(());
     }
-    first.subtract(&second);
+    first.subtract(second);
     text.push_str("covered, left")?;
     for (value, count) in first.iter() {
         let number = number_of(value);
         write!(text, " {number}x{count}")?;
     }
-    Ok(text)
+    Ok(())
 }

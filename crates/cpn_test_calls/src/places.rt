@@ -15,6 +15,23 @@ fn put(place: &mut TMSet, number: i64, stamp: u64) -> Result<(), Memory> {
     Ok(())
 }
 
+/// The place with these tokens, each a number and a stamp.
+fn place_of(alloc: Global, tokens: &[(i64, u64)]) -> Result<TMSet, Memory> {
+    let mut place = TMSet::new(alloc);
+    for (number, stamp) in tokens {
+        put(&mut place, *number, *stamp)?;
+    }
+    Ok(place)
+}
+
+/// Takes the need at the time, if it is covered then.
+fn take(place: &mut TMSet, need: &MSet, time: u64, picks: &mut Picks) -> Result<(), Memory> {
+    if place.covers_at(need, time) {
+        place.subtract(need, time, picks)?;
+    }
+    Ok(())
+}
+
 /// Writes the tokens, equal ones counted, and how many there are of how many values.
 fn push_place(text: &mut String, alloc: Global, place: &TMSet) -> Result<(), Memory> {
     for group in &place.groups(alloc)? {
@@ -29,31 +46,18 @@ fn push_place(text: &mut String, alloc: Global, place: &TMSet) -> Result<(), Mem
     Ok(())
 }
 
-/// Writes from when on the place covers the need.
+/// Writes from when on the place covers the need, and a blank.
 fn push_time(text: &mut String, place: &TMSet, need: &MSet) -> Result<(), Memory> {
     match place.earliest(need, 0) {
-        Some(time) => write!(text, " from {time}")?,
-        None => text.push_str(" never")?,
+        Some(time) => write!(text, " from {time} ")?,
+        None => text.push_str(" never ")?,
     }
     Ok(())
 }
 
-/// Takes the need at the time 10, if it is covered then, and writes which tokens those are.
-fn push_taken(
-    text: &mut String,
-    alloc: Global,
-    place: &mut TMSet,
-    need: &MSet,
-) -> Result<(), Memory> {
-    let mut picks = Picks::new(alloc);
-    if place.covers_at(need, 10) {
-        place.subtract(need, 10, &mut picks)?;
-    }
-    push_picks(text, &picks)
-}
-
 /// Writes the tokens that were taken.
 fn push_picks(text: &mut String, picks: &Picks) -> Result<(), Memory> {
+    text.push_str("took")?;
     for pick in picks.as_slice() {
         let number = number_of(&pick.value);
         let stamp = pick.stamp;
@@ -62,57 +66,61 @@ fn push_picks(text: &mut String, picks: &Picks) -> Result<(), Memory> {
     Ok(())
 }
 
-/// What is told of a place with these tokens, from which two needs are taken, a 7 at 5 and then a 7 at 4, each if it is covered, when
-/// further tokens are put in ahead of these.
-pub fn told_of_put_after(
+/// Writes what is told of a place with these tokens, from which two needs are taken, a 7 at 5 and then a 7 at 4, each if it is covered,
+/// when further tokens are put in ahead of these.
+pub fn tell_put_after(
+    text: &mut String,
     alloc: Global,
     tokens: &[(i64, u64)],
     ahead: &[(i64, u64)],
-) -> Result<String, Memory> {
-    let mut place = TMSet::new(alloc);
-    for (number, stamp) in tokens {
-        put(&mut place, *number, *stamp)?;
-    }
-    let need = multiset_of(alloc, &[(7, 1)])?;
+) -> Result<(), Memory> {
+    let mut place = place_of(alloc, tokens)?;
     let mut picks = Picks::new(alloc);
-    for time in [5, 4] {
-        if place.covers_at(&need, time) {
-            place.subtract(&need, time, &mut picks)?;
-        }
-    }
-    for (number, stamp) in ahead {
-        if place.total() < MANY {
-            place.put_after(&Value::Int(*number), *stamp, &mut picks)?;
-        }
-    }
-    let mut text = String::from_str(alloc, "took")?;
-    push_picks(&mut text, &picks)?;
+    take_two(alloc, &mut place, &mut picks)?;
+    put_after(&mut place, ahead, &mut picks)?;
+    push_picks(text, &picks)?;
     text.push_str(" left ")?;
-    push_place(&mut text, alloc, &place)?;
-    Ok(text)
+    push_place(text, alloc, &place)
 }
 
-/// What is told of a place with these tokens and of this need. It is taken from a copy.
-pub fn told_of_place(
+/// Takes a 7 at 5 and then a 7 at 4, each if it is covered.
+fn take_two(alloc: Global, place: &mut TMSet, picks: &mut Picks) -> Result<(), Memory> {
+    let need = multiset_of(alloc, &[(7, 1)])?;
+    take(place, &need, 5, picks)?;
+    take(place, &need, 4, picks)
+}
+
+/// Puts tokens in ahead of those that were taken.
+fn put_after(place: &mut TMSet, ahead: &[(i64, u64)], picks: &mut Picks) -> Result<(), Memory> {
+    for (number, stamp) in ahead {
+        if place.total() < MANY {
+            place.put_after(&Value::Int(*number), *stamp, picks)?;
+        }
+    }
+    Ok(())
+}
+
+/// Writes what is told of a place with these tokens and of this need, which is taken at the time 10, from a copy.
+pub fn tell_place(
+    text: &mut String,
     alloc: Global,
     tokens: &[(i64, u64)],
     need: &[(i64, u64)],
-) -> Result<String, Memory> {
-    let mut place = TMSet::new(alloc);
-    for (number, stamp) in tokens {
-        put(&mut place, *number, *stamp)?;
-    }
+) -> Result<(), Memory> {
+    let place = place_of(alloc, tokens)?;
     let need = multiset_of(alloc, need)?;
-    let mut text = String::new(alloc);
+    tell_copy(text, alloc, &place, &need)
+}
+
+fn tell_copy(text: &mut String, alloc: Global, place: &TMSet, need: &MSet) -> Result<(), Memory> {
     let mut rest = place.copy()?;
-    push_taken(&mut text, alloc, &mut rest, &need)?;
-    let taken = text;
-    let mut text = String::new(alloc);
-    push_place(&mut text, alloc, &place)?;
-    push_time(&mut text, &place, &need)?;
-    write!(text, " took{taken} left ")?;
-    push_place(&mut text, alloc, &rest)?;
-    Ok(text)
+    let mut picks = Picks::new(alloc);
+    take(&mut rest, need, 10, &mut picks)?;
+    push_place(text, alloc, place)?;
+    push_time(text, place, need)?;
+    push_picks(text, &picks)?;
+    text.push_str(" left ")?;
+    push_place(text, alloc, &rest)
 }
 
 /// A place with a token of each of a thousand values and one, and as many of the value 7 and the stamp 3.
@@ -125,14 +133,21 @@ fn many_tokens(alloc: Global) -> Result<TMSet, Memory> {
     Ok(place)
 }
 
+/// Takes the tokens of the value 7 and the last one; writes from when on they are covered, and which are taken.
+fn tell_many(text: &mut String, alloc: Global, place: &mut TMSet) -> Result<(), Memory> {
+    let need = multiset_of(alloc, &[(7, 1_002), (1_000, 1)])?;
+    let mut picks = Picks::new(alloc);
+    push_time(text, place, &need)?;
+    take(place, &need, 10, &mut picks)?;
+    push_picks(text, &picks)
+}
+
 #[test]
 fn many_tokens_are_taken(rt: HostRuntime) -> Result<(), Fail> {
     let mut place = many_tokens(rt.alloc())?;
-    let need = multiset_of(rt.alloc(), &[(7, 1_002), (1_000, 1)])?;
     let mut text = String::new(rt.alloc());
-    push_time(&mut text, &place, &need)?;
-    push_taken(&mut text, rt.alloc(), &mut place, &need)?;
-    assert!(rt; text.as_str().starts_with(" from 5 7@5 7@3 7@3"));
+    tell_many(&mut text, rt.alloc(), &mut place)?;
+    assert!(rt; text.as_str().starts_with(" from 5 took 7@5 7@3 7@3"));
     assert!(rt; text.as_str().ends_with(" 7@3 7@3 1000@5"));
     assert!(rt; place.total() == 999 && !place.holds(&Value::Int(7)));
     Ok(())

@@ -1,46 +1,54 @@
 //! The table of multisets, places and markings.
 
-use crate::markings::told_of_marking;
-use crate::multisets::told_of_multisets;
-use crate::places::{told_of_place, told_of_put_after};
+use crate::markings::tell_marking;
+use crate::multisets::tell_multisets;
+use crate::places::{tell_place, tell_put_after};
 use cpn_core::Memory;
 use std::alloc::Global;
 use std::test::Fail;
 
-/// The pairs of a text, each a number and a count with a sign between them: `7@3 -1@0`.
-pub fn pairs_in(alloc: Global, text: &str, sign: char) -> Result<Vec<(i64, u64)>, Memory> {
+/// The pair of a word, a number and a count with a sign between them: `7@3`.
+fn pair_in(word: &str, sign: char) -> Option<(i64, u64)> {
+    let (number, count) = word.split_once(sign)?;
+    Some((number.parse().ok()?, count.parse().ok()?))
+}
+
+/// The pairs of a text: `7@3 -1@0`.
+fn pairs_in(alloc: Global, text: &str, sign: char) -> Result<Vec<(i64, u64)>, Memory> {
     let mut pairs = Vec::new(alloc);
-    for pair in text.split(' ') {
-        if let Some((number, count)) = pair.split_once(sign) {
-            if let (Ok(number), Ok(count)) = (number.parse::<i64>(), count.parse::<u64>()) {
-                pairs.push((number, count))?;
-            }
+    for word in text.split(' ') {
+        if let Some(pair) = pair_in(word, sign) {
+            pairs.push(pair)?;
         }
     }
     Ok(pairs)
 }
 
-/// What is told of a row: a word for what it is of, what there is, a bar, and what is asked for.
-fn told(alloc: Global, asked: &str) -> Result<String, Memory> {
+/// Writes what is told of a row: a word for what it is of, what there is, a bar, and what is asked for.
+fn tell(text: &mut String, alloc: Global, asked: &str) -> Result<(), Memory> {
     let (kind, asked) = asked.split_once(' ').unwrap_or((asked, ""));
     let (there, needed) = asked.split_once('|').unwrap_or((asked, ""));
     match kind {
-        "place" => told_of_place(
+        "place" => tell_place(
+            text,
             alloc,
             &pairs_in(alloc, there, '@')?,
             &pairs_in(alloc, needed, 'x')?,
         ),
-        "behind" => told_of_put_after(
+        "behind" => tell_put_after(
+            text,
             alloc,
             &pairs_in(alloc, there, '@')?,
             &pairs_in(alloc, needed, '@')?,
         ),
-        "marking" => told_of_marking(
+        "marking" => tell_marking(
+            text,
             alloc,
             &pairs_in(alloc, there, '@')?,
             &pairs_in(alloc, needed, '+')?,
         ),
-        _ => told_of_multisets(
+        _ => tell_multisets(
+            text,
             alloc,
             &pairs_in(alloc, there, 'x')?,
             &pairs_in(alloc, needed, 'x')?,
@@ -51,7 +59,11 @@ fn told(alloc: Global, asked: &str) -> Result<String, Memory> {
 /// Whether a row holds: what is asked, an arrow, and what is told of it.
 fn holds(alloc: Global, row: &str) -> Result<bool, Memory> {
     match row.split_once(" -> ") {
-        Some((asked, wanted)) => Ok(told(alloc, asked)?.as_str() == wanted),
+        Some((asked, wanted)) => {
+            let mut text = String::new(alloc);
+            tell(&mut text, alloc, asked)?;
+            Ok(text.as_str() == wanted)
+        }
         None => Ok(false),
     }
 }

@@ -4,14 +4,19 @@ use cpn_memory::{Memory, Text};
 use std::alloc::Global;
 use std::test::Fail;
 
+/// Pushes bytes to a text so many times, and then a byte more.
+fn push(text: &mut Text, bytes: &[u8], times: usize) -> Result<(), Memory> {
+    for _ in 0..times {
+        text.push(bytes)?;
+    }
+    text.push(b"b")
+}
+
 /// How long the copy of a text is that was pushed to so many times, so many bytes at once, and then a byte more.
 fn length(alloc: Global, times: usize, count: usize) -> Result<usize, Memory> {
     let bytes = vec![in alloc; b'a'; count]?;
     let mut text = Text::new(alloc);
-    for _ in 0..times {
-        text.push(&bytes)?;
-    }
-    text.push(b"b")?;
+    push(&mut text, &bytes, times)?;
     Ok(text.copy()?.len())
 }
 

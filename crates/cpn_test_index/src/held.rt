@@ -1,31 +1,41 @@
-//! A net, a marking of it and their index, whose tokens are put and taken one at a time while the index follows.
-ghost use Rattle.std.specs.Prelude.{◌≡◌, ◌<◌, true, false, [], ◌∷◌, length, IfOk, OnOk};
+//! A net, a marking of it and their index, which follows tokens that are put and taken one at a time, the clock, and guards that are set.
+ghost use Rattle.std.specs.Prelude.{◌≡◌, ◌<◌, true, false, [], ◌∷◌, length, IfOk, IfSome, OnOk};
 ghost use Rattle.cpn_definitions.specs.Marking.{token_at, tokens_at};
 ghost use Rattle.cpn_definitions.specs.Net.{place_at};
-ghost use Rattle.cpn_definitions.specs.Sound.{IsSound, IsMarking, may_hold};
+ghost use Rattle.cpn_definitions.specs.Sound.{may_hold};
 ghost use Rattle.cpn_core.specs.Nets.{net_view};
 ghost use Rattle.cpn_core.specs.Views.{value_view};
-ghost use Rattle.cpn_edit_texts.specs.Edits.{net_after, AreAlikeButGuards};
-ghost use Rattle.cpn_edit_texts.specs.Ready.{IsThere};
+ghost use Rattle.cpn_declared.specs.DeclsViews.{decls_view};
+ghost use Rattle.cpn_edit_texts.specs.Ready.{IsReady, IsThere};
 ghost use Rattle.cpn_edit_texts.specs.Views.{edit_view};
+ghost use Rattle.cpn_monitor.specs.Views.{monitors_view};
 ghost use Rattle.cpn_tmset.specs.ChangedViews.{changes_view};
 ghost use Rattle.cpn_tmset.specs.Limits.{HasRoom};
+ghost use Rattle.cpn_test_index.specs.Editable.{IsAccepted};
 ghost use Rattle.cpn_test_index.specs.Held.{IsHeld};
 
 use cpn_core::{Memory, Net, Value};
-use cpn_edit_texts::Edit;
+use cpn_document::Pointer;
+use cpn_edit_texts::{Edit, EditError, check_edit};
 use cpn_index::Index;
+use cpn_model::Model;
+use cpn_monitor::Monitors;
 use cpn_search::Steps;
 use cpn_tmset::{Changes, Marking};
+use cpn_types::Decls;
 use std::alloc::Global;
 use std::sync::ledger::Ledger;
 
 /// The most tokens on a place.
 const MOST: u64 = 1_000_000;
 
-/// A net, a marking of it, and the index of both at a clock.
+/// A net, a marking of it, and the index of both at a clock; and that by which edits of the net are checked.
 #[derive(Drop)]
 pub struct Held {
+    /// What the document of the net declares.
+    pub decls: Decls,
+    /// The monitors of its document.
+    pub monitors: Monitors,
     /// The net.
     pub net: Net,
     /// The marking.
@@ -67,18 +77,38 @@ fn changes_of(alloc: Global, place: u32, value: &Value) -> Result<Changes, Memor
     Ok(changes)
 }
 
+/// The edit by which a transition gets another guard.
+fn guard_edit(alloc: Global, transition: &str, guard: &str) -> Result<cpn_document::Edit, Memory> {
+    let transition = String::from_str(alloc, transition)?;
+    let text = String::from_str(alloc, guard)?;
+    Ok(cpn_document::Edit::Guard { transition, text })
+}
+
+/// That an edit is not accepted, unless memory ran out.
+fn no_edit(error: EditError) -> Result<Option<Edit>, Memory>
+    ensures none { IfOk result (λ found. IfSome found (λ edit. ⊥)) }
+{
+    match error {
+        EditError::Memory => Err(Memory),
+        EditError::UnknownName(_at) => Ok(None),
+        EditError::Bad(_at, _trouble) => Ok(None),
+        EditError::Monitor(_error) => Ok(None),
+    }
+}
+
 impl Held {
-    /// What is enabled in a marking of a net, at clock 0.
-    pub fn of(alloc: Global, net: Net, marking: Marking) -> Result<Held, Memory>
-        requires sound { IsSound (net_view net) }
-        requires marking { IsMarking (net_view net).places marking }
-        ensures held { IfOk result (λ held. IsHeld (net_view held.net) held.marking held.index held.clock) }
-        ensures net { IfOk result (λ held. net_view held.net ≡ net_view net) }
+    /// What is enabled in the net of a model at its start, at clock 0.
+    pub fn of(alloc: Global, model: Model) -> Result<Held, Memory>
+        requires ready { IsReady (decls_view model.loaded.decls) (net_view model.loaded.net) model.loaded.initial (monitors_view model.monitors) }
+        ensures held { IfOk result IsHeld }
     {
-        let index = Index::build(alloc, &net, &marking, 0)?;
+        let loaded = model.loaded;
+        let index = Index::build(alloc, &loaded.net, &loaded.initial, 0)?;
         Ok(Held {
-            net,
-            marking,
+            decls: loaded.decls,
+            monitors: model.monitors,
+            net: loaded.net,
+            marking: loaded.initial,
             index,
             clock: 0,
         })
@@ -93,9 +123,8 @@ impl Held {
         stamp: u64,
         steps: &mut Steps<L>,
     ) -> Result<(), Memory>
-        requires held { IsHeld (net_view self.old.net) self.old.marking self.old.index self.old.clock }
-        ensures held { OnOk result (IsHeld (net_view self.new.net) self.new.marking self.new.index self.new.clock) }
-        ensures net { OnOk result (net_view self.new.net ≡ net_view self.old.net) }
+        requires held { IsHeld self.old }
+        ensures held { OnOk result (IsHeld self.new) }
     {
         let value = Value::Int(number);
         if !may_be_put(&self.net, place, &value, stamp) {
@@ -120,9 +149,8 @@ impl Held {
         latest: u64,
         steps: &mut Steps<L>,
     ) -> Result<(), Memory>
-        requires held { IsHeld (net_view self.old.net) self.old.marking self.old.index self.old.clock }
-        ensures held { OnOk result (IsHeld (net_view self.new.net) self.new.marking self.new.index self.new.clock) }
-        ensures net { OnOk result (net_view self.new.net ≡ net_view self.old.net) }
+        requires held { IsHeld self.old }
+        ensures held { OnOk result (IsHeld self.new) }
     {
         if place as usize >= self.marking.len() {
             return Ok(());
@@ -137,9 +165,8 @@ impl Held {
 
     /// Moves the clock, where it does not go back.
     pub fn advance_to(&mut self, clock: u64)
-        requires held { IsHeld (net_view self.old.net) self.old.marking self.old.index self.old.clock }
-        ensures held { IsHeld (net_view self.new.net) self.new.marking self.new.index self.new.clock }
-        ensures net { net_view self.new.net ≡ net_view self.old.net }
+        requires held { IsHeld self.old }
+        ensures held { IsHeld self.new }
     {
         if clock < self.clock {
             return;
@@ -148,14 +175,45 @@ impl Held {
         self.clock = clock;
     }
 
-    /// Makes an edit, where it is another guard of a transition.
-    pub fn edit(&mut self, edit: Edit) -> Result<(), Memory>
-        requires held { IsHeld (net_view self.old.net) self.old.marking self.old.index self.old.clock }
+    /// Sets the guard of a transition of a name, where it is accepted there.
+    pub fn set_guard(&mut self, alloc: Global, transition: &str, guard: &str) -> Result<(), Memory>
+        requires held { IsHeld self.old }
+        ensures held { OnOk result (IsHeld self.new) }
+    {
+        let found = self.checked(alloc, transition, guard)?;
+        match found {
+            None => Ok(()),
+            Some(edit) => self.edit(edit),
+        }
+    }
+
+    /// The edit that gives a transition of a name another guard, where it is accepted.
+    fn checked(&self, alloc: Global, transition: &str, guard: &str) -> Result<Option<Edit>, Memory>
+        requires held { IsHeld self.now }
+        ensures accepted { IfOk result (λ found. IfSome found (λ edit. IsAccepted (decls_view self.now.decls) (net_view self.now.net) (monitors_view self.now.monitors) (edit_view edit))) }
+    {
+        let written = guard_edit(alloc, transition, guard)?;
+        let at = Pointer::Root;
+        match check_edit(
+            alloc,
+            &self.decls,
+            &self.net,
+            &self.monitors,
+            at,
+            at,
+            &written,
+        ) {
+            Ok(edit) => Ok(Some(edit)),
+            Err(error) => no_edit(error),
+        }
+    }
+
+    /// Makes an accepted edit, where it is another guard of a transition.
+    fn edit(&mut self, edit: Edit) -> Result<(), Memory>
+        requires held { IsHeld self.old }
+        requires accepted { IsAccepted (decls_view self.old.decls) (net_view self.old.net) (monitors_view self.old.monitors) (edit_view edit) }
         requires there { IsThere (length (net_view self.old.net).transitions) (length (net_view self.old.net).places) (edit_view edit) }
-        requires alike { AreAlikeButGuards (net_after (net_view self.old.net) (edit_view edit)) (net_view self.old.net) }
-        requires sound { IsSound (net_after (net_view self.old.net) (edit_view edit)) }
-        ensures held { OnOk result (IsHeld (net_view self.new.net) self.new.marking self.new.index self.new.clock) }
-        ensures net { OnOk result (net_view self.new.net ≡ net_after (net_view self.old.net) (edit_view edit)) }
+        ensures held { OnOk result (IsHeld self.new) }
     {
         match edit {
             Edit::Guard(number, edited) => {

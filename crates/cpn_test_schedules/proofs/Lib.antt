@@ -1,2 +1,4 @@
 mod ShownBooks
+mod StampLists
 mod ToldEnds
+mod ToldValues

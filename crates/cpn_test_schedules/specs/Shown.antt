@@ -3,6 +3,7 @@ use Rattle.std.specs.Prelude.{◌≡◌, ◌≤◌, ◌<◌, true, Option, Some,
 use Rattle.std.specs.Option.{option_map}
 use Rattle.cpn_definitions.specs.Named.{IsNamed}
 use Rattle.cpn_definitions.specs.Net.{PlainNet}
+use Rattle.cpn_definitions.specs.Sound.{IsSound}
 use Rattle.cpn_definitions.specs.Times.{last_time}
 use Rattle.cpn_jobs.specs.Views.{job_view}
 use Rattle.cpn_jobs.specs.Work.{PlainJob}
@@ -32,10 +33,12 @@ pub record IsShownSetup (setup : PlainSetup) : Type 0 where
   pub playable : IsPlayable setup
   pub named : IsNamed setup.net
 
--- A book of a net that names what is printed.
-pub record IsShown (book : Book) : Type 0 where
+-- A book of the net, which names what is printed.
+pub record IsShown (n : PlainNet) (book : Book) : Type 0 where
   pub kept : IsBook book
-  pub named : IsNamed (setup_in book).net
+  pub net : (setup_in book).net ≡ n
+  pub sound : IsSound n
+  pub named : IsNamed n
 
 -- the job is of a binding element
 abbrev pub HasElement : PlainNet → PlainJob → Type 0

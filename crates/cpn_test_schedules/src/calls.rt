@@ -1,7 +1,9 @@
 //! The calls of a schedule.
 
+use crate::numbers::{number_in, number_within};
+
 /// Of which run a seat brings an evaluation or a ticket.
-#[derive(Clone, Copy, Debug, PartialEq, Eq)]
+#[derive(Clone, Copy)]
 pub enum Run {
     /// Of the run itself.
     Own,
@@ -9,9 +11,11 @@ pub enum Run {
     Beside,
 }
 
-/// A call on the book.
-#[derive(Clone, Copy, Debug, PartialEq, Eq)]
+/// A call that leaves the run going on.
+#[derive(Clone, Copy)]
 pub enum Call {
+    /// Nothing is done: it is seen where the run stands.
+    Start,
     /// A seat makes the next claim.
     Claim { seat: u32 },
     /// A seat brings the evaluation of the claim of a number of a run.
@@ -22,16 +26,13 @@ pub enum Call {
     Advance,
     /// The transitions are searched in the unclaimed marking, for what is enabled from a time on.
     Search { time: u64 },
-    /// One seat takes the run to its end.
-    Alone,
-    /// The run ends, where it may.
-    Finish,
 }
 
 /// The call that a line of a schedule is: its words with blanks between. `None` where it is none.
 pub fn call_in(line: &str) -> Option<Call> {
     let mut words = line.split_whitespace();
     let call = match words.next()? {
+        "start" => Call::Start,
         "claim" => Call::Claim {
             seat: seat_in(words.next()?)?,
         },
@@ -59,8 +60,6 @@ pub fn call_in(line: &str) -> Option<Call> {
         "search" => Call::Search {
             time: number_in(words.next()?)?,
         },
-        "alone" => Call::Alone,
-        "finish" => Call::Finish,
         _ => return None,
     };
     match words.next() {
@@ -71,16 +70,6 @@ pub fn call_in(line: &str) -> Option<Call> {
 
 /// The seat that a word tells.
 fn seat_in(word: &str) -> Option<u32> {
-    word.parse::<u32>().ok()
-}
-
-/// The number that a word tells.
-fn number_in(word: &str) -> Option<u64> {
-    word.parse::<u64>().ok()
-}
-
-/// Whether a line of a schedule has no call: it is blank, or a comment.
-pub fn is_idle(line: &str) -> bool {
-    let text = line.trim();
-    text.is_empty() || text.starts_with('#')
+    let seat = number_within(word, 0, 4_294_967_295)?;
+    Some(seat as u32)
 }

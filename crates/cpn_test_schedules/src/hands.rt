@@ -1,6 +1,6 @@
 //! What is at hand of the claims of a run.
 
-use cpn_book::{Evaluated, Ticket};
+use cpn_book::{Claimed, Completed, Evaluated, GivenBack, Ticket};
 use cpn_core::Memory;
 use std::alloc::Global;
 
@@ -20,15 +20,27 @@ impl Hand {
         }
     }
 
-    /// A ticket is at hand.
-    pub fn put_ticket(&mut self, ticket: Ticket) -> Result<(), Memory> {
-        self.tickets.push(ticket)?;
+    /// The ticket of a claim is at hand, if there is one.
+    pub fn keep_claimed(&mut self, claimed: Claimed) -> Result<(), Memory> {
+        if let Claimed::Ticket(ticket) = claimed {
+            self.tickets.push(ticket)?;
+        }
         Ok(())
     }
 
-    /// An evaluation is at hand.
-    pub fn put_evaluation(&mut self, done: Evaluated) -> Result<(), Memory> {
-        self.evaluations.push(done)?;
+    /// An evaluation is at hand, if it comes back with the answer.
+    pub fn keep_completed(&mut self, completed: Completed) -> Result<(), Memory> {
+        if let Some(brought) = evaluation_of(completed) {
+            self.evaluations.push(brought)?;
+        }
+        Ok(())
+    }
+
+    /// A ticket is at hand, if it comes back with the answer.
+    pub fn keep_given_back(&mut self, given_back: GivenBack) -> Result<(), Memory> {
+        if let Some(brought) = ticket_of(given_back) {
+            self.tickets.push(brought)?;
+        }
         Ok(())
     }
 
@@ -57,5 +69,29 @@ impl Hand {
             Ok(done) => Ok(Some(done)),
             Err(_ticket) => Err(Memory),
         }
+    }
+}
+
+/// The evaluation that comes back with an answer.
+fn evaluation_of(completed: Completed) -> Option<Evaluated> {
+    match completed {
+        Completed::Stranger {
+            kept: _kept,
+            brought,
+        } => Some(brought),
+        Completed::Done => None,
+        Completed::Void { number: _number } => None,
+    }
+}
+
+/// The ticket that comes back with an answer.
+fn ticket_of(given_back: GivenBack) -> Option<Ticket> {
+    match given_back {
+        GivenBack::Stranger {
+            kept: _kept,
+            brought,
+        } => Some(brought),
+        GivenBack::Cut => None,
+        GivenBack::Void { number: _number } => None,
     }
 }

@@ -1,25 +1,31 @@
 //! How a schedule is played.
 
-ghost use Rattle.std.specs.Prelude.{◌<◌, IfOk, IfSome, OnOk};
-ghost use Rattle.cpn_book.specs.Books.{setup_in, IsBook};
+ghost use Rattle.std.specs.Prelude.{IfOk, IfSome, OnOk};
+ghost use Rattle.cpn_book.specs.Books.{IsBook};
+ghost use Rattle.cpn_core.specs.Nets.{net_view};
 ghost use Rattle.cpn_runs.specs.FinishedViews.{setup_view};
 ghost use Rattle.cpn_runs.specs.Playable.{IsPlayable};
+ghost use Rattle.cpn_test_schedules.specs.Held.{IsHeld};
 ghost use Rattle.cpn_test_schedules.specs.Shown.{IsShown, IsShownSetup};
 
-use crate::answers::{advanced_text, claimed_text, completed_text, given_back_text};
-use crate::calls::{Call, Run, call_in, is_idle};
+use crate::answers::{push_advanced, push_claimed, push_completed, push_given_back, push_words};
+use crate::calls::{Call, Run, call_in};
+use crate::ends::push_end;
 use crate::hands::Hand;
-use crate::refusals::Refusal;
-use crate::rows::{HEAD, net_of, push_end, push_row};
-use crate::searches::searched_text;
-use cpn_book::{Book, Claimed, Completed, Evaluated, Finish, GivenBack, Ticket};
-use cpn_core::Memory;
+use crate::held::Held;
+use crate::rows::{push_held, push_standing};
+use crate::searches::push_searched;
+use cpn_book::{Book, Evaluated, Finish, Ticket};
+use cpn_core::{Memory, Net};
 use cpn_runs::Setup;
 use std::alloc::Global;
 
+/// The most seats of a run.
+const MOST_SEATS: u32 = 64;
+
 /// The table so far, and what is at hand of claims.
 #[derive(Drop)]
-struct Table {
+pub struct Table {
     alloc: Global,
     out: String,
     /// What is at hand of the claims of the run itself.
@@ -28,131 +34,109 @@ struct Table {
     brought: Hand,
 }
 
-/// The table of the calls of a schedule on a run from the setup, where the tickets that are brought are at hand.
-pub fn play(alloc: Global, setup: Setup, brought: Hand, schedule: &str) -> Result<String, Refusal>
-    requires shown { IsShownSetup (setup_view setup) }
-{
-    let mut table = Table {
-        alloc,
-        out: String::from_str(alloc, HEAD)?,
-        own: Hand::new(alloc),
-        brought,
-    };
-    let book = Book::start(alloc, setup)?;
-    push_row(&mut table.out, "start", "begun", &book)?;
-    table.lines(book, schedule)?;
-    Ok(table.out)
-}
-
-/// The tickets of the claims that the seats make, one each, at the start of a run.
-pub fn tickets_of(alloc: Global, setup: Setup) -> Result<Hand, Memory>
-    requires playable { IsPlayable (setup_view setup) }
-{
-    let mut book = Book::start(alloc, setup)?;
-    let mut found = Hand::new(alloc);
-    make_claims(&mut book, &mut found)?;
-    Ok(found)
-}
-
-/// A claim of each seat. The tickets are then at hand.
-fn make_claims(book: &mut Book, found: &mut Hand) -> Result<(), Memory>
-    requires kept { IsBook book.old }
-{
-    for seat in 0..book.setup().limits.seats {
-        if let Claimed::Ticket(ticket) = book.claim(seat)? {
-            found.put_ticket(ticket)?;
+impl Table {
+    /// A table without rows.
+    pub fn new(alloc: Global) -> Table {
+        Table {
+            alloc,
+            out: String::new(alloc),
+            own: Hand::new(alloc),
+            brought: Hand::new(alloc),
         }
     }
-    Ok(())
-}
 
-impl Table {
-    /// Plays the lines of the schedule, one after another.
-    fn lines(&mut self, book: Book, schedule: &str) -> Result<(), Refusal>
-        requires shown { IsShown book }
+    /// The text of the table.
+    pub fn text(&self) -> &str {
+        self.out.as_str()
+    }
+
+    /// The tickets of the claims that the seats make, one each, at the start of a run of the net beside, are at hand.
+    pub fn bring(&mut self, setup: Setup) -> Result<(), Memory>
+        requires playable { IsPlayable (setup_view setup) }
     {
-        let mut run = Some(book);
-        let mut place = 0u64;
+        let mut book = Book::start(self.alloc, setup)?;
+        make_claims(&mut book, &mut self.brought)
+    }
+
+    /// Adds the rows of the calls of a schedule on a run from the setup. An index follows the run where it is asked for.
+    pub fn play(&mut self, setup: Setup, is_indexed: bool, schedule: &str) -> Result<(), Memory>
+        requires shown { IsShownSetup (setup_view setup) }
+    {
+        let net = setup.net.clone()?;
+        let mut held = held_at_start(self.alloc, &setup, is_indexed)?;
+        let mut run = Some(Book::start(self.alloc, setup)?);
+        self.lines(&net, &mut run, &mut held, schedule)
+    }
+
+    /// Adds the rows of the lines of a schedule, one after another.
+    fn lines(
+        &mut self,
+        net: &Net,
+        run: &mut Option<Book>,
+        held: &mut Option<Held>,
+        schedule: &str,
+    ) -> Result<(), Memory>
+        requires shown { IfSome run.old (λ book. IsShown (net_view net.now) book) }
+        requires held { IfSome held.old (λ held. IsHeld (net_view net.now) held.marking held.index held.clock) }
+    {
         for line in schedule.lines() {
-            place = place.saturating_add(1);
-            if !is_idle(line) {
-                run = self.next(run, place, line.trim())?;
-            }
+            self.line(net, run, line)?;
+            end_row(&mut self.out, self.alloc, net, run, held)?;
         }
         Ok(())
     }
 
-    /// Plays a line of the schedule, where the run has not ended.
-    fn next(&mut self, run: Option<Book>, place: u64, line: &str) -> Result<Option<Book>, Refusal>
-        requires shown { IfSome run (λ book. IsShown book) }
-        ensures shown { IfOk result (λ run. IfSome run (λ book. IsShown book)) }
+    /// Adds the cells of a line: the line, what it is answered, and where the run then stands, unless it has ended.
+    fn line(&mut self, net: &Net, run: &mut Option<Book>, line: &str) -> Result<(), Memory>
+        requires shown { IfSome run.old (λ book. IsShown (net_view net.now) book) }
+        ensures shown { OnOk result (IfSome run.new (λ book. IsShown (net_view net.now) book)) }
     {
+        self.out.push_str(line)?;
+        self.out.push_str(" | ")?;
+        if line == "alone" {
+            return self.alone(net, run);
+        }
+        if line == "finish" {
+            return self.finish(net, run);
+        }
         match run {
-            None => Err(refused(place, "the run has ended")),
-            Some(book) => self.line(book, place, line),
+            Some(book) => self.call(net, book, line),
+            None => self.not_made("the run has ended\n"),
         }
     }
 
-    /// Plays a line of the schedule: the book after it, unless the run has ended.
-    fn line(&mut self, book: Book, place: u64, line: &str) -> Result<Option<Book>, Refusal>
-        requires shown { IsShown book }
-        ensures shown { IfOk result (λ run. IfSome run (λ book. IsShown book)) }
+    /// Adds what a call that leaves the run going on is answered, and where the run then stands.
+    fn call(&mut self, net: &Net, book: &mut Book, line: &str) -> Result<(), Memory>
+        requires shown { IsShown (net_view net.now) book.old }
+        ensures shown { OnOk result (IsShown (net_view net.now) book.new) }
     {
-        match call_in(line) {
-            Some(Call::Alone) => {
-                self.alone(book, line)?;
-                Ok(None)
-            }
-            Some(Call::Finish) => Ok(self.finish(book, line)?),
-            call => self.called(book, place, line, call),
-        }
+        self.answer(net, book, call_in(line))?;
+        push_standing(&mut self.out, net, book)
     }
 
-    /// The book after a call that leaves the run going on.
-    fn called(
-        &mut self,
-        book: Book,
-        place: u64,
-        line: &str,
-        call: Option<Call>,
-    ) -> Result<Option<Book>, Refusal>
-        requires shown { IsShown book }
-        ensures shown { IfOk result (λ run. IfSome run (λ book. IsShown book)) }
+    /// Makes a call that leaves the run going on, if it is one, and adds its answer.
+    fn answer(&mut self, net: &Net, book: &mut Book, call: Option<Call>) -> Result<(), Memory>
+        requires shown { IsShown (net_view net.now) book.old }
+        ensures shown { OnOk result (IsShown (net_view net.now) book.new) }
     {
-        let mut book = book;
-        match self.call(&mut book, place, line, call) {
-            Ok(()) => Ok(Some(book)),
-            Err(refusal) => Err(refusal),
-        }
-    }
-
-    /// Makes a call of the line at a place that leaves the run going on.
-    fn call(
-        &mut self,
-        book: &mut Book,
-        place: u64,
-        line: &str,
-        call: Option<Call>,
-    ) -> Result<(), Refusal>
-        requires shown { IsShown book.old }
-        ensures shown { OnOk result (IsShown book.new) }
-    {
+        let Some(call) = call else {
+            return self.not_made("it is no call");
+        };
         match call {
-            Some(Call::Claim { seat }) => self.claim_by(book, place, line, seat),
-            Some(Call::Complete { seat, run, number }) => {
-                match self.hand(run).take_evaluation(number)? {
-                    Some(done) => Ok(self.complete(book, line, seat, run, done)?),
-                    None => Err(refused(place, "no evaluation of that claim is at hand")),
-                }
-            }
-            Some(Call::GiveBack { seat, run, number }) => match self.hand(run).take_ticket(number) {
-                Some(ticket) => Ok(self.give_back(book, line, seat, run, ticket)?),
-                None => Err(refused(place, "no ticket of that claim is at hand")),
-            },
-            Some(Call::Advance) => Ok(self.advance(book, line)?),
-            Some(Call::Search { time }) => Ok(self.search(book, line, time)?),
-            _ => Err(refused(place, "it is no call")),
+            Call::Start => push_words(&mut self.out, "begun"),
+            Call::Claim { seat } => self.claim(net, book, seat),
+            Call::Complete { seat, run, number } => self.complete(net, book, seat, run, number),
+            Call::GiveBack { seat, run, number } => self.give_back(net, book, seat, run, number),
+            Call::Advance => push_advanced(&mut self.out, book.advance()),
+            Call::Search { time } => self.search(net, book, time),
         }
+    }
+
+    /// Adds that a call is not made, and why.
+    fn not_made(&mut self, why: &str) -> Result<(), Memory> {
+        self.out.push_str("not made: ")?;
+        self.out.push_str(why)?;
+        Ok(())
     }
 
     /// What is at hand of the claims of a run.
@@ -163,154 +147,227 @@ impl Table {
         }
     }
 
-    /// A claim of a seat, where the run has it.
-    fn claim_by(
-        &mut self,
-        book: &mut Book,
-        place: u64,
-        line: &str,
-        seat: u32,
-    ) -> Result<(), Refusal>
-        requires shown { IsShown book.old }
-        ensures shown { OnOk result (IsShown book.new) }
+    /// A claim of a seat, where the run has it. Its ticket is then at hand.
+    fn claim(&mut self, net: &Net, book: &mut Book, seat: u32) -> Result<(), Memory>
+        requires shown { IsShown (net_view net.now) book.old }
+        ensures shown { OnOk result (IsShown (net_view net.now) book.new) }
     {
         if book.setup().limits.seats <= seat {
-            return Err(refused(place, "the run has no such seat"));
+            return self.not_made("the run has no such seat");
         }
-        self.claim(book, line, seat)?;
-        Ok(())
+        let claimed = book.claim(seat)?;
+        push_claimed(&mut self.out, net, &claimed)?;
+        self.own.keep_claimed(claimed)
     }
 
-    /// A claim of a seat. Its ticket is then at hand.
-    fn claim(&mut self, book: &mut Book, line: &str, seat: u32) -> Result<(), Memory>
-        requires shown { IsShown book.old }
-        requires known { seat < (setup_in book.old).limits.seats }
-        ensures shown { OnOk result (IsShown book.new) }
+    /// A completion by a seat, where the evaluation is at hand.
+    fn complete(
+        &mut self,
+        net: &Net,
+        book: &mut Book,
+        seat: u32,
+        run: Run,
+        number: u64,
+    ) -> Result<(), Memory>
+        requires shown { IsShown (net_view net.now) book.old }
+        ensures shown { OnOk result (IsShown (net_view net.now) book.new) }
     {
-        let claimed = book.claim(seat)?;
-        let answer = claimed_text(self.alloc, net_of(book), &claimed)?;
-        push_row(&mut self.out, line, answer.as_str(), book)?;
-        if let Claimed::Ticket(ticket) = claimed {
-            self.own.put_ticket(ticket)?;
+        match self.hand(run).take_evaluation(number)? {
+            Some(done) => self.complete_by(net, book, seat, run, done),
+            None => self.not_made("no evaluation of that claim is at hand"),
         }
-        Ok(())
     }
 
     /// A completion by a seat. The evaluation is at hand again, where it comes back.
-    fn complete(
+    fn complete_by(
         &mut self,
+        net: &Net,
         book: &mut Book,
-        line: &str,
         seat: u32,
         run: Run,
         done: Evaluated,
     ) -> Result<(), Memory>
-        requires shown { IsShown book.old }
-        ensures shown { OnOk result (IsShown book.new) }
+        requires shown { IsShown (net_view net.now) book.old }
+        ensures shown { OnOk result (IsShown (net_view net.now) book.new) }
     {
         let completed = book.complete(seat, done)?;
-        let answer = completed_text(self.alloc, net_of(book), &completed)?;
-        push_row(&mut self.out, line, answer.as_str(), book)?;
-        if let Some(back) = evaluation_of(completed) {
-            self.hand(run).put_evaluation(back)?;
+        push_completed(&mut self.out, net, &completed)?;
+        self.hand(run).keep_completed(completed)
+    }
+
+    /// A ticket that a seat gives back, where it is at hand.
+    fn give_back(
+        &mut self,
+        net: &Net,
+        book: &mut Book,
+        seat: u32,
+        run: Run,
+        number: u64,
+    ) -> Result<(), Memory>
+        requires shown { IsShown (net_view net.now) book.old }
+        ensures shown { OnOk result (IsShown (net_view net.now) book.new) }
+    {
+        match self.hand(run).take_ticket(number) {
+            Some(ticket) => self.give_back_by(net, book, seat, run, ticket),
+            None => self.not_made("no ticket of that claim is at hand"),
         }
-        Ok(())
     }
 
     /// A ticket that a seat gives back. It is at hand again, where it comes back.
-    fn give_back(
+    fn give_back_by(
         &mut self,
+        net: &Net,
         book: &mut Book,
-        line: &str,
         seat: u32,
         run: Run,
         ticket: Ticket,
     ) -> Result<(), Memory>
-        requires shown { IsShown book.old }
-        ensures shown { OnOk result (IsShown book.new) }
+        requires shown { IsShown (net_view net.now) book.old }
+        ensures shown { OnOk result (IsShown (net_view net.now) book.new) }
     {
         let given_back = book.give_back(seat, ticket)?;
-        let answer = given_back_text(self.alloc, net_of(book), &given_back)?;
-        push_row(&mut self.out, line, answer.as_str(), book)?;
-        if let Some(back) = ticket_of(given_back) {
-            self.hand(run).put_ticket(back)?;
-        }
-        Ok(())
-    }
-
-    /// A move of the clock.
-    fn advance(&mut self, book: &mut Book, line: &str) -> Result<(), Memory>
-        requires shown { IsShown book.old }
-        ensures shown { OnOk result (IsShown book.new) }
-    {
-        let advanced = book.advance();
-        let answer = advanced_text(self.alloc, advanced)?;
-        push_row(&mut self.out, line, answer.as_str(), book)
+        push_given_back(&mut self.out, net, &given_back)?;
+        self.hand(run).keep_given_back(given_back)
     }
 
     /// A search of the unclaimed marking.
-    fn search(&mut self, book: &Book, line: &str, time: u64) -> Result<(), Memory>
-        requires shown { IsShown book.now }
+    fn search(&mut self, net: &Net, book: &Book, time: u64) -> Result<(), Memory>
+        requires shown { IsShown (net_view net.now) book.now }
     {
         if book.is_spent() {
             return Err(Memory);
         }
-        let answer = searched_text(self.alloc, net_of(book), book.unclaimed(), time)?;
-        push_row(&mut self.out, line, answer.as_str(), book)
+        push_searched(&mut self.out, self.alloc, net, book.unclaimed(), time)
     }
 
     /// The run to its end, by one seat.
-    fn alone(&mut self, book: Book, line: &str) -> Result<(), Memory>
-        requires shown { IsShown book }
+    fn alone(&mut self, net: &Net, run: &mut Option<Book>) -> Result<(), Memory>
+        requires shown { IfSome run.old (λ book. IsShown (net_view net.now) book) }
+        ensures shown { OnOk result (IfSome run.new (λ book. IsShown (net_view net.now) book)) }
     {
+        let Some(book) = run.take() else {
+            return self.not_made("the run has ended\n");
+        };
         let finished = book.run_alone()?;
-        push_end(&mut self.out, self.alloc, line, &finished)
+        push_end(&mut self.out, self.alloc, &finished)
     }
 
-    /// The end of the run, where it may end: the book, where it may not.
-    fn finish(&mut self, book: Book, line: &str) -> Result<Option<Book>, Memory>
-        requires shown { IsShown book }
-        ensures shown { IfOk result (λ run. IfSome run (λ book. IsShown book)) }
+    /// The end of the run, where it may end; else it goes on.
+    fn finish(&mut self, net: &Net, run: &mut Option<Book>) -> Result<(), Memory>
+        requires shown { IfSome run.old (λ book. IsShown (net_view net.now) book) }
+        ensures shown { OnOk result (IfSome run.new (λ book. IsShown (net_view net.now) book)) }
     {
+        let Some(book) = run.take() else {
+            return self.not_made("the run has ended\n");
+        };
         match book.finish() {
-            Finish::Ended(finished) => {
-                push_end(&mut self.out, self.alloc, line, &finished)?;
-                Ok(None)
-            }
+            Finish::Ended(finished) => push_end(&mut self.out, self.alloc, &finished),
             Finish::Running(book) => {
-                push_row(&mut self.out, line, "running", &book)?;
-                Ok(Some(book))
+                let added = self.go_on(net, &book);
+                *run = Some(book);
+                added
             }
             Finish::Spent => Err(Memory),
         }
     }
-}
 
-/// The evaluation that comes back with an answer.
-fn evaluation_of(completed: Completed) -> Option<Evaluated> {
-    match completed {
-        Completed::Stranger {
-            kept: _kept,
-            brought,
-        } => Some(brought),
-        Completed::Done => None,
-        Completed::Void { number: _number } => None,
+    /// Adds that the run goes on, and where it stands.
+    fn go_on(&mut self, net: &Net, book: &Book) -> Result<(), Memory>
+        requires shown { IsShown (net_view net.now) book.now }
+    {
+        self.out.push_str("running")?;
+        push_standing(&mut self.out, net, book)
     }
 }
 
-/// The ticket that comes back with an answer.
-fn ticket_of(given_back: GivenBack) -> Option<Ticket> {
-    match given_back {
-        GivenBack::Stranger {
-            kept: _kept,
-            brought,
-        } => Some(brought),
-        GivenBack::Cut => None,
-        GivenBack::Void { number: _number } => None,
+/// The index at the start of a run, where it is asked for.
+fn held_at_start(alloc: Global, setup: &Setup, is_indexed: bool) -> Result<Option<Held>, Memory>
+    requires playable { IsPlayable (setup_view setup.now) }
+    ensures held { IfOk result (λ held. IfSome held (λ held. IsHeld (net_view setup.now.net.value) held.marking held.index held.clock)) }
+{
+    if !is_indexed {
+        return Ok(None);
+    }
+    let held = Held::of(alloc, &setup.net, &setup.start, setup.clock)?;
+    Ok(Some(held))
+}
+
+/// Ends the row of a run that goes on: with what the index keeps, if there is one, once it has followed the run.
+fn end_row(
+    out: &mut String,
+    alloc: Global,
+    net: &Net,
+    run: &Option<Book>,
+    held: &mut Option<Held>,
+) -> Result<(), Memory>
+    requires shown { IfSome run.now (λ book. IsShown (net_view net.now) book) }
+    requires held { IfSome held.old (λ held. IsHeld (net_view net.now) held.marking held.index held.clock) }
+    ensures held { OnOk result (IfSome held.new (λ held. IsHeld (net_view net.now) held.marking held.index held.clock)) }
+{
+    match run {
+        Some(book) => {
+            follow_beside(out, alloc, net, book, held)?;
+            out.push_str("\n")?;
+            Ok(())
+        }
+        None => Ok(()),
     }
 }
 
-/// That a line of the schedule cannot be played.
-fn refused(place: u64, why: &'static str) -> Refusal {
-    Refusal::Line { number: place, why }
+/// The index, if there is one, follows the run, and its cells are added.
+fn follow_beside(
+    out: &mut String,
+    alloc: Global,
+    net: &Net,
+    book: &Book,
+    held: &mut Option<Held>,
+) -> Result<(), Memory>
+    requires shown { IsShown (net_view net.now) book.now }
+    requires held { IfSome held.old (λ held. IsHeld (net_view net.now) held.marking held.index held.clock) }
+    ensures held { OnOk result (IfSome held.new (λ held. IsHeld (net_view net.now) held.marking held.index held.clock)) }
+{
+    match held {
+        Some(held) => follow(out, alloc, net, book, held),
+        None => Ok(()),
+    }
+}
+
+/// The index follows the run to where it stands, and its cells are added.
+fn follow(
+    out: &mut String,
+    alloc: Global,
+    net: &Net,
+    book: &Book,
+    held: &mut Held,
+) -> Result<(), Memory>
+    requires shown { IsShown (net_view net.now) book.now }
+    requires held { IsHeld (net_view net.now) held.old.marking held.old.index held.old.clock }
+    ensures held { OnOk result (IsHeld (net_view net.now) held.new.marking held.new.index held.new.clock) }
+{
+    if book.is_spent() {
+        return Err(Memory);
+    }
+    held.follow(alloc, net, book.unclaimed(), book.clock())?;
+    push_held(out, alloc, net, held)
+}
+
+/// A claim of each seat. The tickets are then at hand.
+fn make_claims(book: &mut Book, found: &mut Hand) -> Result<(), Memory>
+    requires kept { IsBook book.old }
+{
+    for seat in 0..MOST_SEATS {
+        make_claim(book, found, seat)?;
+    }
+    Ok(())
+}
+
+/// A claim of a seat, where the run has it. Its ticket is then at hand.
+fn make_claim(book: &mut Book, found: &mut Hand, seat: u32) -> Result<(), Memory>
+    requires kept { IsBook book.old }
+    ensures kept { OnOk result (IsBook book.new) }
+{
+    if book.setup().limits.seats <= seat {
+        return Ok(());
+    }
+    found.keep_claimed(book.claim(seat)?)
 }

@@ -4,7 +4,7 @@ ghost use Rattle.std.specs.Prelude.{◌<◌, length};
 ghost use Rattle.cpn_core.specs.Nets.{net_view};
 ghost use Rattle.cpn_definitions.specs.Sound.{IsMarking, IsSound};
 
-use cpn_core::{Binding, Memory, Net, Pair};
+use cpn_core::{Binding, Memory, Net, Pair, Value, Variable};
 use cpn_report::{has_names, value_text};
 use cpn_search::{enabled, enabled_of, search};
 use cpn_tmset::Marking;
@@ -14,29 +14,28 @@ use std::fmt::Write;
 /// The most transitions of a net.
 const MOST_TRANSITIONS: u32 = 16_384;
 
-/// Of each transition how many tries its search makes and which bindings it finds, each with its least time; then the least
+/// Appends of each transition how many tries its search makes and which bindings it finds, each with its least time; then the least
 /// times of all enabled elements from a time on.
-pub fn searched_text(
+pub fn push_searched(
+    out: &mut String,
     alloc: Global,
     net: &Net,
     marking: &Marking,
     time: u64,
-) -> Result<String, Memory>
+) -> Result<(), Memory>
     requires sound { IsSound (net_view net.now) }
     requires marking { IsMarking (net_view net.now).places marking.now }
 {
-    let mut out = String::new(alloc);
     for t in 0..MOST_TRANSITIONS {
         if (t as usize) < net.transitions.len() {
-            push_search(&mut out, alloc, net, marking, t)?;
+            push_search(out, alloc, net, marking, t)?;
         }
     }
     out.push_str("from then")?;
     for element in &enabled(alloc, net, marking, time)? {
-        let earliest = element.entry.earliest;
-        write!(out, " @{earliest}")?;
+        push_time(out, " ", element.entry.earliest)?;
     }
-    Ok(out)
+    Ok(())
 }
 
 /// Appends what the search of a transition finds.
@@ -55,10 +54,15 @@ fn push_search(
     write!(out, "{tries} tries")?;
     for one in &enabled_of(alloc, net, marking, t)? {
         push_binding(out, alloc, net, &one.entry.element.binding)?;
-        let earliest = one.entry.earliest;
-        write!(out, "@{earliest}")?;
+        push_time(out, "", one.entry.earliest)?;
     }
     out.push_str("; ")?;
+    Ok(())
+}
+
+/// Appends a sign and a least time.
+fn push_time(out: &mut String, sign: &str, time: u64) -> Result<(), Memory> {
+    write!(out, "{sign}@{time}")?;
     Ok(())
 }
 
@@ -85,12 +89,26 @@ fn push_binding(
 
 /// Appends a variable with its value.
 fn push_pair(out: &mut String, alloc: Global, net: &Net, pair: &Pair) -> Result<(), Memory> {
-    if let Some(variable) = net.variables.get(pair.variable as usize) {
-        if variable.colour.admits(&pair.value) && has_names(net, &variable.colour) {
-            let name = variable.name.as_str();
-            let text = value_text(alloc, net, &variable.colour, &pair.value)?;
-            write!(out, "{name}={text}")?;
-        }
+    match net.variables.get(pair.variable as usize) {
+        Some(variable) => push_value(out, alloc, net, variable, &pair.value),
+        None => Ok(()),
     }
+}
+
+/// Appends a variable with a value, where that is one of its colour set and has its names.
+fn push_value(
+    out: &mut String,
+    alloc: Global,
+    net: &Net,
+    variable: &Variable,
+    value: &Value,
+) -> Result<(), Memory> {
+    if !variable.colour.admits(value) || !has_names(net, &variable.colour) {
+        return Ok(());
+    }
+    out.push_str(variable.name.as_str())?;
+    out.push_str("=")?;
+    let text = value_text(alloc, net, &variable.colour, value)?;
+    out.push_str(text.as_str())?;
     Ok(())
 }

@@ -10,7 +10,7 @@ use Rattle.cpn_definitions.specs.Outcome.{HasMeaning}
 use Rattle.cpn_definitions.specs.Terms.{terms_of}
 use Rattle.cpn_definitions.proofs.TokenCounts.{tokens_are_few}
 use Rattle.cpn_eval.specs.Terms.{items_view}
-use Rattle.cpn_module_nets.specs.Views.{initial_view}
+use Rattle.cpn_accepted.specs.Views.{initial_view}
 use Rattle.cpn_module_trees.specs.TreesViews.{tree_view}
 use Rattle.cpn_readings.specs.Relations.{RefusesBy}
 use Rattle.cpn_edit_texts.specs.Answers.{edit_refusal_of}

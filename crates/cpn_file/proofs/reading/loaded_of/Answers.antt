@@ -2,7 +2,7 @@
 use Rattle.std.proofs.lemmas.Result.{err_from_is_err_and}
 use Rattle.cpn_document.specs.Views.{document_view}
 use Rattle.cpn_module_nets.specs.Answers.{net_refusal_of}
-use Rattle.cpn_module_nets.specs.Views.{accepted_view}
+use Rattle.cpn_accepted.specs.Views.{accepted_view}
 use Rattle.cpn_flat.specs.Answers.{refusal_of}
 use Rattle.cpn_flat.specs.Views.{loaded_view}
 use Rattle.cpn_file.proofs.LoadedDocuments.{few_declared, loaded_well, not_accepted, not_flat, is_loaded}

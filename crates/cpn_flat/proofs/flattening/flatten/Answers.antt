@@ -7,8 +7,8 @@ use Rattle.cpn_document.specs.Views.{document_view}
 use Rattle.cpn_fuse.specs.Answers.{refusal_of}
 use Rattle.cpn_fuse.specs.Views.{instances_view}
 use Rattle.cpn_module.specs.Views.{hierarchy_view}
-use Rattle.cpn_module_nets.specs.Views.{module_net_view, accepted_view}
-use Rattle.cpn_module_nets.specs.declared.nets.ModuleNet.{ModuleNet}
+use Rattle.cpn_accepted.specs.Views.{module_net_view, accepted_view}
+use Rattle.cpn_accepted.specs.declared.nets.ModuleNet.{ModuleNet}
 use Rattle.cpn_fuse.specs.Instances.{PlainInstance}
 use Rattle.cpn_readings.specs.Relations.{RefusesBy}
 use Rattle.cpn_flat.specs.Answers.{refusal_of as flat_refusal_of, GivesBy}

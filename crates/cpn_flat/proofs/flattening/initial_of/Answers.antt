@@ -3,7 +3,7 @@ use Rattle.std.proofs.Common.{◌≡◌, ◌∙◌, map, ap, subst, sym}
 use Rattle.std.proofs.lemmas.List.{length-map}
 use Rattle.cpn_core.specs.Nets.{net_view}
 use Rattle.cpn_fuse.specs.Views.{instances_view}
-use Rattle.cpn_module_nets.specs.Views.{module_net_view}
+use Rattle.cpn_accepted.specs.Views.{module_net_view}
 use Rattle.cpn_flat.specs.Answers.{GivesBy}
 use Rattle.cpn_flat.specs.Flat.{all_written}
 use Rattle.cpn_flat.specs.InitialMarking.{written_in, AreAllMeant, started}

@@ -2,7 +2,7 @@
 use Rattle.std.proofs.Common.{◌≡◌, map, take, string_bytes}
 use Rattle.cpn_core.specs.Nets.{place_view}
 use Rattle.cpn_fuse.specs.Views.{instance_view}
-use Rattle.cpn_module_nets.specs.Views.{module_net_view}
+use Rattle.cpn_accepted.specs.Views.{module_net_view}
 use Rattle.cpn_flat.specs.FlatNet.{each_instance, places_at}
 use Rattle.cpn_flat.proofs.places.all_places.Given as goal
 

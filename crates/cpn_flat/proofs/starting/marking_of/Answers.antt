@@ -7,7 +7,7 @@ use Rattle.std.proofs.lemmas.Result.{err_from_is_err_and}
 use Rattle.cpn_core.specs.Nets.{net_view}
 use Rattle.cpn_core.specs.declared.inscriptions.ArcExpr.{ArcExpr}
 use Rattle.cpn_eval.specs.declared.term.Term.{Term}
-use Rattle.cpn_module_nets.specs.Nets.{Initial}
+use Rattle.cpn_accepted.specs.Nets.{Initial}
 use Rattle.cpn_flat.specs.WrittenViews.{written_view, lists_view}
 use Rattle.cpn_flat.specs.Values.{value_lists_view, AreAllFew}
 use Rattle.cpn_flat.specs.Answers.{refusal_of}

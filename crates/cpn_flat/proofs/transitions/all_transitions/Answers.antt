@@ -2,7 +2,7 @@
 use Rattle.std.proofs.Common.{◌<◌, map, length, string_bytes}
 use Rattle.cpn_fuse.specs.Views.{instance_view, instances_view}
 use Rattle.cpn_module.specs.Views.{hierarchy_view}
-use Rattle.cpn_module_nets.specs.Views.{module_net_view}
+use Rattle.cpn_accepted.specs.Views.{module_net_view}
 use Rattle.cpn_flat.specs.FlatNet.{transitions_at}
 use Rattle.cpn_flat.proofs.AllItems.{all_at}
 use Rattle.cpn_flat.proofs.InstanceLists.{instance_more}

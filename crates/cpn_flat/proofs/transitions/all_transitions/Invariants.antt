@@ -3,7 +3,7 @@ use Rattle.std.proofs.Common.{◌≡◌, map, take, string_bytes}
 use Rattle.cpn_core.specs.Nets.{transition_view}
 use Rattle.cpn_fuse.specs.Views.{instance_view, instances_view}
 use Rattle.cpn_module.specs.Views.{hierarchy_view}
-use Rattle.cpn_module_nets.specs.Views.{module_net_view}
+use Rattle.cpn_accepted.specs.Views.{module_net_view}
 use Rattle.cpn_flat.specs.FlatNet.{each_instance, transitions_at}
 use Rattle.cpn_flat.proofs.transitions.all_transitions.Given as goal
 

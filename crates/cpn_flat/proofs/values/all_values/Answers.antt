@@ -8,7 +8,7 @@ use Rattle.std.proofs.lemmas.List.{map-append}
 use Rattle.cpn_core.specs.Nets.{net_view}
 use Rattle.cpn_core.specs.declared.inscriptions.ArcExpr.{ArcExpr}
 use Rattle.cpn_eval.specs.declared.term.Term.{Term}
-use Rattle.cpn_module_nets.specs.Nets.{Initial}
+use Rattle.cpn_accepted.specs.Nets.{Initial}
 use Rattle.cpn_readings.proofs.RelatedLists.{AreRead, related_more, related_refused, related_done}
 use Rattle.cpn_readings.specs.Relations.{RefusesBy}
 use Rattle.cpn_flat.specs.Refusals.{read}

@@ -5,7 +5,7 @@ use Rattle.cpn_definitions.specs.Terms.{PlainTerm, terms_of}
 use Rattle.cpn_core.specs.Faults.{fault_view}
 use Rattle.cpn_core.specs.Inscriptions.{funs_view}
 use Rattle.cpn_core.specs.Nets.{place_view}
-use Rattle.cpn_module_nets.specs.Views.{initial_view}
+use Rattle.cpn_accepted.specs.Views.{initial_view}
 use Rattle.cpn_readings.specs.Relations.{RefusesBy}
 use Rattle.std.specs.Prelude.{List}
 use Rattle.cpn_flat.specs.InitialMarking.{terms_so}

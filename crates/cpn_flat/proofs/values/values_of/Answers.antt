@@ -8,7 +8,7 @@ use Rattle.cpn_core.specs.Inscriptions.{funs_view}
 use Rattle.cpn_core.specs.Nets.{place_view}
 use Rattle.cpn_eval.specs.Terms.{items_view}
 use Rattle.cpn_eval.specs.declared.term.Term.{Term}
-use Rattle.cpn_module_nets.specs.Nets.{Initial, IsMeant}
+use Rattle.cpn_accepted.specs.Nets.{Initial, IsMeant}
 use Rattle.cpn_readings.proofs.RelatedLists.{AreRead, related_more, related_refused, related_done}
 use Rattle.cpn_flat.specs.InitialMarking.{value_so}
 use Rattle.cpn_flat.specs.WrittenViews.{referred_view, written_view}

@@ -1,7 +1,7 @@
 -- The initial markings of an instance more, and of all.
 use Rattle.std.proofs.Common.{◌<◌, map, length}
 use Rattle.cpn_fuse.specs.Views.{instance_view}
-use Rattle.cpn_module_nets.specs.Views.{module_net_view}
+use Rattle.cpn_accepted.specs.Views.{module_net_view}
 use Rattle.cpn_flat.specs.InitialMarking.{initials_at}
 use Rattle.cpn_flat.proofs.AllItems.{all_at}
 use Rattle.cpn_flat.proofs.InstanceLists.{instance_more, instances_all, none_yet}

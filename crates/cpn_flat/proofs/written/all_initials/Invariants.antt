@@ -1,7 +1,7 @@
 -- The initial markings of the instances so far.
 use Rattle.std.proofs.Common.{◌≡◌, map, take}
 use Rattle.cpn_fuse.specs.Views.{instance_view}
-use Rattle.cpn_module_nets.specs.Views.{module_net_view}
+use Rattle.cpn_accepted.specs.Views.{module_net_view}
 use Rattle.cpn_flat.specs.FlatNet.{each_instance}
 use Rattle.cpn_flat.specs.InitialMarking.{initials_at}
 use Rattle.cpn_flat.specs.WrittenViews.{optional_view}

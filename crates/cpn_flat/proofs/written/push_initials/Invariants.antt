@@ -1,6 +1,6 @@
 -- The initial markings so far stand behind those that were there.
 use Rattle.std.proofs.Common.{◌≡◌, ◌++◌, take}
-use Rattle.cpn_module_nets.specs.Views.{initials_view}
+use Rattle.cpn_accepted.specs.Views.{initials_view}
 use Rattle.cpn_flat.specs.WrittenViews.{optional_view}
 use Rattle.cpn_flat.proofs.written.push_initials.Given as goal
 

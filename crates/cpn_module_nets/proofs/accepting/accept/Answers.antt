@@ -1,6 +1,6 @@
 -- A document is accepted as one thing, and what is accepted is well.
 use Rattle.cpn_document.specs.Views.{document_view}
-use Rattle.cpn_module_nets.specs.Views.{accepted_view}
+use Rattle.cpn_accepted.specs.Views.{accepted_view}
 use Rattle.cpn_module_nets.proofs.OneReading.{accepted_one}
 use Rattle.cpn_module_nets.proofs.WellAccepted.{well_answered}
 use Rattle.cpn_module_nets.proofs.accepting.accept.Goals as goal

@@ -10,13 +10,13 @@ use Rattle.cpn_module.specs.Views.{structure_view, hierarchy_view}
 use Rattle.cpn_module_trees.specs.TreesViews.{declared_view, module_trees_view, document_trees_view}
 use Rattle.cpn_module_trees.specs.declared.trees.ModuleTrees.{ModuleTrees}
 use Rattle.cpn_typing.specs.Names.{nothing_declared}
+use Rattle.cpn_accepted.specs.Views.{module_net_view}
+use Rattle.cpn_accepted.specs.Nets.{places_at}
 use Rattle.cpn_module_nets.specs.Accepted.{declared_from, places_of}
-use Rattle.cpn_module_nets.specs.Views.{module_net_view}
 use Rattle.cpn_module_nets.specs.AcceptedViews.{places_view}
 use Rattle.cpn_module_nets.specs.Answers.{Refuses, RefusesBy, net_refusal_of}
 use Rattle.cpn_module_nets.specs.Documents.{nets_so}
 use Rattle.cpn_module_nets.specs.Fitting.{GoTogether, trees_at}
-use Rattle.cpn_module_nets.specs.Nets.{places_at}
 use Rattle.cpn_module_nets.specs.Reading.{read, each_from}
 use Rattle.cpn_module_nets.proofs.CheckedModules.{kept}
 use Rattle.cpn_module_nets.proofs.ModuleParts.{as_many_modules, as_many_structures, all_together}

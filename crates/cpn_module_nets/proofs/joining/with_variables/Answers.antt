@@ -2,8 +2,8 @@
 use Rattle.std.proofs.Common.{[], ◌∷◌, map}
 use Rattle.std.proofs.lemmas.List.{map-append}
 use Rattle.cpn_core.specs.Nets.{transition_view}
-use Rattle.cpn_module_nets.specs.Transitions.{IsCompleted}
 use Rattle.cpn_readings.proofs.ItemByItem.{each_is_more}
+use Rattle.cpn_accepted.specs.Completed.{IsCompleted}
 use Rattle.cpn_module_nets.proofs.joining.with_variables.Goals as goal
 
 pub loop-transition-preserved : goal.loop-transition-preserved

@@ -1,8 +1,8 @@
 -- The transitions so far have their variables.
 use Rattle.std.proofs.Common.{map}
 use Rattle.cpn_core.specs.Nets.{transition_view}
-use Rattle.cpn_module_nets.specs.Transitions.{IsCompleted}
 use Rattle.cpn_readings.specs.ItemByItem.{EachIs}
+use Rattle.cpn_accepted.specs.Completed.{IsCompleted}
 use Rattle.cpn_module_nets.proofs.joining.with_variables.Given as goal
 
 abbrev pub invariant-loop-transition : goal.invariant-loop-transition

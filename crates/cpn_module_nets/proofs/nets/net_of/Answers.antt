@@ -5,8 +5,8 @@ use Rattle.cpn_core.specs.Nets.{place_view, transition_view}
 use Rattle.cpn_declared.specs.DeclsViews.{decls_view}
 use Rattle.cpn_module.specs.Views.{structure_view}
 use Rattle.cpn_module_trees.specs.TreesViews.{place_trees_view, module_trees_view}
+use Rattle.cpn_accepted.specs.Views.{initials_view}
 use Rattle.cpn_module_nets.specs.Accepted.{initial_of}
-use Rattle.cpn_module_nets.specs.Views.{initials_view}
 use Rattle.cpn_module_nets.specs.Answers.{Refuses, RefusesBy, net_refusal_of}
 use Rattle.cpn_module_nets.specs.Documents.{transitions_so}
 use Rattle.cpn_module_nets.specs.Reading.{read, each_from}

@@ -6,13 +6,13 @@ use Rattle.cpn_declared.specs.DeclsViews.{decls_view}
 use Rattle.cpn_module.specs.Hierarchy.{structure_at}
 use Rattle.cpn_module.specs.Views.{structure_view, hierarchy_view}
 use Rattle.cpn_module_trees.specs.TreesViews.{module_trees_view}
-use Rattle.cpn_module_nets.specs.Views.{module_net_view}
+use Rattle.cpn_accepted.specs.Views.{module_net_view}
 use Rattle.cpn_module_nets.specs.AcceptedViews.{places_view}
-use Rattle.cpn_module_nets.specs.declared.nets.ModuleNet.{ModuleNet}
+use Rattle.cpn_accepted.specs.declared.nets.ModuleNet.{ModuleNet}
 use Rattle.cpn_module_nets.specs.Answers.{RefusesBy, net_refusal_of}
 use Rattle.cpn_module_nets.specs.Documents.{net_so, nets_so}
 use Rattle.cpn_module_nets.specs.Fitting.{GoTogether}
-use Rattle.cpn_module_nets.specs.Nets.{places_at}
+use Rattle.cpn_accepted.specs.Nets.{places_at}
 use Rattle.cpn_module_nets.specs.Reading.{read}
 use Rattle.cpn_module_nets.proofs.ListFacts.{next_left}
 use Rattle.cpn_module_nets.proofs.NumberedModules.{structure_there, trees_there, places_there, of_same}

@@ -4,10 +4,10 @@ use Rattle.cpn_declared.specs.DeclsViews.{decls_view}
 use Rattle.cpn_module.specs.Hierarchy.{structure_at}
 use Rattle.cpn_module.specs.Views.{hierarchy_view}
 use Rattle.cpn_module_trees.specs.TreesViews.{module_trees_view}
-use Rattle.cpn_module_nets.specs.Views.{module_net_view}
+use Rattle.cpn_accepted.specs.Views.{module_net_view}
 use Rattle.cpn_module_nets.specs.AcceptedViews.{places_view}
 use Rattle.cpn_module_nets.specs.Documents.{net_so}
-use Rattle.cpn_module_nets.specs.Nets.{places_at}
+use Rattle.cpn_accepted.specs.Nets.{places_at}
 use Rattle.cpn_readings.proofs.RelatedLists.{AreRead}
 use Rattle.cpn_module_nets.proofs.nets.nets_of.Given as goal
 

@@ -9,13 +9,14 @@ use Rattle.cpn_module.specs.Hierarchy.{PlainEnds}
 use Rattle.cpn_module.specs.Views.{structure_view}
 use Rattle.cpn_module_trees.specs.TreesViews.{tree_view, transition_trees_view, module_trees_view}
 use Rattle.cpn_readings.specs.ItemByItem.{EachIs}
+use Rattle.cpn_accepted.specs.Completed.{IsCompleted}
+use Rattle.cpn_accepted.specs.Nets.{net_from}
 use Rattle.cpn_module_nets.specs.Accepted.{Sides, bare_transition, arc_of, joined_from}
 use Rattle.cpn_module_nets.specs.AcceptedViews.{sides_views}
 use Rattle.cpn_module_nets.specs.Answers.{Refuses, RefusesBy, net_refusal_of}
 use Rattle.cpn_module_nets.specs.Joining.{IsAtOneOf}
-use Rattle.cpn_module_nets.specs.Nets.{net_from}
 use Rattle.cpn_module_nets.specs.Reading.{read, each_from}
-use Rattle.cpn_module_nets.specs.Transitions.{IsCompleted, HasItsTerms, AreBindable}
+use Rattle.cpn_module_nets.specs.Transitions.{HasItsTerms, AreBindable}
 use Rattle.cpn_module_nets.proofs.AcceptedTransitions.{transitions_good, good_have_terms}
 use Rattle.cpn_module_nets.proofs.ArcNodes.{at_transitions}
 use Rattle.cpn_module_nets.proofs.ReadNets.{bares_refused, arcs_refused, variables_refused, transitions_read}

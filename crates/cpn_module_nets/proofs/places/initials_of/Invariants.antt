@@ -2,7 +2,7 @@
 use Rattle.std.proofs.Common.{◌≡◌, drop, map}
 use Rattle.std.specs.Prelude.{Option, option_map}
 use Rattle.cpn_core.specs.declared.inscriptions.ArcExpr.{ArcExpr}
-use Rattle.cpn_module_nets.specs.Views.{initial_view}
+use Rattle.cpn_accepted.specs.Views.{initial_view}
 use Rattle.cpn_module_trees.specs.TreesViews.{place_trees_view}
 use Rattle.cpn_declared.specs.DeclsViews.{decls_view}
 use Rattle.cpn_module_nets.specs.Accepted.{initial_of}

@@ -2,10 +2,13 @@
 use Rattle.cpn_core.specs.Nets.{net_view}
 use Rattle.cpn_test_index.proofs.held.Held.advance_to.Goals as goal
 
-pub returns-clause-held : goal.returns-clause-held
-returns-clause-held c = record {
-  sound = c.requires.held.sound;
-  marking = c.requires.held.marking;
-  enabled = c.advance_to.ensures.index (net_view c.args.self.now.net) c.args.self.now.marking c.requires.held.enabled;
-  at = c.advance_to.ensures.moved;
+pub returns : goal.returns
+returns c = record {
+  held = record {
+    sound = c.requires.held.sound;
+    marking = c.requires.held.marking;
+    enabled = c.advance_to.ensures.index (net_view c.args.self.now.net) c.args.self.now.marking c.requires.held.enabled;
+    at = c.advance_to.ensures.moved;
+    editable = c.requires.held.editable;
+  };
 }

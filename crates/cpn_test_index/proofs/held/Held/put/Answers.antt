@@ -27,12 +27,15 @@ update-requires-clause-follows g c = record {
       others_stay_put c.args.place _ c.args.stamp c.args.self.now.marking c.add.new.self _ (omega (arith, same, within)) c.in_ok-changes.ensures.told c.in_ok-add.ensures.added;
 }
 
-pub returns-clause-held : goal.returns-clause-held
-returns-clause-held g c = record {
-  sound = c.requires.held.sound;
-  marking =
-      subst (IsMarking (net_view c.args.self.now.net).places) (sym c.in_ok-add.ensures.added)
-      (marking_put (net_view c.args.self.now.net).places c.args.place _ c.args.stamp c.args.self.now.marking c.requires.held.marking (c.may_be_put.ensures.held c.if-not-may_be_put.false));
-  enabled = c.in_ok-update.ensures.updated;
-  at = c.in_ok-update.ensures.clock ∙ c.requires.held.at;
+pub returns : goal.returns
+returns g c = record {
+  held = record {
+    sound = c.requires.held.sound;
+    marking =
+        subst (IsMarking (net_view c.args.self.now.net).places) (sym c.in_ok-add.ensures.added)
+        (marking_put (net_view c.args.self.now.net).places c.args.place _ c.args.stamp c.args.self.now.marking c.requires.held.marking (c.may_be_put.ensures.held c.if-not-may_be_put.false));
+    enabled = c.in_ok-update.ensures.updated;
+    at = c.in_ok-update.ensures.clock ∙ c.requires.held.at;
+    editable = c.requires.held.editable;
+  };
 }

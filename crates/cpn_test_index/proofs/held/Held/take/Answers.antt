@@ -16,10 +16,13 @@ update-requires-clause-follows g c = record {
   stay = others_stay_taken c.args.place _ c.args.latest c.args.self.now.marking c.take.new.self _ c.in_ok-changes.ensures.told c.take.ensures.taken;
 }
 
-pub returns-clause-held : goal.returns-clause-held
-returns-clause-held g c = record {
-  sound = c.requires.held.sound;
-  marking = subst (IsMarking (net_view c.args.self.now.net).places) (sym c.take.ensures.taken) (marking_taken (net_view c.args.self.now.net).places c.args.place _ c.args.latest c.args.self.now.marking c.requires.held.marking);
-  enabled = c.in_ok-update.ensures.updated;
-  at = c.in_ok-update.ensures.clock ∙ c.requires.held.at;
+pub returns : goal.returns
+returns g c = record {
+  held = record {
+    sound = c.requires.held.sound;
+    marking = subst (IsMarking (net_view c.args.self.now.net).places) (sym c.take.ensures.taken) (marking_taken (net_view c.args.self.now.net).places c.args.place _ c.args.latest c.args.self.now.marking c.requires.held.marking);
+    enabled = c.in_ok-update.ensures.updated;
+    at = c.in_ok-update.ensures.clock ∙ c.requires.held.at;
+    editable = c.requires.held.editable;
+  };
 }

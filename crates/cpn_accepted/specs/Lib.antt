@@ -1,0 +1,4 @@
+pub mod Nets
+pub mod Views
+pub mod AsWritten
+pub mod Completed

@@ -1,0 +1,15 @@
+mod AcceptedRuns
+mod AcceptedSessions
+mod FewOpenClaims
+mod NextRuns
+mod OneReport
+mod OptionRanges
+mod OptionRows
+mod ReadDocuments
+mod Readings
+mod RefusalCauses
+mod RefusedDocuments
+mod Rows
+mod SessionRuns
+mod SharedSeats
+mod WrittenReports

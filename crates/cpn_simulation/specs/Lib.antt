@@ -1,0 +1,13 @@
+pub mod Limits
+pub mod Options
+pub mod Words
+pub mod OptionsView
+pub mod Given
+pub mod Documents
+pub mod Reported
+pub mod Telling
+pub mod AcceptedRuns
+pub mod Causes
+pub mod RefusalViews
+pub mod Statuses
+pub mod SharedBooks

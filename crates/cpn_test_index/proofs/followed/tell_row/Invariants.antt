@@ -1,5 +1,0 @@
--- The ledger is the one that was made.
-use Rattle.cpn_test_index.proofs.followed.tell_row.Given as goal
-
-abbrev pub ghosts-tell : goal.ghosts-tell
-ghosts-tell a = record { name = a.blank.name; parts = a.blank.parts }

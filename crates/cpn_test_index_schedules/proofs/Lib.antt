@@ -1,2 +1,0 @@
-mod StampLists
-mod ToldValues
