@@ -425,7 +425,7 @@ class Net:
     """The flat net of a document, and its phases."""
 
     def __init__(self, document):
-        self.known = Declared(document["declarations"])
+        self.known, self.bindings = Declared(document["declarations"]), {}
         found = [*instances(document, document["top"], document["top"])]
         self.compound = compound(document, found)
         self.phases = document.get("phases") or [{"start": "initial"}]
@@ -505,7 +505,13 @@ class Net:
     def occurrences(self, text):
         """Yields the time, the transition and the binding of each occurrence of a run."""
         for time, name, binding in re.findall(r"^occ \d+ @(\d+) (.*?) \{(.*)\}$", text, re.M):
-            yield int(time), name, Reader(binding, self.known).binding()
+            yield int(time), name, self.binding(binding)
+
+    def binding(self, text):
+        """Returns the binding that a text is. Equal texts are read once, so nobody may change it."""
+        if text not in self.bindings:
+            self.bindings[text] = Reader(text, self.known).binding()
+        return self.bindings[text]
 
     def printed(self, text):
         """Returns the marking that is printed of a run."""

@@ -1,13 +1,16 @@
 -- Which inscriptions are read as patterns, and which are binding terms.
-use Rattle.std.proofs.Common.{◌≡◌, zero, suc, ◌==◌, pos, negsuc, false, cond, List, [], ◌∷◌, length, get_or, Some, None, refl, ap, ◌∙◌, arith}
+use Rattle.std.proofs.Common.{◌≡◌, ℕ, zero, suc, ◌==◌, pos, negsuc, false, cond, List, [], ◌∷◌, length, get_or, Option, Some, None, Box, Global, refl, sym, ap, ◌∙◌, arith}
 use Rattle.std.specs.List.{remove}
-use Rattle.std.specs.Option.{option_and_then}
+use Rattle.std.specs.Option.{option_map, option_and_then}
 use Rattle.std.proofs.lemmas.Bool.Decides.{nat_tests}
 use Rattle.cpn_definitions.specs.Value.{int}
-use Rattle.cpn_definitions.specs.Inscription.{Operation, operation, cons, cons_pattern, PlainExpr, PlainExprs, literal, apply, times}
-use Rattle.cpn_definitions.specs.Bindable.{list_of_two, pattern_of, patterns_of, term_with, binding_term}
+use Rattle.cpn_definitions.specs.Inscription.{Operation, operation, cons, PlainPattern, cons_pattern, applied_pattern, no_patterns, more_patterns, PlainExpr, PlainExprs, literal, apply, times}
+use Rattle.cpn_definitions.specs.Bindable.{constructor_pattern, list_of_two, pattern_of, patterns_of, term_with, binding_term}
 use Rattle.cpn_core.specs.declared.inscriptions.Pat.{Pat}
-use Rattle.cpn_core.specs.Inscriptions.{pattern_view, patterns_view}
+use Rattle.cpn_core.specs.declared.inscriptions.Expr.{Expr}
+use Rattle.cpn_core.specs.declared.inscriptions.Expr.TheViews as exprs
+use Rattle.cpn_core.specs.Inscriptions.{pattern_view, patterns_view, expr_view}
+use Rattle.cpn_core.proofs.InscriptionLevels.{view_applied}
 use Rattle.cpn_bindable.specs.TermForms.{is_cons, literal_count}
 
 pub pattern_of_operation : (o : Operation) (es : PlainExprs) → pattern_of (apply (operation o) es) ≡ cond (is_cons o) (option_and_then list_of_two (patterns_of es)) None
@@ -20,6 +23,16 @@ counted_term (literal (int (pos (suc k)))) e = let more : (suc k == 0) ≡ false
 counted_term (literal (int (negsuc k))) e = refl
 counted_term (literal v) e = refl
 counted_term k e = refl
+
+-- ---- of a constructor with its argument
+
+pub read_applied : (e f : Expr) (k : ℕ) (b : Box Expr Global) → e ≡ exprs.Con k (Some b) → f ≡ b.value → pattern_of (expr_view e) ≡ option_map (applied_pattern k) (pattern_of (expr_view f))
+read_applied e f k b is same =
+    ap (λ x. pattern_of (expr_view x)) is ∙ ap pattern_of (view_applied k b) ∙ split (pattern_of (expr_view b.value)) ∙ ap (λ x. option_map (applied_pattern k) (pattern_of (expr_view x))) (sym same)
+  where
+    split : (o : Option PlainPattern) → option_and_then (constructor_pattern k) (option_and_then (λ p. option_map (more_patterns p) (Some no_patterns)) o) ≡ option_map (applied_pattern k) o
+    split None = refl
+    split (Some p) = refl
 
 -- ---- of two patterns
 

@@ -1,7 +1,9 @@
 mod BindableChecked
 mod BindingTermForms
+mod ConjunctEquations
 mod EquationForms
 mod FoundSteps
+mod FoundVariables
 mod GatheredVariables
 mod ListedNumbers
 mod NumberedEquations

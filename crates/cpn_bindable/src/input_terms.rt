@@ -1,8 +1,10 @@
 //! The binding terms of an inscription of an input arc: the patterns that its tokens fit.
 
-ghost use Rattle.std.specs.Prelude.{◌≡◌, ◌++◌, map, option_map, IfOk};
-ghost use Rattle.cpn_definitions.specs.Inscription.{inscriptions_from};
+ghost use Rattle.std.specs.Prelude.{◌≡◌, ◌++◌, map, option_map, Some, IfOk};
+ghost use Rattle.std.specs.Option.{option_and_then};
+ghost use Rattle.cpn_definitions.specs.Inscription.{applied_pattern, inscriptions_from, list_pattern, literal_pattern, tuple_pattern};
 ghost use Rattle.cpn_definitions.specs.Bindable as bindable;
+ghost use Rattle.cpn_core.specs.Views.{value_view};
 ghost use Rattle.cpn_core.specs.Inscriptions.{op_view, pattern_view, patterns_view, expr_view, exprs_view, multiset_view, term_view};
 ghost use Rattle.cpn_bindable.specs.TermForms as forms;
 
@@ -12,34 +14,22 @@ use std::alloc::Global;
 /// The inscription read as a pattern, if it is made of variables, literals, constants, constructors, tuples, lists and
 /// `::` alone.
 #[cycle(patterns)]
-#[tactic(auto, using(crate::proofs::BindingTermForms::pattern_of_operation, cpn_core::proofs::InscriptionLevels::view_applied, cpn_core::proofs::InscriptionLevels::view_con_pattern))]
+#[tactic(auto, using(crate::proofs::BindingTermForms::pattern_of_operation))]
 fn pattern_of(alloc: Global, expr: &Expr) -> Result<Option<Pat>, Memory>
     ensures exact { IfOk result (λ pattern. option_map pattern_view pattern ≡ bindable.pattern_of (expr_view expr.now)) }
 {
     match expr {
-        Expr::Lit(value) => Ok(Some(Pat::Lit(value.copy()?))),
+        Expr::Lit(value) => literal_of(value),
         Expr::Var(number) => Ok(Some(Pat::Var(*number))),
         Expr::Op(operation, parts) => match is_cons(*operation) {
-            true => match patterns_of(alloc, parts)? {
-                None => Ok(None),
-                Some(patterns) => head_and_tail(alloc, patterns),
-            },
+            true => cons_of(alloc, parts),
             false => Ok(None),
         },
-        Expr::Tuple(parts) => match patterns_of(alloc, parts)? {
-            None => Ok(None),
-            Some(patterns) => Ok(Some(Pat::Tuple(patterns))),
-        },
-        Expr::List(parts) => match patterns_of(alloc, parts)? {
-            None => Ok(None),
-            Some(patterns) => Ok(Some(Pat::List(patterns))),
-        },
+        Expr::Tuple(parts) => tuple_of(alloc, parts),
+        Expr::List(parts) => list_of(alloc, parts),
         Expr::Con(position, argument) => match argument {
             None => Ok(Some(Pat::Con(*position, None))),
-            Some(part) => match pattern_of(alloc, part)? {
-                None => Ok(None),
-                Some(pattern) => Ok(Some(Pat::Con(*position, Some(Box::new(alloc, pattern)?)))),
-            },
+            Some(part) => constructor_of(alloc, *position, part),
         },
         Expr::Local(_) => Ok(None),
         Expr::Time => Ok(None),
@@ -54,6 +44,59 @@ fn pattern_of(alloc: Global, expr: &Expr) -> Result<Option<Pat>, Memory>
             body: _,
         } => Ok(None),
         Expr::Call(_, _) => Ok(None),
+    }
+}
+
+/// The pattern of a literal.
+fn literal_of(value: &Value) -> Result<Option<Pat>, Memory>
+    ensures exact { IfOk result (λ pattern. option_map pattern_view pattern ≡ Some (literal_pattern (value_view value.now))) }
+{
+    let value = value.copy()?;
+    Ok(Some(Pat::Lit(value)))
+}
+
+/// The pattern of a head and a tail, if both parts are read as patterns.
+#[cycle(patterns)]
+fn cons_of(alloc: Global, parts: &Exprs) -> Result<Option<Pat>, Memory>
+    ensures exact { IfOk result (λ pattern. option_map pattern_view pattern ≡ option_and_then bindable.list_of_two (bindable.patterns_of (exprs_view parts.now.items))) }
+{
+    match patterns_of(alloc, parts)? {
+        None => Ok(None),
+        Some(patterns) => head_and_tail(alloc, patterns),
+    }
+}
+
+/// The pattern of a tuple, if its parts are read as patterns.
+#[cycle(patterns)]
+fn tuple_of(alloc: Global, parts: &Exprs) -> Result<Option<Pat>, Memory>
+    ensures exact { IfOk result (λ pattern. option_map pattern_view pattern ≡ option_map tuple_pattern (bindable.patterns_of (exprs_view parts.now.items))) }
+{
+    match patterns_of(alloc, parts)? {
+        None => Ok(None),
+        Some(patterns) => Ok(Some(Pat::Tuple(patterns))),
+    }
+}
+
+/// The pattern of a list, if its items are read as patterns.
+#[cycle(patterns)]
+fn list_of(alloc: Global, items: &Exprs) -> Result<Option<Pat>, Memory>
+    ensures exact { IfOk result (λ pattern. option_map pattern_view pattern ≡ option_map list_pattern (bindable.patterns_of (exprs_view items.now.items))) }
+{
+    match patterns_of(alloc, items)? {
+        None => Ok(None),
+        Some(patterns) => Ok(Some(Pat::List(patterns))),
+    }
+}
+
+/// The pattern of a constructor with its argument, if that is read as a pattern.
+#[cycle(patterns)]
+#[tactic(auto, using(cpn_core::proofs::InscriptionLevels::view_con_pattern))]
+fn constructor_of(alloc: Global, position: u32, argument: &Expr) -> Result<Option<Pat>, Memory>
+    ensures exact { IfOk result (λ pattern. option_map pattern_view pattern ≡ option_map (applied_pattern position) (bindable.pattern_of (expr_view argument.now))) }
+{
+    match pattern_of(alloc, argument)? {
+        None => Ok(None),
+        Some(pattern) => Ok(Some(Pat::Con(position, Some(Box::new(alloc, pattern)?)))),
     }
 }
 

@@ -1,24 +1,26 @@
 //! The arcs of a module.
 
-ghost use Rattle.std.specs.Prelude.{◌≡◌, ℕ, List, [], ◌∷◌, map, codes, IfOk};
+ghost use Rattle.std.specs.Prelude.{◌≡◌, ℕ, List, [], ◌∷◌, map, codes, IfOk, option_map};
 ghost use Rattle.serde_json.specs.View.{view};
 ghost use Rattle.cpn_document.specs.Names.{texts_of as bytes_of};
 ghost use Rattle.cpn_document.specs.Parts.{items_at};
 ghost use Rattle.cpn_document.specs.Document.{at_arc as part_of_arc, each_arc, way_of as way_of_word, arc_in, arc_keys as keys_of_arc, arc_rules, arcs_rules};
 ghost use Rattle.cpn_document.specs.Views.{arc_view};
-ghost use Rattle.cpn_document.specs.Answers.{Gives};
+ghost use Rattle.cpn_document.specs.Rules.{first_broken};
+ghost use Rattle.cpn_document.specs.Answers.{Gives, refused_view};
 
 use crate::arc_counts::have_few_arcs;
 use crate::document::{Arc, Way};
 use crate::names::Names;
 use crate::parts::{
-    check_keys, check_limit, list_at_key, name_at_key, optional_text_at_key, word_at_key,
+    keys_refusal, list_or_empty, list_refusal, name_refusal, optional_text, optional_text_refusal,
+    text_or_empty, word_refusal,
 };
 use crate::pointers::{ArcPart, ModulePart, Pointer};
-use crate::refusals::{DocError, Limit};
+use crate::refusals::{DocError, Limit, Refused};
 use crate::texts::{copied, copied_or_none};
 use serde_json::Value;
-use std::alloc::Global;
+use std::alloc::{AllocError, Global};
 
 /// The way of a word.
 #[tactic(auto, unfolding(crate::specs::Document::way_of))]
@@ -48,6 +50,35 @@ fn arc_keys(_version: u64) -> [&'static str; 4]
     ["place", "transition", "to", "expr"]
 }
 
+/// The refusal of a value that breaks a rule of arcs.
+fn arc_refusal(version: u64, in_module: usize, number: usize, value: &Value) -> Option<Refused>
+    ensures exact { option_map refused_view result ≡ first_broken (arc_rules version in_module number (view value.now)) }
+{
+    let whole = at_arc(in_module, number, ArcPart::Whole);
+    let at_place = at_arc(in_module, number, ArcPart::Place);
+    let at_transition = at_arc(in_module, number, ArcPart::Transition);
+    let at_way = at_arc(in_module, number, ArcPart::To);
+    let at_expr = at_arc(in_module, number, ArcPart::Expr);
+    let ways = ["transition", "place", "both"];
+    keys_refusal(value, &arc_keys(version), whole)
+        .or(name_refusal(value, "place", whole, at_place))
+        .or(name_refusal(value, "transition", whole, at_transition))
+        .or(word_refusal(value, &ways, "to", whole, at_way))
+        .or(optional_text_refusal(value, "expr", whole, at_expr))
+}
+
+/// The arc that stands in a value that keeps the rules of arcs.
+fn copied_arc(alloc: Global, value: &Value) -> Result<Arc, AllocError>
+    ensures reads { IfOk result (λ arc. arc_view arc ≡ arc_in (view value.now)) }
+{
+    Ok(Arc {
+        place: copied(alloc, text_or_empty(value, "place"))?,
+        transition: copied(alloc, text_or_empty(value, "transition"))?,
+        way: way_of(text_or_empty(value, "to")),
+        expr: copied_or_none(alloc, optional_text(value, "expr"))?,
+    })
+}
+
 /// The arc of a number.
 fn arc_of(
     alloc: Global,
@@ -58,22 +89,11 @@ fn arc_of(
 ) -> Result<Arc, DocError>
     ensures gives { Gives arc_view result (arc_in (view value.now)) (arc_rules version in_module number (view value.now)) }
 {
-    let whole = at_arc(in_module, number, ArcPart::Whole);
-    check_keys(value, &arc_keys(version), whole)?;
-    let at_place = at_arc(in_module, number, ArcPart::Place);
-    let place = name_at_key(value, "place", whole, at_place)?;
-    let at_transition = at_arc(in_module, number, ArcPart::Transition);
-    let transition = name_at_key(value, "transition", whole, at_transition)?;
-    let at_way = at_arc(in_module, number, ArcPart::To);
-    let way = word_at_key(value, &["transition", "place", "both"], "to", whole, at_way)?;
-    let at_expr = at_arc(in_module, number, ArcPart::Expr);
-    let expr = optional_text_at_key(value, "expr", whole, at_expr)?;
-    Ok(Arc {
-        place: copied(alloc, place)?,
-        transition: copied(alloc, transition)?,
-        way: way_of(way),
-        expr: copied_or_none(alloc, expr)?,
-    })
+    if let Some(refused) = arc_refusal(version, in_module, number, value) {
+        return Err(DocError::from(refused));
+    }
+    let arc = copied_arc(alloc, value)?;
+    Ok(arc)
 }
 
 /// The arcs of a list, in order.
@@ -94,6 +114,7 @@ fn arcs_of(
 }
 
 /// The arcs of a module, not too many at any of the transitions of these names.
+#[tactic(auto, using(crate::proofs::BrokenRules::in_groups), unfolding(crate::specs::Document::arcs_rules))]
 pub(crate) fn arcs_in(
     alloc: Global,
     version: u64,
@@ -105,11 +126,13 @@ pub(crate) fn arcs_in(
 {
     let whole = Pointer::Module(in_module, ModulePart::Whole);
     let here = Pointer::Module(in_module, ModulePart::Arcs);
-    let list = list_at_key(value, "arcs", whole, here)?;
-    let arcs = arcs_of(alloc, version, in_module, list)?;
-    check_limit(
-        have_few_arcs(alloc, transitions, arcs.as_slice())?,
-        Limit::Arcs,
-    )?;
-    Ok(arcs)
+    if let Some(refused) = list_refusal(value, "arcs", whole, here) {
+        return Err(DocError::from(refused));
+    }
+    let arcs = arcs_of(alloc, version, in_module, list_or_empty(value, "arcs"))?;
+    if have_few_arcs(alloc, transitions, arcs.as_slice())? {
+        Ok(arcs)
+    } else {
+        Err(DocError::Limit(Limit::Arcs))
+    }
 }

@@ -1,20 +1,20 @@
 //! The edits of a phase.
 
-ghost use Rattle.std.specs.Prelude.{◌≡◌, Some, map};
+ghost use Rattle.std.specs.Prelude.{◌≡◌, Some, map, option_map, IfOk};
 ghost use Rattle.serde_json.specs.View.{view};
 ghost use Rattle.cpn_document.specs.Names.{texts_of as bytes_of};
 ghost use Rattle.cpn_document.specs.Phases.{form_of as form_of_word, form_in as form_told, edit_keys as keys_of_edit, at_edit as part_of_edit, change_in, form_rules, change_rules, edit_in, edit_rules, each_edit};
 ghost use Rattle.cpn_document.specs.Views.{edit_view};
-ghost use Rattle.cpn_document.specs.Answers.{Finds, Gives};
-ghost use Rattle.cpn_document.specs.declared.edits.EditForm.TheVariants as forms;
+ghost use Rattle.cpn_document.specs.Rules.{first_broken};
+ghost use Rattle.cpn_document.specs.Answers.{Finds, Gives, refused_view};
 
 use crate::document::Edit;
-use crate::parts::{check_keys, flat_name_at_key, text_at_key, text_or_empty};
+use crate::parts::{flat_name_refusal, keys_refusal, text_or_empty, text_refusal};
 use crate::pointers::{EditPart, PhasePart, Pointer};
 use crate::refusals::{DocError, Refused};
 use crate::texts::copied;
 use serde_json::Value;
-use std::alloc::Global;
+use std::alloc::{AllocError, Global};
 
 /// The form of an edit: what its kind lets it have.
 #[derive(Clone, Copy, Debug)]
@@ -69,70 +69,55 @@ fn at_edit(in_phase: usize, number: usize, part: EditPart) -> Pointer
 fn form_at_key(in_phase: usize, number: usize, value: &Value) -> Result<EditForm, Refused>
     ensures finds { Finds Some result (form_told (view value.now)) (form_rules in_phase number (view value.now)) }
 {
-    let here = at_edit(in_phase, number, EditPart::Kind);
     let whole = at_edit(in_phase, number, EditPart::Whole);
-    text_at_key(value, "kind", whole, here)?;
+    let here = at_edit(in_phase, number, EditPart::Kind);
+    if let Some(refused) = text_refusal(value, "kind", whole, here) {
+        return Err(refused);
+    }
     match form_in(value) {
         Some(form) => Ok(form),
         None => Err(Refused::Shape(here)),
     }
 }
 
-/// The edit of a guard.
-#[tactic(auto, using(crate::proofs::BrokenRules::broken_append), unfolding(crate::specs::Phases::change_rules))]
-fn guard_of(alloc: Global, in_phase: usize, number: usize, value: &Value) -> Result<Edit, DocError>
-    ensures gives { Gives edit_view result (change_in forms.Guard (view value.now)) (change_rules in_phase number forms.Guard (view value.now)) }
+/// The refusal where what an edit of a form changes breaks a rule.
+#[tactic(auto, using(crate::proofs::BrokenRules::in_groups), unfolding(crate::specs::Phases::change_rules))]
+fn change_refusal(in_phase: usize, number: usize, form: EditForm, value: &Value) -> Option<Refused>
+    ensures exact { option_map refused_view result ≡ first_broken (change_rules in_phase number form (view value.now)) }
 {
     let whole = at_edit(in_phase, number, EditPart::Whole);
-    let at_transition = at_edit(in_phase, number, EditPart::Transition);
-    let transition = flat_name_at_key(value, "transition", whole, at_transition)?;
     let at_text = at_edit(in_phase, number, EditPart::Text);
-    let text = text_at_key(value, "text", whole, at_text)?;
-    Ok(Edit::Guard {
-        transition: copied(alloc, transition)?,
-        text: copied(alloc, text)?,
-    })
+    let changed = match form {
+        EditForm::Guard => {
+            let here = at_edit(in_phase, number, EditPart::Transition);
+            flat_name_refusal(value, "transition", whole, here)
+        },
+        EditForm::Initial => {
+            let here = at_edit(in_phase, number, EditPart::Place);
+            flat_name_refusal(value, "place", whole, here)
+        },
+    };
+    changed.or(text_refusal(value, "text", whole, at_text))
 }
 
-/// The edit of an initial marking.
-#[tactic(auto, using(crate::proofs::BrokenRules::broken_append), unfolding(crate::specs::Phases::change_rules))]
-fn initial_of(
-    alloc: Global,
-    in_phase: usize,
-    number: usize,
-    value: &Value,
-) -> Result<Edit, DocError>
-    ensures gives { Gives edit_view result (change_in forms.Initial (view value.now)) (change_rules in_phase number forms.Initial (view value.now)) }
-{
-    let whole = at_edit(in_phase, number, EditPart::Whole);
-    let at_place = at_edit(in_phase, number, EditPart::Place);
-    let place = flat_name_at_key(value, "place", whole, at_place)?;
-    let at_text = at_edit(in_phase, number, EditPart::Text);
-    let text = text_at_key(value, "text", whole, at_text)?;
-    Ok(Edit::Initial {
-        place: copied(alloc, place)?,
-        text: copied(alloc, text)?,
-    })
-}
-
-/// The edit of a form.
-fn change_of(
-    alloc: Global,
-    in_phase: usize,
-    number: usize,
-    form: EditForm,
-    value: &Value,
-) -> Result<Edit, DocError>
-    ensures gives { Gives edit_view result (change_in form (view value.now)) (change_rules in_phase number form (view value.now)) }
+/// The edit of a form in a value that keeps the rules of it.
+fn copied_edit(alloc: Global, form: EditForm, value: &Value) -> Result<Edit, AllocError>
+    ensures reads { IfOk result (λ edit. edit_view edit ≡ change_in form (view value.now)) }
 {
     match form {
-        EditForm::Guard => guard_of(alloc, in_phase, number, value),
-        EditForm::Initial => initial_of(alloc, in_phase, number, value),
+        EditForm::Guard => Ok(Edit::Guard {
+            transition: copied(alloc, text_or_empty(value, "transition"))?,
+            text: copied(alloc, text_or_empty(value, "text"))?,
+        }),
+        EditForm::Initial => Ok(Edit::Initial {
+            place: copied(alloc, text_or_empty(value, "place"))?,
+            text: copied(alloc, text_or_empty(value, "text"))?,
+        }),
     }
 }
 
 /// The edit of a number.
-#[tactic(auto, using(crate::proofs::BrokenRules::broken_append), unfolding(crate::specs::Phases::edit_rules))]
+#[tactic(auto, using(crate::proofs::BrokenRules::in_groups), unfolding(crate::specs::Phases::edit_rules))]
 fn edit_of(
     alloc: Global,
     version: u64,
@@ -143,9 +128,15 @@ fn edit_of(
     ensures gives { Gives edit_view result (edit_in (view value.now)) (edit_rules version in_phase number (view value.now)) }
 {
     let whole = at_edit(in_phase, number, EditPart::Whole);
-    check_keys(value, edit_keys(version, form_in(value)), whole)?;
+    if let Some(refused) = keys_refusal(value, edit_keys(version, form_in(value)), whole) {
+        return Err(DocError::from(refused));
+    }
     let form = form_at_key(in_phase, number, value)?;
-    change_of(alloc, in_phase, number, form, value)
+    if let Some(refused) = change_refusal(in_phase, number, form, value) {
+        return Err(DocError::from(refused));
+    }
+    let edit = copied_edit(alloc, form, value)?;
+    Ok(edit)
 }
 
 /// The edits of a list, in order.

@@ -1,18 +1,21 @@
 //! The document that a JSON value is.
 
-ghost use Rattle.std.specs.Prelude.{◌≡◌, true, map, string_bytes, codes};
+ghost use Rattle.std.specs.Prelude.{◌≡◌, true, map, string_bytes, codes, option_map};
 ghost use Rattle.serde_json.specs.View.{view};
 ghost use Rattle.cpn_document.specs.Names.{texts_of as bytes_of};
 ghost use Rattle.cpn_document.specs.Parts.{text_in, items_at};
 ghost use Rattle.cpn_document.specs.Document.{each_declaration, version_in as version_stated, version_rules, declarations_rules, document_in, document_keys as keys_of_document, document_rules};
 ghost use Rattle.cpn_document.specs.Views.{document_view};
-ghost use Rattle.cpn_document.specs.Answers.{Finds, Gives};
+ghost use Rattle.cpn_document.specs.Rules.{first_broken};
+ghost use Rattle.cpn_document.specs.Answers.{Gives, refused_view};
 
 use crate::document::Document;
 use crate::fusions::fusions_in;
 use crate::modules::modules_in;
 use crate::monitors::monitors_in;
-use crate::parts::{check_keys, check_limit, list_at_key, name_at_key, text_of};
+use crate::parts::{
+    keys_refusal, limit_refusal, list_or_empty, list_refusal, name_refusal, text_of, text_or_empty,
+};
 use crate::phases::phases_in;
 use crate::pointers::Pointer;
 use crate::refusals::{DocError, Limit, Refused};
@@ -52,23 +55,23 @@ fn version_in(value: &Value) -> u64
     }
 }
 
-/// That the version is there, a whole number, and the one that is read.
+/// The refusal where no version is there, or another than the one that is read.
 #[tactic(auto, unfolding(crate::specs::Document::version_rules, crate::specs::Rules::first_broken))]
-fn check_version(value: &Value, stated: u64) -> Result<(), Refused>
-    ensures finds { Finds (λ _. true) result true (version_rules stated (view value.now)) }
+fn version_refusal(value: &Value, stated: u64) -> Option<Refused>
+    ensures exact { option_map refused_view result ≡ first_broken (version_rules stated (view value.now)) }
 {
     match value.get("version") {
         Some(version) => {
             if !version.is_u64() && !version.is_i64() {
-                return Err(Refused::BadNumber(Pointer::Version));
+                return Some(Refused::BadNumber(Pointer::Version));
             }
             if stated == VERSION {
-                Ok(())
+                None
             } else {
-                Err(Refused::Version)
+                Some(Refused::Version)
             }
         },
-        None => Err(Refused::Shape(Pointer::Root)),
+        None => Some(Refused::Shape(Pointer::Root)),
     }
 }
 
@@ -89,10 +92,13 @@ fn declarations_of(alloc: Global, list: &[Value]) -> Result<Vec<String>, DocErro
 fn declarations_in(alloc: Global, value: &Value) -> Result<Vec<String>, DocError>
     ensures gives { Gives (λ texts. map string_bytes texts.items) result (map text_in (items_at (codes "declarations") (view value.now))) (declarations_rules (view value.now)) }
 {
-    let list = list_at_key(value, "declarations", Pointer::Root, Pointer::Declarations)?;
-    check_limit(list.len() <= MOST_DECLARATIONS, Limit::Declarations)?;
-    let declarations = declarations_of(alloc, list)?;
-    Ok(declarations)
+    let list = list_or_empty(value, "declarations");
+    let texts = list_refusal(value, "declarations", Pointer::Root, Pointer::Declarations);
+    let few = limit_refusal(list.len() <= MOST_DECLARATIONS, Limit::Declarations);
+    if let Some(refused) = texts.or(few) {
+        return Err(DocError::from(refused));
+    }
+    declarations_of(alloc, list)
 }
 
 /// The document that a JSON value is, where it keeps the rules of documents; else the refusal of the first that it breaks.
@@ -100,10 +106,15 @@ pub(crate) fn document_of(alloc: Global, value: &Value) -> Result<Document, DocE
     ensures gives { Gives document_view result (document_in (view value.now)) (document_rules (version_stated (view value.now)) (view value.now)) }
 {
     let version = version_in(value);
-    check_keys(value, &document_keys(version), Pointer::Root)?;
-    check_version(value, version)?;
+    let keys = keys_refusal(value, &document_keys(version), Pointer::Root);
+    let stated = version_refusal(value, version);
+    if let Some(refused) = keys.or(stated) {
+        return Err(DocError::from(refused));
+    }
     let declarations = declarations_in(alloc, value)?;
-    let top = name_at_key(value, "top", Pointer::Root, Pointer::Top)?;
+    if let Some(refused) = name_refusal(value, "top", Pointer::Root, Pointer::Top) {
+        return Err(DocError::from(refused));
+    }
     let modules = modules_in(alloc, version, value)?;
     let fusions = fusions_in(alloc, version, value)?;
     let monitors = monitors_in(alloc, version, value)?;
@@ -111,7 +122,7 @@ pub(crate) fn document_of(alloc: Global, value: &Value) -> Result<Document, DocE
     Ok(Document {
         version,
         declarations,
-        top: copied(alloc, top)?,
+        top: copied(alloc, text_or_empty(value, "top"))?,
         modules,
         fusions,
         monitors,

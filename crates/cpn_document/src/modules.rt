@@ -3,15 +3,15 @@
 ghost use Rattle.std.specs.Prelude.{◌≡◌, [], ◌∷◌, ◌++◌, map, codes, OnOk};
 ghost use Rattle.serde_json.specs.View.{view};
 ghost use Rattle.cpn_document.specs.Names.{texts_of as bytes_of};
-ghost use Rattle.cpn_document.specs.Parts.{text_at, items_at};
-ghost use Rattle.cpn_document.specs.Document.{each_module, module_in, module_rules, modules_rules, module_keys as keys_of_module};
-ghost use Rattle.cpn_document.specs.Views.{module_view};
+ghost use Rattle.cpn_document.specs.Parts.{each_named, text_at, items_at, names_in};
+ghost use Rattle.cpn_document.specs.Document.{transitions_rules, arcs_rules, subs_rules, module_in, module_rules, modules_rules, module_keys as keys_of_module};
+ghost use Rattle.cpn_document.specs.Views.{place_view, module_view};
 ghost use Rattle.cpn_document.specs.Answers.{Gives};
 
 use crate::arcs::arcs_in;
-use crate::document::Module;
-use crate::names::{Names, new_name_at_key};
-use crate::parts::{check_keys, check_limit, list_at_key};
+use crate::document::{Module, Place};
+use crate::names::{Names, add_named};
+use crate::parts::{limit_refusal, list_or_empty, list_refusal, text_or_empty};
 use crate::places::places_in;
 use crate::pointers::{ModulePart, Pointer};
 use crate::refusals::{DocError, Limit};
@@ -31,6 +31,34 @@ fn module_keys(_version: u64) -> [&'static str; 5]
     ["name", "places", "transitions", "arcs", "subs"]
 }
 
+/// The module of a number, with these places. The names of its transitions and substitution transitions are added to the names, of
+/// which there are none yet.
+fn module_with<'v>(
+    alloc: Global,
+    version: u64,
+    number: usize,
+    places: Vec<Place>,
+    names: &mut Names<'v>,
+    value: &'v Value,
+) -> Result<Module, DocError>
+    requires none_yet { names.old ≡ [] }
+    ensures gives { Gives module_view result (record (module_in (view value.now)) { places = map place_view places.items })
+        (transitions_rules version number (view value.now)
+        ++ arcs_rules version number (names_in (items_at (codes "transitions") (view value.now))) (view value.now)
+        ++ subs_rules version number (names_in (items_at (codes "transitions") (view value.now))) (view value.now)) }
+{
+    let transitions = transitions_in(alloc, version, number, names, value)?;
+    let arcs = arcs_in(alloc, version, number, names, value)?;
+    let subs = subs_in(alloc, version, number, names, value)?;
+    Ok(Module {
+        name: copied(alloc, text_or_empty(value, "name"))?,
+        places,
+        transitions,
+        arcs,
+        subs,
+    })
+}
+
 /// The module of a number.
 fn module_of<'v>(
     alloc: Global,
@@ -43,37 +71,32 @@ fn module_of<'v>(
     ensures names { OnOk result (names.new ≡ names.old ++ text_at (codes "name") (view value.now) ∷ []) }
 {
     let whole = Pointer::Module(number, ModulePart::Whole);
-    check_keys(value, &module_keys(version), whole)?;
     let at_name = Pointer::Module(number, ModulePart::Name);
-    let name = new_name_at_key(value, names, "name", whole, at_name)?;
+    add_named(value, names, &module_keys(version), whole, at_name)?;
     let places = places_in(alloc, version, number, value)?;
     let mut inner = Names::new(alloc);
-    let transitions = transitions_in(alloc, version, number, &mut inner, value)?;
-    let arcs = arcs_in(alloc, version, number, &inner, value)?;
-    let subs = subs_in(alloc, version, number, &mut inner, value)?;
-    Ok(Module {
-        name: copied(alloc, name)?,
-        places,
-        transitions,
-        arcs,
-        subs,
-    })
+    module_with(alloc, version, number, places, &mut inner, value)
 }
 
-/// The modules of a list, in order.
-#[tactic(auto, unfolding(crate::specs::Document::each_module))]
-fn modules_of(alloc: Global, version: u64, list: &[Value]) -> Result<Vec<Module>, DocError>
-    ensures gives { Gives (λ modules. map module_view modules.items) result (map module_in (map view list.now)) (each_module version (map view list.now)) }
+/// The modules of a list, in order. Their names are added to the names.
+fn modules_of<'v>(
+    alloc: Global,
+    version: u64,
+    names: &mut Names<'v>,
+    list: &'v [Value],
+) -> Result<Vec<Module>, DocError>
+    ensures gives { Gives (λ modules. map module_view modules.items) result (map module_in (map view list.now))
+        (each_named (module_rules version) 0 names.old (map view list.now)) }
 {
-    let mut names = Names::new(alloc);
     let mut modules = Vec::with_capacity(alloc, list.len())?;
     for (number, value) in list.iter().enumerate() {
-        modules.push(module_of(alloc, version, number, &mut names, value)?)?;
+        modules.push(module_of(alloc, version, number, names, value)?)?;
     }
     Ok(modules)
 }
 
 /// The modules of a document.
+#[tactic(auto, using(crate::proofs::BrokenRules::in_groups, crate::proofs::SeenValues::length_seen), unfolding(crate::specs::Document::modules_rules, crate::specs::Document::each_module))]
 pub(crate) fn modules_in(
     alloc: Global,
     version: u64,
@@ -81,8 +104,12 @@ pub(crate) fn modules_in(
 ) -> Result<Vec<Module>, DocError>
     ensures gives { Gives (λ modules. map module_view modules.items) result (map module_in (items_at (codes "modules") (view value.now))) (modules_rules version (view value.now)) }
 {
-    let list = list_at_key(value, "modules", Pointer::Root, Pointer::Modules)?;
-    check_limit(list.len() <= MOST_MODULES, Limit::Modules)?;
-    let modules = modules_of(alloc, version, list)?;
-    Ok(modules)
+    let list = list_or_empty(value, "modules");
+    let modules = list_refusal(value, "modules", Pointer::Root, Pointer::Modules);
+    let few = limit_refusal(list.len() <= MOST_MODULES, Limit::Modules);
+    if let Some(refused) = modules.or(few) {
+        return Err(DocError::from(refused));
+    }
+    let mut names = Names::new(alloc);
+    modules_of(alloc, version, &mut names, list)
 }

@@ -1,25 +1,27 @@
 //! The monitors of a document.
 
-ghost use Rattle.std.specs.Prelude.{◌≡◌, Some, [], ◌∷◌, ◌++◌, map, codes, OnOk};
+ghost use Rattle.std.specs.Prelude.{◌≡◌, Some, [], ◌∷◌, ◌++◌, map, codes, OnOk, option_map, IfOk};
 ghost use Rattle.serde_json.specs.View.{view};
 ghost use Rattle.cpn_document.specs.Names.{texts_of as bytes_of};
-ghost use Rattle.cpn_document.specs.Parts.{text_at, items_at};
-ghost use Rattle.cpn_document.specs.Monitors.{form_of as form_of_word, form_in as form_told, monitor_keys as keys_of_monitor, bound_of as bound_of_word, kind_in, form_rules, transition_name_rules, place_name_rules, kind_rules, monitor_in, monitor_rules, each_monitor, monitors_rules};
+ghost use Rattle.cpn_document.specs.Parts.{each_named, text_at, items_at, number_rules};
+ghost use Rattle.cpn_document.specs.Monitors.{form_of as form_of_word, form_in as form_told, monitor_keys as keys_of_monitor, bound_of as bound_of_word, kind_in, form_rules, transition_name_rules, place_name_rules, kind_rules, monitor_in, monitor_rules, monitors_rules};
 ghost use Rattle.cpn_document.specs.Views.{kind_view, monitor_view};
-ghost use Rattle.cpn_document.specs.Answers.{Finds, Gives};
-ghost use Rattle.cpn_document.specs.declared.monitors.MonitorForm.TheVariants as forms;
+ghost use Rattle.cpn_document.specs.Rules.{first_broken};
+ghost use Rattle.cpn_document.specs.Answers.{Finds, Gives, refused_view};
+ghost use Rattle.cpn_document.specs.declared.pointers.Pointer.TheVariants as at;
+ghost use Rattle.cpn_document.specs.declared.pointers.MonitorPart.TheVariants as of_monitor;
 
 use crate::document::{Bound, Monitor, MonitorKind};
-use crate::names::{Names, new_name_at_key};
+use crate::names::{Names, add_named};
 use crate::parts::{
-    check_keys, flat_name_at_key, number_at_key, optional_list_at_key, text_at_key, text_or_empty,
-    word_at_key,
+    flat_name_refusal, list_or_empty, number_or_zero, number_refusal, optional_list_refusal,
+    text_or_empty, text_refusal, word_refusal,
 };
 use crate::pointers::{MonitorPart, Pointer};
 use crate::refusals::{DocError, Refused};
 use crate::texts::copied;
 use serde_json::Value;
-use std::alloc::Global;
+use std::alloc::{AllocError, Global};
 
 /// The most occurrences after which a monitor may stop a run.
 const MOST_OCCURRENCES: u64 = 1_000_000;
@@ -101,129 +103,100 @@ fn bound_of(word: &str) -> Bound
 fn form_at_key(number: usize, value: &Value) -> Result<MonitorForm, Refused>
     ensures finds { Finds Some result (form_told (view value.now)) (form_rules number (view value.now)) }
 {
+    let whole = Pointer::Monitor(number, MonitorPart::Whole);
     let here = Pointer::Monitor(number, MonitorPart::Kind);
-    text_at_key(
-        value,
-        "kind",
-        Pointer::Monitor(number, MonitorPart::Whole),
-        here,
-    )?;
+    if let Some(refused) = text_refusal(value, "kind", whole, here) {
+        return Err(refused);
+    }
     match form_in(value) {
         Some(form) => Ok(form),
         None => Err(Refused::Shape(here)),
     }
 }
 
-/// The flattened name of the transition of a monitor.
+/// The refusal where no flattened name stands at the transition of a monitor.
 #[tactic(auto, unfolding(crate::specs::Monitors::transition_name_rules))]
-fn transition_name(number: usize, value: &Value) -> Result<&str, Refused>
-    ensures finds { Finds (λ name. name.now) result (text_at (codes "transition") (view value.now)) (transition_name_rules number (view value.now)) }
+fn transition_refusal(number: usize, value: &Value) -> Option<Refused>
+    ensures exact { option_map refused_view result ≡ first_broken (transition_name_rules number (view value.now)) }
 {
     let whole = Pointer::Monitor(number, MonitorPart::Whole);
     let here = Pointer::Monitor(number, MonitorPart::Transition);
-    flat_name_at_key(value, "transition", whole, here)
+    flat_name_refusal(value, "transition", whole, here)
 }
 
-/// The flattened name of the place of a monitor.
+/// The refusal where no flattened name stands at the place of a monitor.
 #[tactic(auto, unfolding(crate::specs::Monitors::place_name_rules))]
-fn place_name(number: usize, value: &Value) -> Result<&str, Refused>
-    ensures finds { Finds (λ name. name.now) result (text_at (codes "place") (view value.now)) (place_name_rules number (view value.now)) }
+fn place_refusal(number: usize, value: &Value) -> Option<Refused>
+    ensures exact { option_map refused_view result ≡ first_broken (place_name_rules number (view value.now)) }
 {
     let whole = Pointer::Monitor(number, MonitorPart::Whole);
     let here = Pointer::Monitor(number, MonitorPart::Place);
-    flat_name_at_key(value, "place", whole, here)
+    flat_name_refusal(value, "place", whole, here)
 }
 
-/// What a monitor of the form `count` measures.
-#[tactic(auto, using(crate::proofs::BrokenRules::broken_append), unfolding(crate::specs::Monitors::kind_rules))]
-fn count_of(alloc: Global, number: usize, value: &Value) -> Result<MonitorKind, DocError>
-    ensures gives { Gives kind_view result (kind_in forms.Count (view value.now)) (kind_rules number forms.Count (view value.now)) }
+/// The refusal where no whole number from the first to the last stands at the `n` of a monitor.
+fn n_refusal(number: usize, first: u64, last: u64, value: &Value) -> Option<Refused>
+    ensures exact { option_map refused_view result
+        ≡ first_broken (number_rules first last (codes "n") (at.Monitor number of_monitor.Whole) (at.Monitor number of_monitor.N) (view value.now)) }
 {
-    let transition = transition_name(number, value)?;
-    Ok(MonitorKind::Count {
-        transition: copied(alloc, transition)?,
-    })
-}
-
-/// What a monitor of the form `size` measures.
-#[tactic(auto, using(crate::proofs::BrokenRules::broken_append), unfolding(crate::specs::Monitors::kind_rules))]
-fn size_of(alloc: Global, number: usize, value: &Value) -> Result<MonitorKind, DocError>
-    ensures gives { Gives kind_view result (kind_in forms.Size (view value.now)) (kind_rules number forms.Size (view value.now)) }
-{
-    let place = place_name(number, value)?;
-    Ok(MonitorKind::Size {
-        place: copied(alloc, place)?,
-    })
-}
-
-/// What a monitor of the form `value` measures.
-#[tactic(auto, using(crate::proofs::BrokenRules::broken_append), unfolding(crate::specs::Monitors::kind_rules))]
-fn value_of(alloc: Global, number: usize, value: &Value) -> Result<MonitorKind, DocError>
-    ensures gives { Gives kind_view result (kind_in forms.Value (view value.now)) (kind_rules number forms.Value (view value.now)) }
-{
-    let transition = transition_name(number, value)?;
     let whole = Pointer::Monitor(number, MonitorPart::Whole);
-    let at_expr = Pointer::Monitor(number, MonitorPart::Expr);
-    let expr = text_at_key(value, "expr", whole, at_expr)?;
-    Ok(MonitorKind::Value {
-        transition: copied(alloc, transition)?,
-        expr: copied(alloc, expr)?,
-    })
+    let here = Pointer::Monitor(number, MonitorPart::N);
+    number_refusal(value, first, last, "n", whole, here)
 }
 
-/// What a monitor of the form `stop_count` stops at.
-#[tactic(auto, using(crate::proofs::BrokenRules::broken_append), unfolding(crate::specs::Monitors::kind_rules))]
-fn stop_count_of(alloc: Global, number: usize, value: &Value) -> Result<MonitorKind, DocError>
-    ensures gives { Gives kind_view result (kind_in forms.StopCount (view value.now)) (kind_rules number forms.StopCount (view value.now)) }
+/// The refusal where what a monitor of a form measures or stops at breaks a rule.
+#[tactic(auto, using(crate::proofs::BrokenRules::in_groups), unfolding(crate::specs::Monitors::kind_rules))]
+fn kind_refusal(number: usize, form: MonitorForm, value: &Value) -> Option<Refused>
+    ensures exact { option_map refused_view result ≡ first_broken (kind_rules number form (view value.now)) }
 {
-    let transition = transition_name(number, value)?;
     let whole = Pointer::Monitor(number, MonitorPart::Whole);
-    let at_n = Pointer::Monitor(number, MonitorPart::N);
-    let n = number_at_key(value, 1, MOST_OCCURRENCES, "n", whole, at_n)?;
-    Ok(MonitorKind::StopCount {
-        transition: copied(alloc, transition)?,
-        n,
-    })
+    match form {
+        MonitorForm::Count => transition_refusal(number, value),
+        MonitorForm::Size => place_refusal(number, value),
+        MonitorForm::Value => {
+            let at_expr = Pointer::Monitor(number, MonitorPart::Expr);
+            transition_refusal(number, value).or(text_refusal(value, "expr", whole, at_expr))
+        },
+        MonitorForm::StopCount => {
+            transition_refusal(number, value).or(n_refusal(number, 1, MOST_OCCURRENCES, value))
+        },
+        MonitorForm::StopSize => {
+            let at_op = Pointer::Monitor(number, MonitorPart::Op);
+            place_refusal(number, value)
+                .or(word_refusal(value, &["at_least", "at_most"], "op", whole, at_op))
+                .or(n_refusal(number, 0, MOST_TOKENS, value))
+        },
+    }
 }
 
-/// What a monitor of the form `stop_size` stops at.
-#[tactic(auto, using(crate::proofs::BrokenRules::broken_append), unfolding(crate::specs::Monitors::kind_rules))]
-fn stop_size_of(alloc: Global, number: usize, value: &Value) -> Result<MonitorKind, DocError>
-    ensures gives { Gives kind_view result (kind_in forms.StopSize (view value.now)) (kind_rules number forms.StopSize (view value.now)) }
-{
-    let place = place_name(number, value)?;
-    let whole = Pointer::Monitor(number, MonitorPart::Whole);
-    let at_op = Pointer::Monitor(number, MonitorPart::Op);
-    let op = word_at_key(value, &["at_least", "at_most"], "op", whole, at_op)?;
-    let at_n = Pointer::Monitor(number, MonitorPart::N);
-    let n = number_at_key(value, 0, MOST_TOKENS, "n", whole, at_n)?;
-    Ok(MonitorKind::StopSize {
-        place: copied(alloc, place)?,
-        op: bound_of(op),
-        n,
-    })
-}
-
-/// What a monitor of a form measures or stops at.
-fn kind_of(
-    alloc: Global,
-    number: usize,
-    form: MonitorForm,
-    value: &Value,
-) -> Result<MonitorKind, DocError>
-    ensures gives { Gives kind_view result (kind_in form (view value.now)) (kind_rules number form (view value.now)) }
+/// What a monitor of a form measures or stops at, in a value that keeps the rules of it.
+fn copied_kind(alloc: Global, form: MonitorForm, value: &Value) -> Result<MonitorKind, AllocError>
+    ensures reads { IfOk result (λ kind. kind_view kind ≡ kind_in form (view value.now)) }
 {
     match form {
-        MonitorForm::Count => count_of(alloc, number, value),
-        MonitorForm::Size => size_of(alloc, number, value),
-        MonitorForm::Value => value_of(alloc, number, value),
-        MonitorForm::StopCount => stop_count_of(alloc, number, value),
-        MonitorForm::StopSize => stop_size_of(alloc, number, value),
+        MonitorForm::Count => Ok(MonitorKind::Count {
+            transition: copied(alloc, text_or_empty(value, "transition"))?,
+        }),
+        MonitorForm::Size => Ok(MonitorKind::Size {
+            place: copied(alloc, text_or_empty(value, "place"))?,
+        }),
+        MonitorForm::Value => Ok(MonitorKind::Value {
+            transition: copied(alloc, text_or_empty(value, "transition"))?,
+            expr: copied(alloc, text_or_empty(value, "expr"))?,
+        }),
+        MonitorForm::StopCount => Ok(MonitorKind::StopCount {
+            transition: copied(alloc, text_or_empty(value, "transition"))?,
+            n: number_or_zero(value, "n"),
+        }),
+        MonitorForm::StopSize => Ok(MonitorKind::StopSize {
+            place: copied(alloc, text_or_empty(value, "place"))?,
+            op: bound_of(text_or_empty(value, "op")),
+            n: number_or_zero(value, "n"),
+        }),
     }
 }
 
 /// The monitor of a number.
-#[tactic(auto, using(crate::proofs::BrokenRules::broken_append), unfolding(crate::specs::Monitors::monitor_rules))]
 fn monitor_of<'v>(
     alloc: Global,
     version: u64,
@@ -235,32 +208,38 @@ fn monitor_of<'v>(
     ensures names { OnOk result (names.new ≡ names.old ++ text_at (codes "name") (view value.now) ∷ []) }
 {
     let whole = Pointer::Monitor(number, MonitorPart::Whole);
-    check_keys(value, monitor_keys(version, form_in(value)), whole)?;
     let at_name = Pointer::Monitor(number, MonitorPart::Name);
-    let name = new_name_at_key(value, names, "name", whole, at_name)?;
+    let keys = monitor_keys(version, form_in(value));
+    add_named(value, names, keys, whole, at_name)?;
     let form = form_at_key(number, value)?;
-    let kind = kind_of(alloc, number, form, value)?;
+    if let Some(refused) = kind_refusal(number, form, value) {
+        return Err(DocError::from(refused));
+    }
     Ok(Monitor {
-        name: copied(alloc, name)?,
-        kind,
+        name: copied(alloc, text_or_empty(value, "name"))?,
+        kind: copied_kind(alloc, form, value)?,
     })
 }
 
-/// The monitors of a list, in order.
-#[tactic(auto, unfolding(crate::specs::Monitors::each_monitor))]
-fn monitors_of(alloc: Global, version: u64, list: &[Value]) -> Result<Vec<Monitor>, DocError>
-    ensures gives { Gives (λ monitors. map monitor_view monitors.items) result (map monitor_in (map view list.now)) (each_monitor version (map view list.now)) }
+/// The monitors of a list, in order. Their names are added to the names.
+fn monitors_of<'v>(
+    alloc: Global,
+    version: u64,
+    names: &mut Names<'v>,
+    list: &'v [Value],
+) -> Result<Vec<Monitor>, DocError>
+    ensures gives { Gives (λ monitors. map monitor_view monitors.items) result (map monitor_in (map view list.now))
+        (each_named (monitor_rules version) 0 names.old (map view list.now)) }
 {
-    let mut names = Names::new(alloc);
     let mut monitors = Vec::with_capacity(alloc, list.len())?;
     for (number, value) in list.iter().enumerate() {
-        monitors.push(monitor_of(alloc, version, number, &mut names, value)?)?;
+        monitors.push(monitor_of(alloc, version, number, names, value)?)?;
     }
     Ok(monitors)
 }
 
 /// The monitors of a document.
-#[tactic(auto, using(crate::proofs::BrokenRules::broken_append), unfolding(crate::specs::Monitors::monitors_rules))]
+#[tactic(auto, using(crate::proofs::BrokenRules::in_groups), unfolding(crate::specs::Monitors::monitors_rules, crate::specs::Monitors::each_monitor))]
 pub(crate) fn monitors_in(
     alloc: Global,
     version: u64,
@@ -268,6 +247,10 @@ pub(crate) fn monitors_in(
 ) -> Result<Vec<Monitor>, DocError>
     ensures gives { Gives (λ monitors. map monitor_view monitors.items) result (map monitor_in (items_at (codes "monitors") (view value.now))) (monitors_rules version (view value.now)) }
 {
-    let list = optional_list_at_key(value, "monitors", Pointer::Root, Pointer::Monitors)?;
-    monitors_of(alloc, version, list)
+    let refused = optional_list_refusal(value, "monitors", Pointer::Root, Pointer::Monitors);
+    if let Some(refused) = refused {
+        return Err(DocError::from(refused));
+    }
+    let mut names = Names::new(alloc);
+    monitors_of(alloc, version, &mut names, list_or_empty(value, "monitors"))
 }

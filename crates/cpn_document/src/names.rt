@@ -1,12 +1,12 @@
 //! The names of a list of objects, none of them there twice.
 
-ghost use Rattle.std.specs.Prelude.{◌≡◌, ◌<◌, [], ◌∷◌, ◌++◌, length, slice_index_or, not, if◌then◌else◌, IfOk, OnOk, OnErr};
+ghost use Rattle.std.specs.Prelude.{◌≡◌, ◌<◌, [], ◌∷◌, ◌++◌, length, slice_index_or, true, not, if◌then◌else◌, codes, IfOk, OnOk, OnErr};
 ghost use Rattle.serde_json.specs.View.{view};
 ghost use Rattle.cpn_document.specs.Names.{texts_of as bytes_of};
-ghost use Rattle.cpn_document.specs.Parts.{is_one_of, text_at, new_name_rules};
+ghost use Rattle.cpn_document.specs.Parts.{is_one_of, text_at, object_rules, new_name_rules};
 ghost use Rattle.cpn_document.specs.Answers.{Gives};
 
-use crate::parts::name_at_key;
+use crate::parts::{keys_refusal, name_refusal, text_or_empty};
 use crate::pointers::Pointer;
 use crate::refusals::DocError;
 use indexmap::IndexSet;
@@ -68,21 +68,25 @@ impl<'n> Names<'n> {
     }
 }
 
-/// The name at a key, which none of the names is yet. It is added to them.
-#[tactic(auto, using(crate::proofs::BrokenRules::in_order), unfolding(crate::specs::Parts::new_name_rules))]
-pub(crate) fn new_name_at_key<'v>(
+/// That a value is an object with no other keys than these, and with a name that none of the names is yet. It is added to them.
+#[tactic(auto, using(crate::proofs::BrokenRules::in_order, crate::proofs::BrokenRules::seen_or), unfolding(crate::specs::Parts::new_name_rules))]
+pub(crate) fn add_named<'v>(
     value: &'v Value,
     names: &mut Names<'v>,
-    key: &str,
+    keys: &[&str],
     whole: Pointer,
     here: Pointer,
-) -> Result<&'v str, DocError>
-    ensures gives { Gives (λ name. name.now) result (text_at key.now (view value.now)) (new_name_rules key.now whole here names.old (view value.now)) }
-    ensures names { OnOk result (names.new ≡ names.old ++ text_at key.now (view value.now) ∷ []) }
+) -> Result<(), DocError>
+    ensures gives { Gives (λ _. true) result true
+        (object_rules (bytes_of keys.now) whole (view value.now) ++ new_name_rules (codes "name") whole here names.old (view value.now)) }
+    ensures names { OnOk result (names.new ≡ names.old ++ text_at (codes "name") (view value.now) ∷ []) }
 {
-    let name = name_at_key(value, key, whole, here)?;
-    if names.add(name)? {
-        Ok(name)
+    let refused = keys_refusal(value, keys, whole).or(name_refusal(value, "name", whole, here));
+    if let Some(refused) = refused {
+        return Err(DocError::from(refused));
+    }
+    if names.add(text_or_empty(value, "name"))? {
+        Ok(())
     } else {
         Err(DocError::BadName(here))
     }

@@ -10,7 +10,9 @@ ghost use Rattle.cpn_document.specs.Answers.{Gives};
 
 use crate::document::{Phase, Start};
 use crate::edits::edits_of;
-use crate::parts::{check_keys, check_limit, optional_list_at_key, word_at_key};
+use crate::parts::{
+    keys_refusal, limit_refusal, list_or_empty, optional_list_refusal, text_or_empty, word_refusal,
+};
 use crate::pointers::{PhasePart, Pointer};
 use crate::refusals::{DocError, Limit};
 use serde_json::Value;
@@ -50,19 +52,21 @@ fn phase_keys(_version: u64) -> [&'static str; 2]
 }
 
 /// The phase of a number.
-#[tactic(auto, using(crate::proofs::BrokenRules::broken_append), unfolding(crate::specs::Phases::phase_rules))]
 fn phase_of(alloc: Global, version: u64, number: usize, value: &Value) -> Result<Phase, DocError>
     ensures gives { Gives phase_view result (phase_in (view value.now)) (phase_rules version number (view value.now)) }
 {
     let whole = Pointer::Phase(number, PhasePart::Whole);
-    check_keys(value, &phase_keys(version), whole)?;
     let at_start = Pointer::Phase(number, PhasePart::Start);
-    let start = word_at_key(value, start_words(number), "start", whole, at_start)?;
     let at_edits = Pointer::Phase(number, PhasePart::Edits);
-    let list = optional_list_at_key(value, "edits", whole, at_edits)?;
-    let edits = edits_of(alloc, version, number, list)?;
+    let refused = keys_refusal(value, &phase_keys(version), whole)
+        .or(word_refusal(value, start_words(number), "start", whole, at_start))
+        .or(optional_list_refusal(value, "edits", whole, at_edits));
+    if let Some(refused) = refused {
+        return Err(DocError::from(refused));
+    }
+    let edits = edits_of(alloc, version, number, list_or_empty(value, "edits"))?;
     Ok(Phase {
-        start: start_of(start),
+        start: start_of(text_or_empty(value, "start")),
         edits,
     })
 }
@@ -80,11 +84,15 @@ fn phases_of(alloc: Global, version: u64, list: &[Value]) -> Result<Vec<Phase>, 
 }
 
 /// The phases of a document, not too many.
-#[tactic(auto, using(crate::proofs::BrokenRules::broken_append, crate::proofs::SeenValues::length_seen), unfolding(crate::specs::Phases::phases_rules))]
+#[tactic(auto, using(crate::proofs::BrokenRules::in_groups, crate::proofs::SeenValues::length_seen), unfolding(crate::specs::Phases::phases_rules))]
 pub(crate) fn phases_in(alloc: Global, version: u64, value: &Value) -> Result<Vec<Phase>, DocError>
     ensures gives { Gives (λ phases. map phase_view phases.items) result (map phase_in (items_at (codes "phases") (view value.now))) (phases_rules version (view value.now)) }
 {
-    let list = optional_list_at_key(value, "phases", Pointer::Root, Pointer::Phases)?;
-    check_limit(list.len() <= MOST_PHASES, Limit::Phases)?;
+    let list = list_or_empty(value, "phases");
+    let phases = optional_list_refusal(value, "phases", Pointer::Root, Pointer::Phases);
+    let few = limit_refusal(list.len() <= MOST_PHASES, Limit::Phases);
+    if let Some(refused) = phases.or(few) {
+        return Err(DocError::from(refused));
+    }
     phases_of(alloc, version, list)
 }

@@ -1,21 +1,25 @@
 //! The places of a module.
 
-ghost use Rattle.std.specs.Prelude.{◌≡◌, [], ◌∷◌, ◌++◌, map, option_map, codes, OnOk};
+ghost use Rattle.std.specs.Prelude.{◌≡◌, [], ◌∷◌, ◌++◌, map, option_map, codes, OnOk, IfOk};
 ghost use Rattle.serde_json.specs.View.{view};
 ghost use Rattle.cpn_document.specs.Names.{texts_of as bytes_of};
-ghost use Rattle.cpn_document.specs.Parts.{text_at, optional_text_at, items_at, word_rules, where_there};
-ghost use Rattle.cpn_document.specs.Document.{at_place as part_of_place, each_place, port_of as port_of_word, place_in, place_rules, places_rules, place_keys as keys_of_place};
+ghost use Rattle.cpn_document.specs.Parts.{each_named, text_at, optional_text_at, items_at, word_rules, where_there};
+ghost use Rattle.cpn_document.specs.Document.{at_place as part_of_place, port_of as port_of_word, place_in, place_rules, places_rules, place_keys as keys_of_place};
 ghost use Rattle.cpn_document.specs.Views.{place_view};
-ghost use Rattle.cpn_document.specs.Answers.{Finds, Gives};
+ghost use Rattle.cpn_document.specs.Rules.{first_broken};
+ghost use Rattle.cpn_document.specs.Answers.{Gives, refused_view};
 
 use crate::document::{Place, PortType};
-use crate::names::{Names, new_name_at_key};
-use crate::parts::{check_keys, list_at_key, optional_text_at_key, text_at_key, word_at_key};
+use crate::names::{Names, add_named};
+use crate::parts::{
+    list_or_empty, list_refusal, optional_text, optional_text_refusal, text_or_empty, text_refusal,
+    word_refusal,
+};
 use crate::pointers::{ModulePart, PlacePart, Pointer};
 use crate::refusals::{DocError, Refused};
 use crate::texts::{copied, copied_or_none};
 use serde_json::Value;
-use std::alloc::Global;
+use std::alloc::{AllocError, Global};
 
 /// The port type of a word.
 #[tactic(auto, unfolding(crate::specs::Document::port_of))]
@@ -32,15 +36,26 @@ fn port_of(word: &str) -> PortType
 }
 
 /// What port a place is, or none where it is no port.
-#[tactic(auto, unfolding(crate::specs::Parts::where_there, crate::specs::Parts::optional_text_at, crate::specs::Parts::text_at, crate::specs::Parts::text_in, crate::specs::Rules::first_broken))]
-fn port_in(value: &Value, whole: Pointer, here: Pointer) -> Result<Option<PortType>, Refused>
-    ensures finds { Finds (λ port. port) result (option_map port_of_word (optional_text_at (codes "port") (view value.now))) (where_there (codes "port") (view value.now) (word_rules (codes "in" ∷ codes "out" ∷ codes "io" ∷ []) (codes "port") whole here (view value.now))) }
+fn port_in(value: &Value) -> Option<PortType>
+    ensures exact { result ≡ option_map port_of_word (optional_text_at (codes "port") (view value.now)) }
+{
+    match optional_text(value, "port") {
+        Some(word) => Some(port_of(word)),
+        None => None,
+    }
+}
+
+/// The refusal where something else than a port type stands at a key.
+#[tactic(auto, unfolding(crate::specs::Parts::where_there, crate::specs::Rules::first_broken))]
+fn port_refusal(value: &Value, whole: Pointer, here: Pointer) -> Option<Refused>
+    ensures exact { option_map refused_view result
+        ≡ first_broken (where_there (codes "port") (view value.now)
+        (word_rules (codes "in" ∷ codes "out" ∷ codes "io" ∷ []) (codes "port") whole here (view value.now))) }
 {
     if value.get("port").is_none() {
-        return Ok(None);
+        return None;
     }
-    let word = word_at_key(value, &["in", "out", "io"], "port", whole, here)?;
-    Ok(Some(port_of(word)))
+    word_refusal(value, &["in", "out", "io"], "port", whole, here)
 }
 
 /// A part of a place, by the numbers of its module and the place.
@@ -57,6 +72,18 @@ fn place_keys(_version: u64) -> [&'static str; 4]
     ["name", "colour", "initial", "port"]
 }
 
+/// The place that stands in a value that keeps the rules of places.
+fn copied_place(alloc: Global, value: &Value) -> Result<Place, AllocError>
+    ensures reads { IfOk result (λ place. place_view place ≡ place_in (view value.now)) }
+{
+    Ok(Place {
+        name: copied(alloc, text_or_empty(value, "name"))?,
+        colour: copied(alloc, text_or_empty(value, "colour"))?,
+        initial: copied_or_none(alloc, optional_text(value, "initial"))?,
+        port: port_in(value),
+    })
+}
+
 /// The place of a number.
 fn place_of<'v>(
     alloc: Global,
@@ -70,41 +97,41 @@ fn place_of<'v>(
     ensures names { OnOk result (names.new ≡ names.old ++ text_at (codes "name") (view value.now) ∷ []) }
 {
     let whole = at_place(in_module, number, PlacePart::Whole);
-    check_keys(value, &place_keys(version), whole)?;
     let at_name = at_place(in_module, number, PlacePart::Name);
-    let name = new_name_at_key(value, names, "name", whole, at_name)?;
+    add_named(value, names, &place_keys(version), whole, at_name)?;
     let at_colour = at_place(in_module, number, PlacePart::Colour);
-    let colour = text_at_key(value, "colour", whole, at_colour)?;
     let at_initial = at_place(in_module, number, PlacePart::Initial);
-    let initial = optional_text_at_key(value, "initial", whole, at_initial)?;
-    let port = port_in(value, whole, at_place(in_module, number, PlacePart::Port))?;
-    Ok(Place {
-        name: copied(alloc, name)?,
-        colour: copied(alloc, colour)?,
-        initial: copied_or_none(alloc, initial)?,
-        port,
-    })
+    let at_port = at_place(in_module, number, PlacePart::Port);
+    let refused = text_refusal(value, "colour", whole, at_colour)
+        .or(optional_text_refusal(value, "initial", whole, at_initial))
+        .or(port_refusal(value, whole, at_port));
+    if let Some(refused) = refused {
+        return Err(DocError::from(refused));
+    }
+    let place = copied_place(alloc, value)?;
+    Ok(place)
 }
 
-/// The places of a list, in order.
-#[tactic(auto, unfolding(crate::specs::Document::each_place))]
-fn places_of(
+/// The places of a list, in order. Their names are added to the names.
+fn places_of<'v>(
     alloc: Global,
     version: u64,
     in_module: usize,
-    list: &[Value],
+    names: &mut Names<'v>,
+    list: &'v [Value],
 ) -> Result<Vec<Place>, DocError>
-    ensures gives { Gives (λ places. map place_view places.items) result (map place_in (map view list.now)) (each_place version in_module (map view list.now)) }
+    ensures gives { Gives (λ places. map place_view places.items) result (map place_in (map view list.now))
+        (each_named (place_rules version in_module) 0 names.old (map view list.now)) }
 {
-    let mut names = Names::new(alloc);
     let mut places = Vec::with_capacity(alloc, list.len())?;
     for (number, value) in list.iter().enumerate() {
-        places.push(place_of(alloc, version, in_module, number, &mut names, value)?)?;
+        places.push(place_of(alloc, version, in_module, number, names, value)?)?;
     }
     Ok(places)
 }
 
 /// The places of a module.
+#[tactic(auto, using(crate::proofs::BrokenRules::in_groups), unfolding(crate::specs::Document::places_rules, crate::specs::Document::each_place))]
 pub(crate) fn places_in(
     alloc: Global,
     version: u64,
@@ -115,7 +142,10 @@ pub(crate) fn places_in(
 {
     let whole = Pointer::Module(in_module, ModulePart::Whole);
     let here = Pointer::Module(in_module, ModulePart::Places);
-    let list = list_at_key(value, "places", whole, here)?;
-    let places = places_of(alloc, version, in_module, list)?;
-    Ok(places)
+    if let Some(refused) = list_refusal(value, "places", whole, here) {
+        return Err(DocError::from(refused));
+    }
+    let mut names = Names::new(alloc);
+    let list = list_or_empty(value, "places");
+    places_of(alloc, version, in_module, &mut names, list)
 }

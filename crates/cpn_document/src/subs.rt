@@ -1,21 +1,24 @@
 //! The substitution transitions of a module.
 
-ghost use Rattle.std.specs.Prelude.{◌≡◌, [], ◌∷◌, ◌++◌, map, codes, OnOk};
+ghost use Rattle.std.specs.Prelude.{◌≡◌, [], ◌∷◌, ◌++◌, map, codes, OnOk, option_map, IfOk};
 ghost use Rattle.serde_json.specs.View.{view};
 ghost use Rattle.cpn_document.specs.Names.{texts_of as bytes_of};
 ghost use Rattle.cpn_document.specs.Parts.{text_at, items_at};
-ghost use Rattle.cpn_document.specs.Document.{at_sub as part_of_sub, each_assignment, each_sub, assignment_in, assignment_rules, sub_in, sub_rules, subs_rules, assignment_keys as keys_of_assignment, sub_keys as keys_of_sub};
+ghost use Rattle.cpn_document.specs.Document.{at_sub as part_of_sub, at_assignment as part_of_assignment, each_assignment, each_sub, assignment_in, assignment_rules, sub_in, sub_rules, subs_rules, assignment_keys as keys_of_assignment, sub_keys as keys_of_sub};
 ghost use Rattle.cpn_document.specs.Views.{assignment_view, sub_view};
-ghost use Rattle.cpn_document.specs.Answers.{Gives};
+ghost use Rattle.cpn_document.specs.Rules.{first_broken};
+ghost use Rattle.cpn_document.specs.Answers.{Gives, refused_view};
 
 use crate::document::{Assignment, Sub};
-use crate::names::{Names, new_name_at_key};
-use crate::parts::{check_keys, list_at_key, name_at_key, optional_list_at_key};
+use crate::names::{Names, add_named};
+use crate::parts::{
+    keys_refusal, list_or_empty, list_refusal, name_refusal, optional_list_refusal, text_or_empty,
+};
 use crate::pointers::{AssignmentPart, ModulePart, Pointer, SubPart};
-use crate::refusals::DocError;
+use crate::refusals::{DocError, Refused};
 use crate::texts::copied;
 use serde_json::Value;
-use std::alloc::Global;
+use std::alloc::{AllocError, Global};
 
 /// A part of a substitution transition, by the numbers of its module and its own.
 fn at_sub(in_module: usize, number: usize, part: SubPart) -> Pointer
@@ -24,11 +27,47 @@ fn at_sub(in_module: usize, number: usize, part: SubPart) -> Pointer
     Pointer::Module(in_module, ModulePart::Sub(number, part))
 }
 
+/// A part of an assignment, by the numbers of its module, its substitution transition and its own.
+fn at_assignment(in_module: usize, in_sub: usize, number: usize, part: AssignmentPart) -> Pointer
+    ensures exact { result ≡ part_of_assignment in_module in_sub number part }
+{
+    at_sub(in_module, in_sub, SubPart::Assignment(number, part))
+}
+
 /// The keys of an assignment, in a document of this version.
 fn assignment_keys(_version: u64) -> [&'static str; 2]
     ensures exact { bytes_of result ≡ keys_of_assignment _version }
 {
     ["port", "socket"]
+}
+
+/// The refusal of a value that breaks a rule of assignments.
+#[tactic(auto, using(crate::proofs::BrokenRules::in_groups), unfolding(crate::specs::Document::assignment_rules))]
+fn assignment_refusal(
+    version: u64,
+    in_module: usize,
+    in_sub: usize,
+    number: usize,
+    value: &Value,
+) -> Option<Refused>
+    ensures exact { option_map refused_view result ≡ first_broken (assignment_rules version in_module in_sub number (view value.now)) }
+{
+    let whole = at_assignment(in_module, in_sub, number, AssignmentPart::Whole);
+    let at_port = at_assignment(in_module, in_sub, number, AssignmentPart::Port);
+    let at_socket = at_assignment(in_module, in_sub, number, AssignmentPart::Socket);
+    keys_refusal(value, &assignment_keys(version), whole)
+        .or(name_refusal(value, "port", whole, at_port))
+        .or(name_refusal(value, "socket", whole, at_socket))
+}
+
+/// The assignment that stands in a value that keeps the rules of assignments.
+fn copied_assignment(alloc: Global, value: &Value) -> Result<Assignment, AllocError>
+    ensures reads { IfOk result (λ assignment. assignment_view assignment ≡ assignment_in (view value.now)) }
+{
+    Ok(Assignment {
+        port: copied(alloc, text_or_empty(value, "port"))?,
+        socket: copied(alloc, text_or_empty(value, "socket"))?,
+    })
 }
 
 /// The assignment of a number.
@@ -42,28 +81,11 @@ fn assignment_of(
 ) -> Result<Assignment, DocError>
     ensures gives { Gives assignment_view result (assignment_in (view value.now)) (assignment_rules version in_module in_sub number (view value.now)) }
 {
-    let whole = at_sub(
-        in_module,
-        in_sub,
-        SubPart::Assignment(number, AssignmentPart::Whole),
-    );
-    check_keys(value, &assignment_keys(version), whole)?;
-    let at_port = at_sub(
-        in_module,
-        in_sub,
-        SubPart::Assignment(number, AssignmentPart::Port),
-    );
-    let port = name_at_key(value, "port", whole, at_port)?;
-    let at_socket = at_sub(
-        in_module,
-        in_sub,
-        SubPart::Assignment(number, AssignmentPart::Socket),
-    );
-    let socket = name_at_key(value, "socket", whole, at_socket)?;
-    Ok(Assignment {
-        port: copied(alloc, port)?,
-        socket: copied(alloc, socket)?,
-    })
+    if let Some(refused) = assignment_refusal(version, in_module, in_sub, number, value) {
+        return Err(DocError::from(refused));
+    }
+    let assignment = copied_assignment(alloc, value)?;
+    Ok(assignment)
 }
 
 /// The assignments of a list, in order.
@@ -104,17 +126,20 @@ fn sub_of<'v>(
     ensures names { OnOk result (names.new ≡ names.old ++ text_at (codes "name") (view value.now) ∷ []) }
 {
     let whole = at_sub(in_module, number, SubPart::Whole);
-    check_keys(value, &sub_keys(version), whole)?;
     let at_name = at_sub(in_module, number, SubPart::Name);
-    let name = new_name_at_key(value, names, "name", whole, at_name)?;
+    add_named(value, names, &sub_keys(version), whole, at_name)?;
     let at_module = at_sub(in_module, number, SubPart::Module);
-    let submodule = name_at_key(value, "module", whole, at_module)?;
     let at_assign = at_sub(in_module, number, SubPart::Assign);
-    let list = list_at_key(value, "assign", whole, at_assign)?;
+    let submodule = name_refusal(value, "module", whole, at_module);
+    let assign = list_refusal(value, "assign", whole, at_assign);
+    if let Some(refused) = submodule.or(assign) {
+        return Err(DocError::from(refused));
+    }
+    let list = list_or_empty(value, "assign");
     let assign = assignments_of(alloc, version, in_module, number, list)?;
     Ok(Sub {
-        name: copied(alloc, name)?,
-        submodule: copied(alloc, submodule)?,
+        name: copied(alloc, text_or_empty(value, "name"))?,
+        submodule: copied(alloc, text_or_empty(value, "module"))?,
         assign,
     })
 }
@@ -138,6 +163,7 @@ fn subs_of<'v>(
 }
 
 /// The substitution transitions of a module. Their names are added to those of its transitions.
+#[tactic(auto, using(crate::proofs::BrokenRules::in_groups), unfolding(crate::specs::Document::subs_rules))]
 pub(crate) fn subs_in<'v>(
     alloc: Global,
     version: u64,
@@ -149,7 +175,9 @@ pub(crate) fn subs_in<'v>(
 {
     let whole = Pointer::Module(in_module, ModulePart::Whole);
     let here = Pointer::Module(in_module, ModulePart::Subs);
-    let list = optional_list_at_key(value, "subs", whole, here)?;
-    let subs = subs_of(alloc, version, in_module, names, list)?;
-    Ok(subs)
+    if let Some(refused) = optional_list_refusal(value, "subs", whole, here) {
+        return Err(DocError::from(refused));
+    }
+    let list = list_or_empty(value, "subs");
+    subs_of(alloc, version, in_module, names, list)
 }

@@ -1,6 +1,6 @@
 //! The transitions of a module.
 
-ghost use Rattle.std.specs.Prelude.{◌≡◌, [], ◌∷◌, ◌++◌, map, option_map, codes, OnOk};
+ghost use Rattle.std.specs.Prelude.{◌≡◌, [], ◌∷◌, ◌++◌, map, option_map, codes, OnOk, IfOk};
 ghost use Rattle.serde_json.specs.View.{view};
 ghost use Rattle.cpn_document.specs.Names.{texts_of as bytes_of};
 ghost use Rattle.cpn_document.specs.Parts.{text_at, items_at, names_in};
@@ -9,13 +9,15 @@ ghost use Rattle.cpn_document.specs.Views.{transition_view};
 ghost use Rattle.cpn_document.specs.Answers.{Gives};
 
 use crate::document::Transition;
-use crate::names::{Names, new_name_at_key};
-use crate::parts::{check_keys, list_at_key, optional_text_at_key};
+use crate::names::{Names, add_named};
+use crate::parts::{
+    list_or_empty, list_refusal, optional_text, optional_text_refusal, text_or_empty,
+};
 use crate::pointers::{ModulePart, Pointer, TransitionPart};
 use crate::refusals::DocError;
 use crate::texts::{copied, copied_or_none};
 use serde_json::Value;
-use std::alloc::Global;
+use std::alloc::{AllocError, Global};
 
 /// A part of a transition, by the numbers of its module and the transition.
 fn at_transition(in_module: usize, number: usize, part: TransitionPart) -> Pointer
@@ -31,6 +33,17 @@ fn transition_keys(_version: u64) -> [&'static str; 3]
     ["name", "guard", "delay"]
 }
 
+/// The transition that stands in a value that keeps the rules of transitions.
+fn copied_transition(alloc: Global, value: &Value) -> Result<Transition, AllocError>
+    ensures reads { IfOk result (λ transition. transition_view transition ≡ transition_in (view value.now)) }
+{
+    Ok(Transition {
+        name: copied(alloc, text_or_empty(value, "name"))?,
+        guard: copied_or_none(alloc, optional_text(value, "guard"))?,
+        delay: copied_or_none(alloc, optional_text(value, "delay"))?,
+    })
+}
+
 /// The transition of a number.
 fn transition_of<'v>(
     alloc: Global,
@@ -44,18 +57,17 @@ fn transition_of<'v>(
     ensures names { OnOk result (names.new ≡ names.old ++ text_at (codes "name") (view value.now) ∷ []) }
 {
     let whole = at_transition(in_module, number, TransitionPart::Whole);
-    check_keys(value, &transition_keys(version), whole)?;
     let at_name = at_transition(in_module, number, TransitionPart::Name);
-    let name = new_name_at_key(value, names, "name", whole, at_name)?;
+    add_named(value, names, &transition_keys(version), whole, at_name)?;
     let at_guard = at_transition(in_module, number, TransitionPart::Guard);
-    let guard = optional_text_at_key(value, "guard", whole, at_guard)?;
     let at_delay = at_transition(in_module, number, TransitionPart::Delay);
-    let delay = optional_text_at_key(value, "delay", whole, at_delay)?;
-    Ok(Transition {
-        name: copied(alloc, name)?,
-        guard: copied_or_none(alloc, guard)?,
-        delay: copied_or_none(alloc, delay)?,
-    })
+    let guard = optional_text_refusal(value, "guard", whole, at_guard);
+    let delay = optional_text_refusal(value, "delay", whole, at_delay);
+    if let Some(refused) = guard.or(delay) {
+        return Err(DocError::from(refused));
+    }
+    let transition = copied_transition(alloc, value)?;
+    Ok(transition)
 }
 
 /// The transitions of a list, in order. Their names are added to the names, of which there are none yet.
@@ -79,6 +91,7 @@ fn transitions_of<'v>(
 }
 
 /// The transitions of a module. Their names are added to the names, of which there are none yet.
+#[tactic(auto, using(crate::proofs::BrokenRules::in_groups), unfolding(crate::specs::Document::transitions_rules))]
 pub(crate) fn transitions_in<'v>(
     alloc: Global,
     version: u64,
@@ -92,7 +105,9 @@ pub(crate) fn transitions_in<'v>(
 {
     let whole = Pointer::Module(in_module, ModulePart::Whole);
     let here = Pointer::Module(in_module, ModulePart::Transitions);
-    let list = list_at_key(value, "transitions", whole, here)?;
-    let transitions = transitions_of(alloc, version, in_module, names, list)?;
-    Ok(transitions)
+    if let Some(refused) = list_refusal(value, "transitions", whole, here) {
+        return Err(DocError::from(refused));
+    }
+    let list = list_or_empty(value, "transitions");
+    transitions_of(alloc, version, in_module, names, list)
 }

@@ -3,5 +3,6 @@ mod Heads
 mod Innermost
 mod NamesAlone
 mod PartTypes
+mod PatternForms
 mod PatternFronts
 mod TreeLevels

@@ -52,7 +52,7 @@ not_one_argument around (y ∷ z ∷ zs) at first bound t n e = ap (λ k. tuple_
 
 -- ---- a constructor with its argument
 
-view_call : (at : ℕ) (n : String Global) (ps : Vec Pat Global) → pat_view (record { at = at; form = forms.Call n ps }) ≡ pat at (pat_call (string_bytes n) (pats_from (map pat_view ps.items)))
+pub view_call : (at : ℕ) (n : String Global) (ps : Vec Pat Global) → pat_view (record { at = at; form = forms.Call n ps }) ≡ pat at (pat_call (string_bytes n) (pats_from (map pat_view ps.items)))
 view_call at n ps = search (rules, trees.the_lemmas, tree_forms.the_lemmas)
 
 abbrev made : Scope → PlainPattern → Checked BoundPattern

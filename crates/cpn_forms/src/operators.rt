@@ -4,6 +4,7 @@ ghost use Rattle.std.specs.Prelude.{◌≡◌, ◌<◌, pos, IfOk, option_map, n
 ghost use Rattle.cpn_definitions.specs.Inscription.{operation as of_operation, apply, no_exprs, more_exprs};
 ghost use Rattle.cpn_core.specs.Inscriptions.{expr_view, op_view};
 ghost use Rattle.cpn_trees.specs.AstViews.{ast_view, form_view};
+ghost use Rattle.cpn_trees.specs.declared.operators.Infix.TheVariants as between;
 ghost use Rattle.cpn_trees.specs.declared.operators.Prefix.TheVariants as front;
 ghost use Rattle.cpn_typing.specs.Rules.{is_empty_list as empty_list, is_empty_form as empty_form, list_wanted as wanted_list, item_wanted as wanted_item, ordered, a_list, two, meets as meets_rule, part_of as part_type};
 ghost use Rattle.cpn_declared.specs.TypeViews.{ty_view, tys_view};
@@ -274,6 +275,59 @@ fn applied(
     meets(spot.wanted, spot.at, Expr::Op(operation, operands), ty)
 }
 
+/// An operation on both operands, which gives a value of the type.
+fn operated(
+    alloc: Global,
+    operation: Op,
+    sides: Sides,
+    ty: Ty,
+    spot: Spot<'_>,
+) -> Result<Typed, TypeError>
+    ensures exact { Answers typed_view result (rules.applied (op_view operation) (spot_view spot.entry) (sides_view sides) (ty_view ty)) }
+{
+    applied(alloc, operation, sides.left, sides.right, ty, spot)
+}
+
+/// Two operands, each in a box of its own.
+fn boxed(alloc: Global, left: Expr, right: Expr) -> Result<(Box<Expr>, Box<Expr>), Memory>
+    ensures same { IfOk result (λ both. (both.0.value ≡ left) × (both.1.value ≡ right)) }
+{
+    let left = Box::new(alloc, left)?;
+    let right = Box::new(alloc, right)?;
+    Ok((left, right))
+}
+
+/// `andalso` of two operands.
+fn conjoined(alloc: Global, sides: Sides, spot: Spot<'_>) -> Result<Typed, TypeError>
+    ensures exact { Answers typed_view result (rules.sides_make between.Andalso (spot_view spot.entry) 0 (sides_view sides)) }
+{
+    let (left, right) = boxed(alloc, sides.left, sides.right)?;
+    meets(spot.wanted, spot.at, Expr::And(left, right), Ty::Bool)
+}
+
+/// `orelse` of two operands.
+fn disjoined(alloc: Global, sides: Sides, spot: Spot<'_>) -> Result<Typed, TypeError>
+    ensures exact { Answers typed_view result (rules.sides_make between.Orelse (spot_view spot.entry) 0 (sides_view sides)) }
+{
+    let (left, right) = boxed(alloc, sides.left, sides.right)?;
+    meets(spot.wanted, spot.at, Expr::Or(left, right), Ty::Bool)
+}
+
+/// An item in front of a list, `::`.
+fn prepended(alloc: Global, sides: Sides, spot: Spot<'_>) -> Result<Typed, TypeError>
+    ensures exact { Answers typed_view result (rules.sides_make between.Cons (spot_view spot.entry) 0 (sides_view sides)) }
+{
+    let list = Ty::List(Box::new(alloc, sides.first)?);
+    applied(alloc, Op::Cons, sides.left, sides.right, list, spot)
+}
+
+/// Two lists as one, `^^`.
+fn appended(alloc: Global, sides: Sides, spot: Spot<'_>) -> Result<Typed, TypeError>
+    ensures exact { Answers typed_view result (rules.sides_make between.Append (spot_view spot.entry) 0 (sides_view sides)) }
+{
+    applied(alloc, Op::Append, sides.left, sides.right, sides.last, spot)
+}
+
 /// What two operands make.
 ///
 /// # Errors
@@ -289,40 +343,23 @@ pub fn sides_make(
 ) -> Result<Typed, TypeError>
     ensures exact { Answers typed_view result (rules.sides_make operator (spot_view spot.entry) sign (sides_view sides)) }
 {
-    let Sides {
-        left,
-        right,
-        first,
-        last,
-    } = sides;
     match operator {
-        Infix::Add => applied(alloc, Op::Add, left, right, Ty::Int, spot),
-        Infix::Subtract => applied(alloc, Op::Sub, left, right, Ty::Int, spot),
-        Infix::Multiply => applied(alloc, Op::Mul, left, right, Ty::Int, spot),
-        Infix::Div => applied(alloc, Op::Div, left, right, Ty::Int, spot),
-        Infix::Mod => applied(alloc, Op::Mod, left, right, Ty::Int, spot),
-        Infix::Concatenate => applied(alloc, Op::Cat, left, right, Ty::Text, spot),
-        Infix::Equal => applied(alloc, Op::Eq, left, right, Ty::Bool, spot),
-        Infix::NotEqual => applied(alloc, Op::Ne, left, right, Ty::Bool, spot),
-        Infix::Less => applied(alloc, Op::Lt, left, right, Ty::Bool, spot),
-        Infix::LessOrEqual => applied(alloc, Op::Le, left, right, Ty::Bool, spot),
-        Infix::Greater => applied(alloc, Op::Gt, left, right, Ty::Bool, spot),
-        Infix::GreaterOrEqual => applied(alloc, Op::Ge, left, right, Ty::Bool, spot),
-        Infix::Andalso => {
-            let left = Box::new(alloc, left)?;
-            let right = Box::new(alloc, right)?;
-            meets(spot.wanted, spot.at, Expr::And(left, right), Ty::Bool)
-        }
-        Infix::Orelse => {
-            let left = Box::new(alloc, left)?;
-            let right = Box::new(alloc, right)?;
-            meets(spot.wanted, spot.at, Expr::Or(left, right), Ty::Bool)
-        }
-        Infix::Cons => {
-            let list = Ty::List(Box::new(alloc, first)?);
-            applied(alloc, Op::Cons, left, right, list, spot)
-        }
-        Infix::Append => applied(alloc, Op::Append, left, right, last, spot),
+        Infix::Add => operated(alloc, Op::Add, sides, Ty::Int, spot),
+        Infix::Subtract => operated(alloc, Op::Sub, sides, Ty::Int, spot),
+        Infix::Multiply => operated(alloc, Op::Mul, sides, Ty::Int, spot),
+        Infix::Div => operated(alloc, Op::Div, sides, Ty::Int, spot),
+        Infix::Mod => operated(alloc, Op::Mod, sides, Ty::Int, spot),
+        Infix::Concatenate => operated(alloc, Op::Cat, sides, Ty::Text, spot),
+        Infix::Equal => operated(alloc, Op::Eq, sides, Ty::Bool, spot),
+        Infix::NotEqual => operated(alloc, Op::Ne, sides, Ty::Bool, spot),
+        Infix::Less => operated(alloc, Op::Lt, sides, Ty::Bool, spot),
+        Infix::LessOrEqual => operated(alloc, Op::Le, sides, Ty::Bool, spot),
+        Infix::Greater => operated(alloc, Op::Gt, sides, Ty::Bool, spot),
+        Infix::GreaterOrEqual => operated(alloc, Op::Ge, sides, Ty::Bool, spot),
+        Infix::Andalso => conjoined(alloc, sides, spot),
+        Infix::Orelse => disjoined(alloc, sides, spot),
+        Infix::Cons => prepended(alloc, sides, spot),
+        Infix::Append => appended(alloc, sides, spot),
         Infix::Later => Err(spot.context.misplaced_delay(spot.at, sign)),
         Infix::Times => Err(TypeError::Mismatch(spot.at)),
     }

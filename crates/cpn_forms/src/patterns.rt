@@ -1,16 +1,17 @@
 //! The patterns of a `case`: each is checked against the type of what it has to match, from the outside inwards, and binds
 //! locals from left to right.
 
-ghost use Rattle.std.specs.Prelude.{◌≡◌, map, IfOk};
+ghost use Rattle.std.specs.Prelude.{◌≡◌, ℕ, map, IfOk, MatchOption};
 ghost use Rattle.cpn_definitions.specs.Inscription.{cons_pattern};
 ghost use Rattle.cpn_trees.specs.PatViews.{pat_view};
 ghost use Rattle.cpn_trees.specs.Trees.{pats_from};
 ghost use Rattle.cpn_core.specs.Inscriptions.{pattern_view};
-ghost use Rattle.cpn_typing.specs.Names.{Declared, found, is_local as has_local};
-ghost use Rattle.cpn_typing.specs.PatternRules.{typed_pattern, bound_by, bound_by_parts, bound_by_items, binding, holding, name_pattern, tuple_rule, constructor_named as named_constructor, constructor_of, first_at as first_offset};
-ghost use Rattle.cpn_typing.specs.Types.{same_type, union as of_union};
+ghost use Rattle.cpn_typing.specs.Names.{Name, Declared, found, is_local as has_local, unknown};
+ghost use Rattle.cpn_typing.specs.PatternRules.{typed_pattern, bound_by, bound_by_parts, bound_by_items, binding, holding, name_pattern, tuple_rule, constructor_named as named_constructor, constructor_of, refuses, first_at as first_offset};
+ghost use Rattle.cpn_typing.specs.Types.{PlainTy, same_type, union as of_union};
 ghost use Rattle.cpn_declared.specs.Answers.{Answers};
 ghost use Rattle.cpn_declared.specs.DeclsViews.{decls_view};
+ghost use Rattle.cpn_forms.specs.LookupViews.{found_view};
 ghost use Rattle.cpn_forms.specs.ScopeViews.{scope_view};
 ghost use Rattle.cpn_declared.specs.TypeViews.{ty_view, tys_view};
 ghost use Rattle.cpn_forms.specs.BoundViews.{around_view, around_in, bound_view, all_bound_view, argument_in, TakenAs};
@@ -148,6 +149,45 @@ fn bind_name<'t>(
     }
 }
 
+/// The constructor that takes an argument, with the number of its union, if the name means one.
+fn constructor_meant<'d>(meant: Found<'_, 'd>) -> Option<(u32, Taken<'d>)>
+    ensures exact { (n : Name) (at : ℕ) (t : PlainTy)
+        → MatchOption result (named_constructor (found_view meant.entry) n at t ≡ refuses (unknown n))
+        (λ c. named_constructor (found_view meant.entry) n at t ≡ constructor_of (same_type (of_union c.0) t) at c.1.position (ty_view c.1.argument.now)) }
+{
+    match meant {
+        Found::Declared(meaning) => match meaning {
+            Meaning::Constructor {
+                union,
+                position,
+                argument,
+            } => match argument {
+                Some(argument) => Some((
+                    *union,
+                    Taken {
+                        position: *position,
+                        argument,
+                    },
+                )),
+                None => None,
+            },
+            Meaning::Variable { number: _, ty: _ } => None,
+            Meaning::Constant {
+                enumeration: _,
+                position: _,
+            } => None,
+            Meaning::Function {
+                number: _,
+                parameters: _,
+                result: _,
+            } => None,
+        },
+        Found::Local(_, _) => None,
+        Found::Predeclared(_) => None,
+        Found::Nothing => None,
+    }
+}
+
 /// The constructor of the type, in front of a parenthesis.
 fn constructor_named<'d>(
     alloc: Global,
@@ -159,48 +199,24 @@ fn constructor_named<'d>(
 ) -> Result<Taken<'d>, TypeError>
     ensures exact { TakenAs result (named_constructor (found name.now (scope_view scope.now) (decls_view decls.now)) name.now at (ty_view ty.now)) }
 {
-    match find(name, scope, decls) {
-        Found::Local(_, _) => Err(TypeError::Unknown(String::from_str(alloc, name)?)),
-        Found::Predeclared(_) => Err(TypeError::Unknown(String::from_str(alloc, name)?)),
-        Found::Declared(meaning) => match meaning {
-            Meaning::Constructor {
-                union,
-                position,
-                argument,
-            } => match argument {
-                Some(argument) => take_constructor(*union, *position, argument, at, ty),
-                None => Err(TypeError::Unknown(String::from_str(alloc, name)?)),
-            },
-            Meaning::Variable { number: _, ty: _ } => {
-                Err(TypeError::Unknown(String::from_str(alloc, name)?))
-            }
-            Meaning::Constant {
-                enumeration: _,
-                position: _,
-            } => Err(TypeError::Unknown(String::from_str(alloc, name)?)),
-            Meaning::Function {
-                number: _,
-                parameters: _,
-                result: _,
-            } => Err(TypeError::Unknown(String::from_str(alloc, name)?)),
-        },
-        Found::Nothing => Err(TypeError::Unknown(String::from_str(alloc, name)?)),
+    match constructor_meant(find(name, scope, decls)) {
+        Some((union, taken)) => take_constructor(union, taken, at, ty),
+        None => Err(TypeError::Unknown(String::from_str(alloc, name)?)),
     }
 }
 
 /// A constructor of a union, if that is the type.
 fn take_constructor<'d>(
     union: u32,
-    position: u32,
-    argument: &'d Ty,
+    taken: Taken<'d>,
     at: usize,
     ty: &Ty,
 ) -> Result<Taken<'d>, TypeError>
-    ensures exact { TakenAs result (constructor_of (same_type (of_union union) (ty_view ty.now)) at position (ty_view argument.now)) }
+    ensures exact { TakenAs result (constructor_of (same_type (of_union union) (ty_view ty.now)) at taken.entry.position (ty_view taken.entry.argument.now)) }
 {
     let own = Ty::Union(union);
     if own.is_same(ty) {
-        return Ok(Taken { position, argument });
+        return Ok(taken);
     }
     Err(TypeError::Mismatch(at))
 }

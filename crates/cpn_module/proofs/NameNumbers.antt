@@ -1,5 +1,5 @@
 -- Names one behind the other: the number of a name among them.
-use Rattle.std.proofs.Common.{◌≡◌, ℕ, suc, ◌+◌, ◌<◌, Bool, true, false, ◌||◌, cond, if◌then◌else◌, nat_lt, List, [], ◌∷◌, ◌++◌, length, take, get_or, refl, sym, ap, subst, ◌∙◌, arith}
+use Rattle.std.proofs.Common.{◌≡◌, ℕ, suc, ◌+◌, ◌<◌, Bool, true, false, ◌||◌, cond, if◌then◌else◌, nat_lt, List, [], ◌∷◌, ◌++◌, length, take, get_or, map, refl, sym, ap, subst, ◌∙◌, arith}
 use Rattle.std.specs.Prelude.{Option, Some, None, option_map, is_some}
 use Rattle.std.specs.Option.{option_or, unwrap_or}
 use Rattle.std.specs.Borrow.{Bor}
@@ -123,6 +123,11 @@ module _ {S : Type 0} (names : List (Bor (List ℕ))) (i : ℕ) (d : Bor (List �
       by : (b : Bool) → (b ≡ true → first ≡ unwrap_or (number_of q (texts_of (take i names))) i) → cond b (Some first) (number_of q (texts_of (take i names))) ≡ option_or (number_of q (texts_of (take i names))) (if b then Some i else None)
       by true h = first_there first i (number_of q (texts_of (take i names))) (h refl)
       by false h = as_before (number_of q (texts_of (take i names)))
+
+-- the names of some things, with the name of the next one
+pub names_more : {X Y : Type 0} (name : Y → List ℕ) (view : X → Y) (xs : List X) (i : ℕ) (d : X) → i < length xs → (names : List (Bor (List ℕ))) (next : Bor (List ℕ)) → next.now ≡ name (view (get_or xs i d)) → texts_of names ≡ map name (map view (take i xs)) → texts_of (names ++ next ∷ []) ≡ map name (map view (take (i + 1) xs))
+names_more name view xs i d lt names next is h =
+    rw (take_more xs i d lt, map-append view (take i xs) (get_or xs i d ∷ []), map-append name (map view (take i xs)) (view (get_or xs i d) ∷ []), map-append (λ (k : Bor (List ℕ)). k.now) names (next ∷ []), h, is) refl
 
 -- the number that a map has
 pub number_found : {S : Type 0} (name : List ℕ) (names : List (Bor (List ℕ))) (numbers : IndexMap (Bor (List ℕ)) ℕ S) (number : Option ℕ) → Numbers (texts_of names) numbers → number ≡ get_by (λ k. bytes_eq name k.now) numbers → number ≡ number_of name (texts_of names)

@@ -1,7 +1,9 @@
 -- What the rules of sockets say of each assignment.
-use Rattle.std.proofs.Common.{◌≡◌, ℕ, Bool, ◌&&◌, List, refl, subst}
+use Rattle.std.proofs.Common.{◌≡◌, ℕ, ◌+◌, ◌<◌, Bool, true, false, ◌&&◌, ◌||◌, List, [], ◌∷◌, length, take, get_or, map, refl, ◌∙◌, subst}
 use Rattle.std.specs.Prelude.{Option, None}
 use Rattle.std.specs.List.{list_any}
+use Rattle.std.proofs.lemmas.List.{take_more, map-append}
+use Rattle.std.proofs.lemmas.List.Folds.{list_any-append}
 use Rattle.cpn_document.specs.Document.{at_assignment}
 use Rattle.cpn_document.specs.declared.pointers.AssignmentPart.TheVariants.{Whole}
 use Rattle.cpn_readings.specs.Rules.{first_broken, each_item, Breaks}
@@ -40,3 +42,16 @@ module _ (inputs outputs : List (ℕ × ℕ)) (s : PlainStructure) (from : (p i 
 
   pub paired_broken : (refusal : Option ModuleRefusal) → Breaks refusal (paired_rules inputs outputs (structure_at h sub.submodule) m i sub.assignments) → Breaks refusal (assignment_rules h m s i sub)
   paired_broken refusal broken = subst (λ (rules : List Rule). Breaks refusal rules) paired_told broken
+
+-- ---- one arc more
+
+regroup : (a b c : Bool) → ((a || b) || c) ≡ (a || (b || (c || false)))
+regroup true b c = refl
+regroup false true c = refl
+regroup false false true = refl
+regroup false false false = refl
+
+-- what some had, or one of those so far has, with the next one
+pub any_more : {X Y : Type 0} (view : X → Y) (test : Y → Bool) (xs : List X) (i : ℕ) (d : X) → i < length xs → (first before now : Bool) → before ≡ (first || list_any test (map view (take i xs))) → now ≡ (before || test (view (get_or xs i d))) → now ≡ (first || list_any test (map view (take (i + 1) xs)))
+any_more view test xs i d lt first before now h e =
+    e ∙ rw (h, take_more xs i d lt, map-append view (take i xs) (get_or xs i d ∷ []), list_any-append test (map view (take i xs)) (view (get_or xs i d) ∷ [])) (regroup first (list_any test (map view (take i xs))) (test (view (get_or xs i d))))

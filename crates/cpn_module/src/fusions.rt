@@ -1,6 +1,6 @@
 //! What fusion sets have to keep: no member is a port, and no place is in two of them.
 
-ghost use Rattle.std.specs.Prelude.{◌≡◌, ◌||◌, map, not, is_some, OnOk};
+ghost use Rattle.std.specs.Prelude.{◌≡◌, ◌||◌, [], map, not, is_some, OnOk};
 ghost use Rattle.std.specs.List.{list_any};
 ghost use Rattle.cpn_document.specs.Document.{at_member as part_of_member};
 ghost use Rattle.cpn_document.specs.declared.pointers.MemberPart.TheVariants.{Whole};
@@ -68,14 +68,22 @@ fn add_members(places: &mut Pairs, members: &[FusedPlace]) -> Result<(), AllocEr
     Ok(())
 }
 
+/// No place is in two fusion sets. The places of the fusion sets are added to the places, of which there are none yet.
+fn check_fusions_apart(places: &mut Pairs, hierarchy: &Hierarchy) -> Result<(), ModuleError>
+    requires none_yet { places.old ≡ [] }
+    ensures checks { Checks result (two_fusions_rules (hierarchy_view hierarchy.now)) }
+{
+    for (number, fusion) in hierarchy.fusions.iter().enumerate() {
+        check_apart(places, number, &fusion.members)?;
+        add_members(places, &fusion.members)?;
+    }
+    Ok(())
+}
+
 /// No place is in two fusion sets.
 pub(crate) fn check_two_fusions(alloc: Global, hierarchy: &Hierarchy) -> Result<(), ModuleError>
     ensures checks { Checks result (two_fusions_rules (hierarchy_view hierarchy.now)) }
 {
     let mut places = Pairs::new(alloc);
-    for (number, fusion) in hierarchy.fusions.iter().enumerate() {
-        check_apart(&places, number, &fusion.members)?;
-        add_members(&mut places, &fusion.members)?;
-    }
-    Ok(())
+    check_fusions_apart(&mut places, hierarchy)
 }

@@ -58,16 +58,30 @@ fn ends_of(
     Ok(ends)
 }
 
-/// The arcs of a module.
+/// The arcs of a module, given the names of its places and transitions.
+fn arcs_among(
+    alloc: Global,
+    places: &Names,
+    transitions: &Names,
+    module: &Module,
+) -> Result<Vec<Ends>, AllocError>
+    requires places { places.now ≡ place_names (module_view module.now) }
+    requires transitions { transitions.now ≡ transition_names (module_view module.now) }
+    requires known { All (IsKnownArc (place_names (module_view module.now)) (transition_names (module_view module.now)) (sub_names (module_view module.now))) (module_view module.now).arcs }
+    ensures ends { IfOk result (λ ends. map ends_view ends.items ≡ map (ends_in (module_view module.now)) (map arc_view module.now.arcs.items)) }
+{
+    let subs = Names::of_subs(alloc, module.subs.as_slice())?;
+    ends_of(alloc, places, transitions, &subs, module.arcs.as_slice())
+}
+
+/// The arcs of a module, given the names of its places.
 fn arcs_of(alloc: Global, places: &Names, module: &Module) -> Result<Vec<Ends>, AllocError>
     requires places { places.now ≡ place_names (module_view module.now) }
     requires known { All (IsKnownArc (place_names (module_view module.now)) (transition_names (module_view module.now)) (sub_names (module_view module.now))) (module_view module.now).arcs }
     ensures ends { IfOk result (λ ends. map ends_view ends.items ≡ map (ends_in (module_view module.now)) (map arc_view module.now.arcs.items)) }
 {
     let transitions = Names::of_transitions(alloc, module.transitions.as_slice())?;
-    let subs = Names::of_subs(alloc, module.subs.as_slice())?;
-    let ends = ends_of(alloc, places, &transitions, &subs, module.arcs.as_slice())?;
-    Ok(ends)
+    arcs_among(alloc, places, &transitions, module)
 }
 
 /// The assignments of a substitution transition, given its submodule and the names of the places of its module.

@@ -79,18 +79,31 @@ struct Sockets {
 }
 
 impl Sockets {
+    /// Adds the sockets that these arcs make.
+    fn add(&mut self, arcs: &[Ends]) -> Result<(), AllocError>
+        ensures inputs { OnOk result ((p i : ℕ) → has_pair p i self.new.inputs
+            ≡ (has_pair p i self.old.inputs || list_any (λ arc. joins p i arc && leads_from arc.way) (map ends_view arcs.now))) }
+        ensures outputs { OnOk result ((p i : ℕ) → has_pair p i self.new.outputs
+            ≡ (has_pair p i self.old.outputs || list_any (λ arc. joins p i arc && leads_to arc.way) (map ends_view arcs.now))) }
+    {
+        for arc in arcs {
+            add_ends(&mut self.inputs, is_input(arc.way), *arc)?;
+            add_ends(&mut self.outputs, is_output(arc.way), *arc)?;
+        }
+        Ok(())
+    }
+
     /// The sockets that these arcs make.
     fn of(alloc: Global, arcs: &[Ends]) -> Result<Sockets, AllocError>
         ensures inputs { IfOk result (λ sockets. (p i : ℕ) → has_pair p i sockets.inputs ≡ list_any (λ arc. joins p i arc && leads_from arc.way) (map ends_view arcs.now)) }
         ensures outputs { IfOk result (λ sockets. (p i : ℕ) → has_pair p i sockets.outputs ≡ list_any (λ arc. joins p i arc && leads_to arc.way) (map ends_view arcs.now)) }
     {
-        let mut inputs = Pairs::new(alloc);
-        let mut outputs = Pairs::new(alloc);
-        for arc in arcs {
-            add_ends(&mut inputs, is_input(arc.way), *arc)?;
-            add_ends(&mut outputs, is_output(arc.way), *arc)?;
-        }
-        Ok(Sockets { inputs, outputs })
+        let mut sockets = Sockets {
+            inputs: Pairs::new(alloc),
+            outputs: Pairs::new(alloc),
+        };
+        sockets.add(arcs)?;
+        Ok(sockets)
     }
 
     /// The type of a place as a socket of a substitution transition.
@@ -129,6 +142,25 @@ fn check_assignments(
     Ok(())
 }
 
+/// Each socket of the substitution transitions of a module, whose sockets these are, is of the type of its port.
+fn check_all_assignments(
+    hierarchy: &Hierarchy,
+    sockets: &Sockets,
+    in_module: usize,
+    structure: &Structure,
+) -> Result<(), ModuleError>
+    requires inputs { (p i : ℕ) → has_pair p i sockets.now.inputs
+        ≡ list_any (λ arc. joins p i arc && leads_from arc.way) (structure_view structure.now).arcs }
+    requires outputs { (p i : ℕ) → has_pair p i sockets.now.outputs
+        ≡ list_any (λ arc. joins p i arc && leads_to arc.way) (structure_view structure.now).arcs }
+    ensures checks { Checks result (each_item (λ i sub. each_item (λ k a. rule (one_type (type_of_socket (structure_view structure.now) a.socket i) (port_of (structure_at (hierarchy_view hierarchy.now) sub.submodule) a.port)) (socket_type (part_of_assignment in_module i k Whole))) 0 sub.assignments) 0 (map substitution_view structure.now.substitutions.items)) }
+{
+    for (number, substitution) in structure.substitutions.iter().enumerate() {
+        check_assignments(hierarchy, sockets, in_module, number, substitution)?;
+    }
+    Ok(())
+}
+
 /// Each socket of the substitution transitions of a module is of the type of its port.
 fn check_substitutions(
     alloc: Global,
@@ -139,10 +171,7 @@ fn check_substitutions(
     ensures checks { Checks result (each_item (λ i sub. each_item (λ k a. rule (one_type (type_of_socket (structure_view structure.now) a.socket i) (port_of (structure_at (hierarchy_view hierarchy.now) sub.submodule) a.port)) (socket_type (part_of_assignment in_module i k Whole))) 0 sub.assignments) 0 (map substitution_view structure.now.substitutions.items)) }
 {
     let sockets = Sockets::of(alloc, &structure.arcs)?;
-    for (number, substitution) in structure.substitutions.iter().enumerate() {
-        check_assignments(hierarchy, &sockets, in_module, number, substitution)?;
-    }
-    Ok(())
+    check_all_assignments(hierarchy, &sockets, in_module, structure)
 }
 
 /// Each socket is of the type of its port.

@@ -4,7 +4,7 @@ ghost use Rattle.std.specs.Prelude.{◌≡◌, map, is_some, IfSome};
 ghost use Rattle.cpn_readings.specs.Rules.{each_item};
 ghost use Rattle.cpn_document.specs.Parts.{is_one_of};
 ghost use Rattle.cpn_document.specs.Views.{place_view, arc_view, assignment_view, sub_view, module_view, member_view, fusion_view, document_view};
-ghost use Rattle.cpn_module.specs.Named.{module_names, place_names, module_named, place_named, is_port as is_port_of};
+ghost use Rattle.cpn_module.specs.Named.{module_names, place_names, module_named, place_named, transition_names, is_port as is_port_of};
 ghost use Rattle.cpn_module.specs.Names.{AreNamesOf};
 ghost use Rattle.cpn_module.specs.ModuleRules.{submodule_rule, submodule_rules, member_module_rule, member_module_rules, module_rules, arc_place_rule, arc_place_rules, assignment_place_rules, sub_place_rules, places_of_module_rules, member_place_rule, member_place_rules, place_rules, arc_transition_rule, arc_transition_rules, transitions_of_module_rules, transition_rules, name_rules};
 ghost use Rattle.cpn_module.specs.Answers.{Checks};
@@ -360,6 +360,20 @@ fn check_arc_transitions(
     Ok(())
 }
 
+/// That the transitions that a module names are there, given the names of its transitions.
+fn check_transitions_among(
+    alloc: Global,
+    transitions: &Names,
+    in_module: usize,
+    of_module: &Module,
+) -> Result<(), ModuleError>
+    requires transitions { transitions.now ≡ transition_names (module_view of_module.now) }
+    ensures checks { Checks result (transitions_of_module_rules in_module (module_view of_module.now)) }
+{
+    let subs = Names::of_subs(alloc, of_module.subs.as_slice())?;
+    check_arc_transitions(transitions, &subs, in_module, of_module)
+}
+
 /// That the transitions that a module names are there.
 fn check_transitions_of_module(
     alloc: Global,
@@ -369,8 +383,7 @@ fn check_transitions_of_module(
     ensures checks { Checks result (transitions_of_module_rules in_module (module_view of_module.now)) }
 {
     let transitions = Names::of_transitions(alloc, of_module.transitions.as_slice())?;
-    let subs = Names::of_subs(alloc, of_module.subs.as_slice())?;
-    check_arc_transitions(&transitions, &subs, in_module, of_module)
+    check_transitions_among(alloc, &transitions, in_module, of_module)
 }
 
 /// The same of each module.

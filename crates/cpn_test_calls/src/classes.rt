@@ -15,23 +15,6 @@ fn are_items(count: u32, pairs: &[(u32, u32)]) -> bool
         .all(|(one, other)| *one < count && *other < count)
 }
 
-/// The pair of a word: `0-3`.
-fn pair_in(word: &str) -> Option<(u32, u32)> {
-    let (one, other) = word.split_once('-')?;
-    Some((one.parse().ok()?, other.parse().ok()?))
-}
-
-/// The pairs of a row: `0-3 3-5`.
-fn pairs_in(alloc: Global, text: &str) -> Result<Vec<(u32, u32)>, Memory> {
-    let mut pairs = Vec::new(alloc);
-    for word in text.split(' ') {
-        if let Some(pair) = pair_in(word) {
-            pairs.push(pair)?;
-        }
-    }
-    Ok(pairs)
-}
-
 /// Writes the number of each item's class, and behind a bar the first member of each class.
 fn tell(text: &mut String, classes: &Classes) -> Result<(), Memory> {
     for item in 0..classes.items() {
@@ -55,25 +38,20 @@ fn told(alloc: Global, count: u32, pairs: &[(u32, u32)]) -> Result<String, Memor
     Ok(text)
 }
 
-/// Whether a row holds: how many items there are, the pairs, an arrow, and what is told of them.
-fn holds(alloc: Global, row: &str) -> Result<bool, Memory> {
-    let (asked, wanted) = row.split_once(" -> ").unwrap_or((row, ""));
-    let (count, pairs) = asked.split_once(':').unwrap_or((asked, ""));
-    let pairs = pairs_in(alloc, pairs)?;
-    Ok(told(alloc, count.parse().unwrap_or(0), &pairs)?.as_str() == wanted)
-}
-
-const ROWS: &str = "0: -> |
-1: 0-0 -> 0 | 0
-3: -> 0 1 2 | 0 1 2
-6: 0-3 3-5 1-2 -> 0 1 1 0 2 0 | 0 1 4
-6: 5-4 3-1 5-3 3-5 -> 0 1 2 1 1 1 | 0 1 2
-5: 4-0 3-1 1-4 -> 0 0 1 0 0 | 0 2";
+/// How many items there are, the pairs, and what is told of their classes.
+const ROWS: &[(u32, &[(u32, u32)], &str)] = &[
+    (0, &[], "|"),
+    (1, &[(0, 0)], "0 | 0"),
+    (3, &[], "0 1 2 | 0 1 2"),
+    (6, &[(0, 3), (3, 5), (1, 2)], "0 1 1 0 2 0 | 0 1 4"),
+    (6, &[(5, 4), (3, 1), (5, 3), (3, 5)], "0 1 2 1 1 1 | 0 1 2"),
+    (5, &[(4, 0), (3, 1), (1, 4)], "0 0 1 0 0 | 0 2"),
+];
 
 #[test]
 fn joined_items_have_one_class(rt: HostRuntime) -> Result<(), Fail> {
-    for row in ROWS.lines() {
-        assert!(rt; holds(rt.alloc(), row)?, "{row}");
+    for (count, pairs, wanted) in ROWS {
+        assert_eq!(rt; told(rt.alloc(), *count, pairs)?.as_str(), *wanted);
     }
     Ok(())
 }
@@ -92,17 +70,20 @@ fn chain(alloc: Global) -> Result<Vec<(u32, u32)>, Memory> {
 /// The pairs that join classes of one item, then of two, of four and so on, each with one as large.
 fn tree(alloc: Global) -> Result<Vec<(u32, u32)>, Memory> {
     let mut pairs = Vec::new(alloc);
-    for level in 0..14 {
-        push_level(&mut pairs, level)?;
+    let mut size = 1u32;
+    for _ in 0..14 {
+        push_level(&mut pairs, size)?;
+        size = size.saturating_mul(2);
     }
     Ok(pairs)
 }
 
-/// Appends the pairs of a level: each item whose lowest bit is the one of that number, with the item that lacks that bit alone.
-fn push_level(pairs: &mut Vec<(u32, u32)>, level: u32) -> Result<(), Memory> {
-    for item in 1..MANY {
-        if item.trailing_zeros() == level {
-            pairs.push((item & (item - 1), item))?;
+/// Appends the pairs that join classes of so many items, by the first item of each.
+fn push_level(pairs: &mut Vec<(u32, u32)>, size: u32) -> Result<(), Memory> {
+    let both = size.saturating_mul(2);
+    for item in size..MANY {
+        if item.checked_rem(both) == Some(size) {
+            pairs.push((item - size, item))?;
         }
     }
     Ok(())
@@ -116,19 +97,26 @@ fn classes_of(alloc: Global, pairs: &[(u32, u32)]) -> Result<u32, Memory> {
     Ok(Classes::of(alloc, MANY, pairs)?.classes())
 }
 
+/// How many classes a chain of many items has, from the first pair on and from the last one on.
+fn classes_of_chain(alloc: Global) -> Result<(u32, u32), Memory> {
+    let mut pairs = chain(alloc)?;
+    let forward = classes_of(alloc, &pairs)?;
+    pairs.reverse();
+    let back = classes_of(alloc, &pairs)?;
+    Ok((forward, back))
+}
+
+/// How many pairs join many items class by class, and how many classes there are then.
+fn classes_of_tree(alloc: Global) -> Result<(usize, u32), Memory> {
+    let pairs = tree(alloc)?;
+    let classes = classes_of(alloc, &pairs)?;
+    Ok((pairs.len(), classes))
+}
+
 #[test]
 fn many_items_come_into_one_class_or_stay_alone(rt: HostRuntime) -> Result<(), Fail> {
-    let mut chain = chain(rt.alloc())?;
-    assert_eq!(rt;
-        classes_of(rt.alloc(), &chain)?,
-        1,
-        "from the first pair on"
-    );
-    chain.reverse();
-    assert_eq!(rt; classes_of(rt.alloc(), &chain)?, 1, "from the last pair on");
-    let tree = tree(rt.alloc())?;
-    assert_eq!(rt; tree.len(), 16_383);
-    assert_eq!(rt; classes_of(rt.alloc(), &tree)?, 1, "class by class");
-    assert_eq!(rt; classes_of(rt.alloc(), &[])?, MANY, "alone");
+    assert!(rt; classes_of_chain(rt.alloc())? == (1, 1));
+    assert!(rt; classes_of_tree(rt.alloc())? == (16_383, 1));
+    assert!(rt; classes_of(rt.alloc(), &[])? == MANY);
     Ok(())
 }

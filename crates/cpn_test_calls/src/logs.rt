@@ -1,17 +1,17 @@
 //! Claims of a log: one of two seats, in which the completion of the first claim changes which stamp the second one took; one that
 //! is committed at once; and thousands.
-ghost use Rattle.std.specs.Prelude.{◌≡◌, ℕ, ◌<◌, ◌≤◌, [], length, true, IfOk, OnOk};
+ghost use Rattle.std.specs.Prelude.{◌≡◌, ℕ, ◌<◌, ◌≤◌, ◌+◌, [], length, true, IfOk, OnOk};
 ghost use Rattle.std.specs.List.{AllByRecursion};
 ghost use Rattle.cpn_definitions.specs.Marking.{tokens_at, AreSorted};
 ghost use Rattle.cpn_log.specs.Kept.{IsKept};
 ghost use Rattle.cpn_log.specs.LogViews.{log_view};
 
+use crate::multisets::number_of;
 use cpn_core::{Binding, Element, EvalFault, Funs, Made, Memory, Needed, Needs, Outputs, Value};
 use cpn_jobs::{Job, Work};
 use cpn_log::{ClaimState, Log};
 use cpn_tmset::{Changes, Marking};
 use std::alloc::Global;
-use std::fmt::Write;
 use std::sync::Arc;
 use std::test::Fail;
 
@@ -89,18 +89,17 @@ fn claim(
     Ok(Some(changes))
 }
 
-// Completes an open claim with a number on a place; `None` where it isn't open.
+// Completes an open claim with a token, of which the place, the number and the stamp are told; `None` where it isn't open.
 fn fill(
     alloc: Global,
     log: &mut Log,
     number: u64,
-    place: u32,
-    made: i64,
-    stamp: u64,
+    token: (u32, i64, u64),
 ) -> Result<Option<Changes>, Memory>
     requires { IsKept (log_view log.old) }
     ensures { OnOk result (IsKept (log_view log.new)) }
 {
+    let (place, made, stamp) = token;
     if number >= log.len() || (place as usize) >= log.unclaimed().len() {
         return Ok(None);
     }
@@ -120,38 +119,56 @@ fn fill(
     }
 }
 
-// Tokens on places: of each its place, its number and its stamp. One past the last place is left out.
+// Adds a token, of which the place, the number and the stamp are told. One past the last place is left out.
+fn add_on(outputs: &mut Outputs, places: usize, token: (u32, i64, u64)) -> Result<(), Memory>
+    requires in_range { AllByRecursion (λ made. made.place < places) outputs.old }
+    ensures in_range { OnOk result (AllByRecursion (λ made. made.place < places) outputs.new) }
+    ensures few { OnOk result (length outputs.new ≤ length outputs.old + 1) }
+{
+    let (place, number, stamp) = token;
+    if (place as usize) < places {
+        outputs.add(Made {
+            place,
+            value: Value::Int(number),
+            stamp,
+        })?;
+    }
+    Ok(())
+}
+
+// Tokens on places. Those past the last place are left out.
 fn outputs_on(alloc: Global, places: usize, tokens: &[(u32, i64, u64)]) -> Result<Outputs, Memory>
     ensures in_range { IfOk result (λ outputs. AllByRecursion (λ made. made.place < places) outputs) }
     ensures few { IfOk result (λ outputs. length outputs ≤ length tokens.now) }
 {
     let mut outputs = Outputs::new(alloc);
-    for (place, number, stamp) in tokens {
-        if (*place as usize) < places {
-            outputs.add(Made {
-                place: *place,
-                value: Value::Int(*number),
-                stamp: *stamp,
-            })?;
-        }
+    for token in tokens {
+        add_on(&mut outputs, places, *token)?;
     }
     Ok(outputs)
 }
 
-// Takes numbers on places, at the least time at which they are covered, and puts tokens in, as a claim that is committed at once, and
-// what is told of that; `None` where they are covered at no time.
+// Whether no claim stands behind the committed ones.
+fn all_are_committed(log: &Log) -> bool
+    ensures { result ≡ true → (log_view log.now).claims ≡ [] }
+{
+    log.committed() == log.len()
+}
+
+// Takes numbers on places, at the least time at which they are covered, and puts up to 4 tokens in, as a claim that is committed at
+// once, and what is told of that; `None` where they are covered at no time, or a claim stands behind the committed ones.
 fn occur(
     alloc: Global,
     log: &mut Log,
     numbers: &[(u32, i64)],
     made: &[(u32, i64, u64)],
 ) -> Result<Option<Changes>, Memory>
-    requires kept { IsKept (log_view log.old) }
-    requires all { (log_view log.old).claims ≡ [] }
-    requires few { length made.now ≤ 4 }
-    ensures kept { OnOk result (IsKept (log_view log.new)) }
-    ensures all { OnOk result ((log_view log.new).claims ≡ []) }
+    requires { IsKept (log_view log.old) }
+    ensures { OnOk result (IsKept (log_view log.new)) }
 {
+    if !all_are_committed(log) || made.len() > 4 {
+        return Ok(None);
+    }
     let needs = needs_of(alloc, numbers)?;
     let Some(time) = log.unclaimed().earliest(&needs) else {
         return Ok(None);
@@ -206,13 +223,6 @@ fn fail_and_cut(log: &mut Log, number: u64) -> Result<Option<Changes>, Memory>
     }
 }
 
-fn number_in(value: &Value) -> i64 {
-    match value {
-        Value::Int(number) => *number,
-        _ => 0,
-    }
-}
-
 // Writes the changes.
 fn tell(text: &mut String, changes: &Option<Changes>) -> Result<(), Memory> {
     match changes {
@@ -220,7 +230,7 @@ fn tell(text: &mut String, changes: &Option<Changes>) -> Result<(), Memory> {
         Some(changes) => {
             for change in changes.items() {
                 let place = change.place;
-                let number = number_in(&change.value);
+                let number = number_of(&change.value);
                 write!(text, "{place}:{number} ")?;
             }
         }
@@ -252,34 +262,15 @@ fn show(text: &mut String, log: &mut Log) -> Result<(), Memory>
     tell_stamps(text, log.settled())
 }
 
-#[test]
-fn a_completion_changes_which_stamp_a_later_claim_took(rt: HostRuntime) -> Result<(), Fail> {
-    let alloc = rt.alloc();
-    let mut log = Log::start(alloc, marking(alloc)?)?;
-    let mut text = String::new(alloc);
-    tell(&mut text, &claim(alloc, &mut log, 0, &[(2, 9)])?)?;
-    tell(&mut text, &claim(alloc, &mut log, 1, &[(1, 8), (0, 7)])?)?;
-    show(&mut text, &mut log)?;
-    tell(&mut text, &fill(alloc, &mut log, 0, 0, 7, 2)?)?;
-    show(&mut text, &mut log)?;
-    show(&mut text, &mut log)?;
-    tell(&mut text, &fail_and_cut(&mut log, 1)?)?;
-    show(&mut text, &mut log)?;
-    assert_eq!(rt;
-        text.as_str(),
-        "2:9 0:7 1:8 | false @0 | 0:7 @0 | true @0 @2 | @0 | false @0 @2 | 0:7 1:8 @0 @2 | false @0 @2 | "
-    );
-    Ok(())
-}
-
 // Claims 9 on place 2, and puts it there again, so many times; how often the claim was committed.
 fn go_round(alloc: Global, log: &mut Log, times: u64) -> Result<u64, Memory>
     requires { IsKept (log_view log.old) }
+    ensures { OnOk result (IsKept (log_view log.new)) }
 {
     let mut committed = 0;
     for number in 0..times {
         claim(alloc, log, 0, &[(2, 9)])?;
-        fill(alloc, log, number, 2, 9, 0)?;
+        fill(alloc, log, number, (2, 9, 0))?;
         if log.commit_one()? {
             committed = number + 1;
         }
@@ -287,72 +278,113 @@ fn go_round(alloc: Global, log: &mut Log, times: u64) -> Result<u64, Memory>
     Ok(committed)
 }
 
-#[test]
-fn thousands_of_claims_are_committed(rt: HostRuntime) -> Result<(), Fail> {
-    let alloc = rt.alloc();
-    let mut log = Log::start(alloc, marking(alloc)?)?;
-    assert_eq!(rt; go_round(alloc, &mut log, 3000)?, 3000);
-    assert_eq!(rt; log.committed(), 3000);
-    Ok(())
+// A call on a log.
+#[derive(Clone, Copy)]
+enum Call {
+    // A claim of a seat, by numbers and their places.
+    Claim(u32, &'static [(u32, i64)]),
+    // The completion of a claim.
+    Fill(u64, (u32, i64, u64)),
+    // The failure of a claim, and a cut at it.
+    Fail(u64),
+    // A claim that is committed at once.
+    Occur(&'static [(u32, i64)], &'static [(u32, i64, u64)]),
+    // So many claims, each of which is committed.
+    Round(u64),
+    // A look at both markings, with a commit in between.
+    Show,
+    // How many claims there are, and how many of them are committed.
+    Count,
 }
 
-// Claims 9 on place 2 and commits it there with 7 on place 0, then takes the 7 that was there first and puts a later one in its
-// place, all at once; the text of both markings then.
-fn occur_behind_a_commit(alloc: Global, text: &mut String) -> Result<Log, Memory>
-    ensures { IfOk result (λ log. IsKept (log_view log)) }
+// Makes a call, and writes what is told of it.
+fn make(text: &mut String, alloc: Global, log: &mut Log, call: Call) -> Result<(), Memory>
+    requires { IsKept (log_view log.old) }
+    ensures { OnOk result (IsKept (log_view log.new)) }
 {
-    let mut log = Log::start(alloc, marking(alloc)?)?;
-    claim(alloc, &mut log, 0, &[(2, 9)])?;
-    fill(alloc, &mut log, 0, 0, 7, 2)?;
-    show(text, &mut log)?;
-    if all_are_committed(&log) {
-        let changes = occur(alloc, &mut log, &[(0, 7)], &[(0, 7, 4)])?;
-        tell(text, &changes)?;
+    match call {
+        Call::Claim(seat, numbers) => tell(text, &claim(alloc, log, seat, numbers)?),
+        Call::Fill(number, token) => tell(text, &fill(alloc, log, number, token)?),
+        Call::Fail(number) => tell(text, &fail_and_cut(log, number)?),
+        Call::Occur(numbers, made) => tell(text, &occur(alloc, log, numbers, made)?),
+        Call::Round(times) => push_number(text, go_round(alloc, log, times)?),
+        Call::Show => show(text, log),
+        Call::Count => {
+            push_number(text, log.len())?;
+            push_number(text, log.committed())
+        }
     }
-    Ok(log)
 }
 
-// Whether no claim stands behind the committed ones.
-fn all_are_committed(log: &Log) -> bool
-    ensures { result ≡ true → (log_view log.now).claims ≡ [] }
-{
-    log.committed() == log.len()
-}
-
-#[test]
-fn a_claim_is_committed_at_once(rt: HostRuntime) -> Result<(), Fail> {
-    let alloc = rt.alloc();
-    let mut text = String::new(alloc);
-    let mut log = occur_behind_a_commit(alloc, &mut text)?;
-    show(&mut text, &mut log)?;
-    tell(&mut text, &claim(alloc, &mut log, 1, &[(0, 7)])?)?;
-    show(&mut text, &mut log)?;
-    assert_eq!(rt;
-        text.as_str(),
-        "@0 @2 | true @0 @2 | 0:7 @2 @4 | false @2 @4 | 0:7 @4 | false @2 @4 | "
-    );
-    assert_eq!(rt; log.len(), 3);
-    assert_eq!(rt; log.committed(), 2);
+fn push_number(text: &mut String, number: u64) -> Result<(), Memory> {
+    write!(text, "{number} ")?;
     Ok(())
 }
 
-// Of four values on places one is taken, one is put back later, one is put back as it was, and one is added.
-fn occur_on_three_places(alloc: Global, text: &mut String) -> Result<(), Memory> {
-    let mut log = Log::start(alloc, marking(alloc)?)?;
-    if all_are_committed(&log) {
-        let needs = [(0, 7), (1, 8), (2, 9)];
-        let made = [(1, 8, 5), (2, 9, 0), (2, 10, 0)];
-        let changes = occur(alloc, &mut log, &needs, &made)?;
-        tell(text, &changes)?;
+// Makes calls, one after another.
+fn make_all(text: &mut String, alloc: Global, log: &mut Log, calls: &[Call]) -> Result<(), Memory>
+    requires { IsKept (log_view log.old) }
+{
+    for call in calls {
+        make(text, alloc, log, *call)?;
     }
     Ok(())
 }
 
-#[test]
-fn what_is_put_back_as_it_was_is_not_told(rt: HostRuntime) -> Result<(), Fail> {
-    let alloc = rt.alloc();
+// What is told of these calls on a log that begins with the marking.
+fn told(alloc: Global, calls: &[Call]) -> Result<String, Memory> {
     let mut text = String::new(alloc);
-    occur_on_three_places(alloc, &mut text)?;
-    assert_eq!(rt; text.as_str(), "0:7 1:8 2:10 ");
+    let mut log = Log::start(alloc, marking(alloc)?)?;
+    make_all(&mut text, alloc, &mut log, calls)?;
+    Ok(text)
+}
+
+const TABLE: &[(&[Call], &str)] = &[
+    // A completion changes which stamp a later claim took.
+    (
+        &[
+            Call::Claim(0, &[(2, 9)]),
+            Call::Claim(1, &[(1, 8), (0, 7)]),
+            Call::Show,
+            Call::Fill(0, (0, 7, 2)),
+            Call::Show,
+            Call::Show,
+            Call::Fail(1),
+            Call::Show,
+        ],
+        "2:9 0:7 1:8 | false @0 | 0:7 @0 | true @0 @2 | @0 | false @0 @2 | 0:7 1:8 @0 @2 | false @0 @2 | ",
+    ),
+    // A claim is committed at once, between another one that is committed and one that is open: it takes the 7 that was there first, and
+    // puts a later one in its place.
+    (
+        &[
+            Call::Claim(0, &[(2, 9)]),
+            Call::Fill(0, (0, 7, 2)),
+            Call::Show,
+            Call::Occur(&[(0, 7)], &[(0, 7, 4)]),
+            Call::Show,
+            Call::Claim(1, &[(0, 7)]),
+            Call::Show,
+            Call::Count,
+        ],
+        "2:9 0:7 @0 @2 | true @0 @2 | 0:7 @2 @4 | false @2 @4 | 0:7 @4 | false @2 @4 | 3 2 ",
+    ),
+    // Of four values on places one is taken, one is put back later, one is put back as it was, which is not told, and one is added.
+    (
+        &[Call::Occur(
+            &[(0, 7), (1, 8), (2, 9)],
+            &[(1, 8, 5), (2, 9, 0), (2, 10, 0)],
+        )],
+        "0:7 1:8 2:10 ",
+    ),
+    // Thousands of claims are committed.
+    (&[Call::Round(3000), Call::Count], "3000 3000 3000 "),
+];
+
+#[test]
+fn each_row_of_calls_is_told(rt: HostRuntime) -> Result<(), Fail> {
+    for (calls, wanted) in TABLE {
+        assert_eq!(rt; told(rt.alloc(), calls)?.as_str(), *wanted);
+    }
     Ok(())
 }

@@ -52,7 +52,12 @@ fn tell_difference(text: &mut String, first: &mut MSet, second: &MSet) -> Result
     }
     first.subtract(second);
     text.push_str("covered, left")?;
-    for (value, count) in first.iter() {
+    push_counts(text, first)
+}
+
+/// Writes the numbers of a multiset, each behind a blank with how often it appears.
+fn push_counts(text: &mut String, multiset: &MSet) -> Result<(), Memory> {
+    for (value, count) in multiset.iter() {
         let number = number_of(value);
         write!(text, " {number}x{count}")?;
     }

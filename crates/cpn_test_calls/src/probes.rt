@@ -35,60 +35,91 @@ impl Probe for Keeper {
     }
 }
 
-// So many occurrences of transition 0, at the times 0, 2, 4 and so on.
-fn run_of(alloc: Global, length: u32) -> Result<Vec<Occurrence>, Fail> {
+// The occurrence of a number, of transition 0, at twice the number.
+fn occurrence(alloc: Global, number: u32) -> Result<Occurrence, Memory> {
+    let element = Element {
+        transition: 0,
+        binding: Binding::new(alloc),
+    };
+    let number = u64::from(number);
+    Ok(Occurrence {
+        number,
+        time: 2 * number,
+        element: Arc::new(alloc, element)?,
+    })
+}
+
+// So many occurrences, at the times 0, 2, 4 and so on.
+fn run_of(alloc: Global, length: u32) -> Result<Vec<Occurrence>, Memory> {
     let mut occurrences = Vec::new(alloc);
     for number in 0..length {
-        let element = Element {
-            transition: 0,
-            binding: Binding::new(alloc),
-        };
-        let number = u64::from(number);
-        occurrences.push(Occurrence {
-            number,
-            time: 2 * number,
-            element: Arc::new(alloc, element)?,
-        })?;
+        occurrences.push(occurrence(alloc, number)?)?;
     }
     Ok(occurrences)
 }
 
-// Whether probes with these limits are told runs of these lengths, one after another, and then their reports.
-fn told_of_probes(alloc: Global, limits: &[u64], lengths: &[u32]) -> Result<String, Fail> {
+// Whether the probes are told all of a run of this length.
+fn are_told(alloc: Global, probes: &mut Vec<Box<dyn Probe>>, length: u32) -> Result<bool, Memory> {
+    let run = run_of(alloc, length)?;
+    Ok(tell_all(probes, &run).is_ok())
+}
+
+// Writes the reports of the probes.
+fn push_reports(text: &mut String, alloc: Global, probes: &[Box<dyn Probe>]) -> Result<(), Memory> {
+    for report in &report_all(alloc, probes)? {
+        let report = str::from_utf8(report.bytes()).unwrap_or("no text");
+        write!(text, "{report}; ")?;
+    }
+    Ok(())
+}
+
+// Writes whether probes with these limits are told runs of these lengths, one after another, and then their reports.
+fn tell_probes(
+    text: &mut String,
+    alloc: Global,
+    limits: &[u64],
+    lengths: &[u32],
+) -> Result<(), Memory> {
     let mut probes: Vec<Box<dyn Probe>> = Vec::new(alloc);
     for left in limits {
         let digits = Text::new(alloc);
-        let keeper = Keeper {
-            digits,
-            left: *left,
-        };
-        probes.push(Box::new(alloc, keeper)?)?;
+        let left = *left;
+        probes.push(Box::new(alloc, Keeper { digits, left })?)?;
     }
-    let mut text = String::new(alloc);
     for length in lengths {
-        let told = tell_all(&mut probes, &run_of(alloc, *length)?);
-        text.push_str(if told.is_ok() { "told; " } else { "memory; " })?;
+        let is_told = are_told(alloc, &mut probes, *length)?;
+        text.push_str(if is_told { "told; " } else { "memory; " })?;
     }
-    for report in &report_all(alloc, probes.as_slice())? {
-        text.push_str(str::from_utf8(report.bytes()).unwrap_or("no text"))?;
-        text.push_str("; ")?;
-    }
+    push_reports(text, alloc, &probes)
+}
+
+// What probes with these limits are told of runs of these lengths, and what they report.
+fn told_of_probes(alloc: Global, limits: &[u64], lengths: &[u32]) -> Result<String, Memory> {
+    let mut text = String::new(alloc);
+    tell_probes(&mut text, alloc, limits, lengths)?;
     Ok(text)
 }
 
+/// How many occurrences each probe keeps, how long the runs are, and what is told then.
+const TABLE: &[(&[u64], &[u32], &str)] = &[
+    (
+        &[99, 99],
+        &[3, 12],
+        "told; told; 012012345678901; 012012345678901; ",
+    ),
+    (&[], &[3], "told; "),
+    (&[99], &[], "; "),
+    // The second of three probes wants memory at its second occurrence, and the third one is told none.
+    (&[99, 1, 99], &[3], "memory; 012; 0; ; "),
+];
+
 #[test]
 fn each_probe_is_told_each_occurrence_and_reports(rt: HostRuntime) -> Result<(), Fail> {
-    let two_runs = told_of_probes(rt.alloc(), &[99, 99], &[3, 12])?;
-    assert_eq!(rt;
-        two_runs.as_str(),
-        "told; told; 012012345678901; 012012345678901; "
-    );
-    let none = told_of_probes(rt.alloc(), &[], &[3])?;
-    assert_eq!(rt; none.as_str(), "told; ");
-    let no_run = told_of_probes(rt.alloc(), &[99], &[])?;
-    assert_eq!(rt; no_run.as_str(), "; ");
-    // The second of three probes wants memory at its second occurrence, and the third one is told none.
-    let wanting = told_of_probes(rt.alloc(), &[99, 1, 99], &[3])?;
-    assert_eq!(rt; wanting.as_str(), "memory; 012; 0; ; ");
+    for (limits, lengths, wanted) in TABLE {
+        assert_eq!(rt;
+            told_of_probes(rt.alloc(), limits, lengths)?.as_str(),
+            *wanted
+        );
+    }
     Ok(())
 }

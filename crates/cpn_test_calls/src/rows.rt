@@ -24,35 +24,38 @@ fn pairs_in(alloc: Global, text: &str, sign: char) -> Result<Vec<(i64, u64)>, Me
     Ok(pairs)
 }
 
+/// The signs in the pairs of what there is and of what is asked for, by the word for what a row is of.
+fn signs_of(kind: &str) -> (char, char) {
+    match kind {
+        "place" => ('@', 'x'),
+        "behind" => ('@', '@'),
+        "marking" => ('@', '+'),
+        _ => ('x', 'x'),
+    }
+}
+
 /// Writes what is told of a row: a word for what it is of, what there is, a bar, and what is asked for.
 fn tell(text: &mut String, alloc: Global, asked: &str) -> Result<(), Memory> {
     let (kind, asked) = asked.split_once(' ').unwrap_or((asked, ""));
     let (there, needed) = asked.split_once('|').unwrap_or((asked, ""));
+    let (sign, needed_sign) = signs_of(kind);
+    let there = pairs_in(alloc, there, sign)?;
+    let needed = pairs_in(alloc, needed, needed_sign)?;
+    tell_pairs(text, alloc, kind, &there, &needed)
+}
+
+fn tell_pairs(
+    text: &mut String,
+    alloc: Global,
+    kind: &str,
+    there: &[(i64, u64)],
+    needed: &[(i64, u64)],
+) -> Result<(), Memory> {
     match kind {
-        "place" => tell_place(
-            text,
-            alloc,
-            &pairs_in(alloc, there, '@')?,
-            &pairs_in(alloc, needed, 'x')?,
-        ),
-        "behind" => tell_put_after(
-            text,
-            alloc,
-            &pairs_in(alloc, there, '@')?,
-            &pairs_in(alloc, needed, '@')?,
-        ),
-        "marking" => tell_marking(
-            text,
-            alloc,
-            &pairs_in(alloc, there, '@')?,
-            &pairs_in(alloc, needed, '+')?,
-        ),
-        _ => tell_multisets(
-            text,
-            alloc,
-            &pairs_in(alloc, there, 'x')?,
-            &pairs_in(alloc, needed, 'x')?,
-        ),
+        "place" => tell_place(text, alloc, there, needed),
+        "behind" => tell_put_after(text, alloc, there, needed),
+        "marking" => tell_marking(text, alloc, there, needed),
+        _ => tell_multisets(text, alloc, there, needed),
     }
 }
 

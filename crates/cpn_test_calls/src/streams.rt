@@ -22,13 +22,11 @@ fn tell_reads(text: &mut String, source: &mut BytesSource) -> Result<(), AllocEr
     Ok(())
 }
 
-// What six reads of 15 bytes give, in pieces of up to 10, where the calls 1 and 3 fail.
-fn told_of_source(alloc: Global) -> Result<String, AllocError> {
+// Writes what six reads of 15 bytes give, in pieces of up to 10, where the calls 1 and 3 fail.
+fn tell_source(text: &mut String, alloc: Global) -> Result<(), AllocError> {
     let fails = Vec::from_array(alloc, [1, 3])?;
-    let mut source = BytesSource::new(b"abcdefghijklmno".to_vec(alloc)?, fails, 10);
-    let mut text = String::new(alloc);
-    tell_reads(&mut text, &mut source)?;
-    Ok(text)
+    let bytes = b"abcdefghijklmno".to_vec(alloc)?;
+    tell_reads(text, &mut BytesSource::new(bytes, fails, 10))
 }
 
 // Writes what four writes take, and what is then held.
@@ -41,25 +39,10 @@ fn tell_writes(text: &mut String, sink: &mut BytesSink) -> Result<(), AllocError
     Ok(())
 }
 
-// What four writes take, in pieces of up to 5, where there is room for 6 bytes and call 1 fails.
-fn told_of_sink(alloc: Global) -> Result<String, Memory> {
+// Writes what four writes take, in pieces of up to 5, where there is room for 6 bytes and call 1 fails.
+fn tell_sink(text: &mut String, alloc: Global) -> Result<(), Memory> {
     let mut sink = BytesSink::new(alloc, Vec::from_array(alloc, [1])?, 5, 6)?;
-    let mut text = String::new(alloc);
-    tell_writes(&mut text, &mut sink)?;
-    Ok(text)
-}
-
-#[test]
-fn calls_move_pieces_and_fail_where_they_are_told(rt: HostRuntime) -> Result<(), Fail> {
-    assert_eq!(rt;
-        told_of_source(rt.alloc())?.as_str(),
-        "Bytes(10) abcdefghij..; Failed abcdefghij..; Bytes(5) klmnofghij..; Failed klmnofghij..; End klmnofghij..; End klmnofghij..; "
-    );
-    assert_eq!(rt;
-        told_of_sink(rt.alloc())?.as_str(),
-        "Took(5) abcde; Failed abcde; Took(1) abcdea; Failed abcdea; "
-    );
-    Ok(())
+    Ok(tell_writes(text, &mut sink)?)
 }
 
 // Writes what two readings to the end give.
@@ -80,13 +63,11 @@ fn tell_readings(
     Ok(())
 }
 
-// What is read to the end where a read fails in mid-stream, and then again.
-fn told_of_readings(alloc: Global) -> Result<String, AllocError> {
+// Writes what is read to the end where a read fails in mid-stream, and then again.
+fn tell_broken_source(text: &mut String, alloc: Global) -> Result<(), AllocError> {
     let fails = Vec::from_array(alloc, [2])?;
-    let mut source = BytesSource::new(b"abcdef".to_vec(alloc)?, fails, 2);
-    let mut text = String::new(alloc);
-    tell_readings(&mut text, alloc, &mut source)?;
-    Ok(text)
+    let bytes = b"abcdef".to_vec(alloc)?;
+    tell_readings(text, alloc, &mut BytesSource::new(bytes, fails, 2))
 }
 
 // Writes whether bytes are written, one after another, and what is then held.
@@ -100,47 +81,83 @@ fn tell_writings(text: &mut String, sink: &mut BytesSink) -> Result<(), AllocErr
     Ok(())
 }
 
-// What is written where a write fails in mid-stream and then the room ends.
-fn told_of_writings(alloc: Global) -> Result<String, Memory> {
+// Writes what is written where a write fails in mid-stream and then the room ends.
+fn tell_broken_sink(text: &mut String, alloc: Global) -> Result<(), Memory> {
     let mut sink = BytesSink::new(alloc, Vec::from_array(alloc, [2])?, 2, 9)?;
+    Ok(tell_writings(text, &mut sink)?)
+}
+
+// What is told of the streams that the word is for.
+fn told(alloc: Global, kind: &str) -> Result<String, Memory> {
     let mut text = String::new(alloc);
-    tell_writings(&mut text, &mut sink)?;
+    tell(&mut text, alloc, kind)?;
     Ok(text)
 }
 
+fn tell(text: &mut String, alloc: Global, kind: &str) -> Result<(), Memory> {
+    match kind {
+        "reads" => Ok(tell_source(text, alloc)?),
+        "writes" => tell_sink(text, alloc),
+        "broken reads" => Ok(tell_broken_source(text, alloc)?),
+        _ => tell_broken_sink(text, alloc),
+    }
+}
+
+const TABLE: &[(&str, &str)] = &[
+    (
+        "reads",
+        "Bytes(10) abcdefghij..; Failed abcdefghij..; Bytes(5) klmnofghij..; Failed klmnofghij..; End klmnofghij..; End klmnofghij..; ",
+    ),
+    (
+        "writes",
+        "Took(5) abcde; Failed abcde; Took(1) abcdea; Failed abcdea; ",
+    ),
+    // A fault in mid-stream leaves a proper prefix.
+    ("broken reads", "Failed ; all ef; "),
+    (
+        "broken writes",
+        "failed abcd; all abcdxyz; all abcdxyz; failed abcdxyz12; ",
+    ),
+];
+
 #[test]
-fn a_fault_in_mid_stream_is_told_and_leaves_a_proper_prefix(rt: HostRuntime) -> Result<(), Fail> {
-    assert_eq!(rt; told_of_readings(rt.alloc())?.as_str(), "Failed ; all ef; ");
-    assert_eq!(rt;
-        told_of_writings(rt.alloc())?.as_str(),
-        "failed abcd; all abcdxyz; all abcdxyz; failed abcdxyz12; "
-    );
+fn calls_move_pieces_and_fail_where_they_are_told(rt: HostRuntime) -> Result<(), Fail> {
+    for (kind, wanted) in TABLE {
+        assert_eq!(rt; told(rt.alloc(), kind)?.as_str(), *wanted);
+    }
     Ok(())
+}
+
+// Whether all the bytes are written, where there is room for so many.
+fn are_written(alloc: Global, bytes: &[u8], room: usize) -> Result<bool, Memory> {
+    let mut sink = BytesSink::new(alloc, Vec::new(alloc), 5_000, room)?;
+    Ok(write_all(&mut sink, bytes).is_ok() && sink.bytes() == bytes)
 }
 
 // Whether so many blanks are read to the end, and all of them written; `None` where they are too many.
 fn are_passed_on(alloc: Global, count: usize) -> Result<Option<bool>, Memory> {
     let blanks = vec![in alloc; b' '; count]?;
     let mut source = BytesSource::new(blanks, Vec::new(alloc), 4_000);
-    let bytes = match read_all(alloc, &mut source) {
-        Ok(bytes) => bytes,
-        Err(ReadError::TooLong) => return Ok(None),
-        Err(_) => return Ok(Some(false)),
-    };
-    let mut sink = BytesSink::new(alloc, Vec::new(alloc), 5_000, count)?;
-    let is_written = write_all(&mut sink, &bytes).is_ok();
-    Ok(Some(is_written && bytes.len() == count && sink.bytes() == bytes.as_slice()))
+    match read_all(alloc, &mut source) {
+        Ok(bytes) => Ok(Some(are_written(alloc, &bytes, count)? && bytes.len() == count)),
+        Err(ReadError::TooLong) => Ok(None),
+        Err(_) => Ok(Some(false)),
+    }
 }
+
+// How many bytes there are, and what becomes of them.
+const COUNTS: &[(usize, Option<bool>)] = &[
+    (0, Some(true)),
+    (4_097, Some(true)),
+    (100_001, Some(true)),
+    (MOST_BYTES, Some(true)),
+    (MOST_BYTES + 1, None),
+];
 
 #[test]
 fn as_many_bytes_as_may_be_are_read_and_written(rt: HostRuntime) -> Result<(), Fail> {
-    for count in [0, 4_097, 100_001, MOST_BYTES, MOST_BYTES + 1] {
-        let wanted = if count <= MOST_BYTES {
-            Some(true)
-        } else {
-            None
-        };
-        assert!(rt; are_passed_on(rt.alloc(), count)? == wanted, "at {count}");
+    for (count, wanted) in COUNTS {
+        assert!(rt; are_passed_on(rt.alloc(), *count)? == *wanted, "at {count}");
     }
     Ok(())
 }

@@ -1,3 +1,6 @@
+mod AcceptedEdits
+mod ChangedTokens
+mod GuardEdits
 mod ShownBooks
 mod StampLists
 mod ToldEnds

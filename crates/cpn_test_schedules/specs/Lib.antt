@@ -1,2 +1,4 @@
+pub mod EditedNets
+pub mod Editable
 pub mod Held
 pub mod Shown

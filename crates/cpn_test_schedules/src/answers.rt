@@ -75,6 +75,13 @@ pub fn push_advanced(out: &mut String, answer: Advanced) -> Result<(), Memory> {
     }
 }
 
+/// Appends that a call is not made, and why.
+pub fn push_not_made(out: &mut String, why: &str) -> Result<(), Memory> {
+    out.push_str("not made: ")?;
+    out.push_str(why)?;
+    Ok(())
+}
+
 /// Appends words.
 pub fn push_words(out: &mut String, words: &str) -> Result<(), Memory> {
     out.push_str(words)?;

@@ -3,6 +3,8 @@
 ghost use Rattle.std.specs.Prelude.{◌≡◌, IfOk};
 ghost use Rattle.cpn_core.specs.Inscriptions.{funs_view};
 ghost use Rattle.cpn_core.specs.Nets.{net_view};
+ghost use Rattle.cpn_declared.specs.DeclsViews.{decls_view};
+ghost use Rattle.cpn_edit_texts.specs.Ready.{IsReady};
 ghost use Rattle.cpn_flat.specs.Views.{loaded_view};
 ghost use Rattle.cpn_flat.specs.WellLoaded.{IsWellLoaded};
 ghost use Rattle.cpn_monitor.specs.Fitting.{FitNet};
@@ -34,9 +36,10 @@ pub fn setup_from(
 }
 
 /// The model of a document file.
-fn model_from(rt: &(impl Files + AllocGlobal), path: &str) -> Result<Model, Refusal>
+pub fn model_from(rt: &(impl Files + AllocGlobal), path: &str) -> Result<Model, Refusal>
     ensures well_loaded { IfOk result (λ model. IsWellLoaded (loaded_view model.loaded)) }
     ensures fit { IfOk result (λ model. FitNet (net_view model.loaded.net) (funs_view model.monitors.funs.value) (monitors_view model.monitors)) }
+    ensures ready { IfOk result (λ model. IsReady (decls_view model.loaded.decls) (net_view model.loaded.net) model.loaded.initial (monitors_view model.monitors)) }
 {
     let Ok(bytes) = fs::read(rt, path) else {
         return Err(Refusal::File);

@@ -1,15 +1,21 @@
-//! The program: a net document and a schedule of calls in, a table of what they answer out.
+//! The program: a net document and a schedule of calls in, a table of what they answer out; or a script of commands, and what they tell.
 //!
 //! It makes the calls of the schedule on the book of one run, one after another, and prints what each answers and where the run then
 //! stands. Several seats claim, complete and give back in whatever order the schedule says. Where it is asked for, an index follows the
-//! run beside the book, and is held against what a search of the whole net finds anew. The program decides no rule of nets and of runs
-//! itself: the answers are the book's.
+//! run beside the book, and is held against what a search of the whole net finds anew.
+//!
+//! The commands of a script put tokens on the places of the net, take them, move the clock and set guards, and an index of what is enabled
+//! follows. Others keep elements that belong to no net. The program decides no rule of nets and of runs itself: what it prints is what the
+//! libraries answer, keep and find.
 #![tactic(auto)]
 
 mod answers;
 mod calls;
+mod commands;
 mod differences;
 mod documents;
+mod dues;
+mod edited_nets;
 mod ends;
 mod hands;
 mod held;
@@ -17,12 +23,15 @@ mod numbers;
 mod plays;
 mod refusals;
 mod rows;
+mod scripts;
 mod searches;
+mod telling;
 mod words;
 
-use crate::documents::{setup_from, text_from};
+use crate::documents::{model_from, setup_from, text_from};
 use crate::plays::Table;
 use crate::refusals::Refusal;
+use crate::scripts::played;
 use crate::words::options_from;
 use cpn_io::{Stdout, write_all};
 use std::env;
@@ -30,9 +39,8 @@ use std::process::ExitCode;
 use std::rt::{Env, Files};
 
 fn main(rt: HostRuntime) -> ExitCode {
-    let mut table = Table::new(rt.alloc());
-    match fill(&rt, &mut table) {
-        Ok(()) => printed(&rt, table.text(), ExitCode::SUCCESS),
+    match told_by(&rt) {
+        Ok(told) => printed(&rt, &told, ExitCode::SUCCESS),
         Err(refusal) => match refusal.line(rt.alloc()) {
             Ok(line) => printed(&rt, &line, ExitCode::FAILURE),
             Err(_) => ExitCode::FAILURE,
@@ -48,10 +56,35 @@ fn printed(rt: &(impl AllocGlobal + Print), text: &str, status: ExitCode) -> Exi
     }
 }
 
-/// Fills the table of the schedule that the words name, played on the net that they name.
-fn fill(rt: &(impl Env + Files + AllocGlobal), table: &mut Table) -> Result<(), Refusal> {
+/// What is told of the script or of the schedule that the words name.
+fn told_by(rt: &(impl Env + Files + AllocGlobal)) -> Result<String, Refusal> {
     let words = command_words(rt)?;
-    let Some(options) = options_from(&words) else {
+    if words.len() == 3 && words[0].as_str() == "script" {
+        return script_told(rt, words[2].as_str(), words[1].as_str());
+    }
+    let mut table = Table::new(rt.alloc());
+    fill(rt, &words, &mut table)?;
+    Ok(table.into_text())
+}
+
+/// What the commands of a script tell, which are made in the net of a document.
+fn script_told(
+    rt: &(impl Files + AllocGlobal),
+    script: &str,
+    net: &str,
+) -> Result<String, Refusal> {
+    let script = text_from(rt, script)?;
+    let model = model_from(rt, net)?;
+    Ok(played(rt.alloc(), model, &script)?)
+}
+
+/// Fills the table of the schedule that the words name, played on the net that they name.
+fn fill(
+    rt: &(impl Files + AllocGlobal),
+    words: &[String],
+    table: &mut Table,
+) -> Result<(), Refusal> {
+    let Some(options) = options_from(words) else {
         return Err(Refusal::Words);
     };
     if let Some(beside) = options.beside {

@@ -8,12 +8,14 @@ ghost use Rattle.cpn_runs.specs.Playable.{IsPlayable};
 ghost use Rattle.cpn_test_schedules.specs.Held.{IsHeld};
 ghost use Rattle.cpn_test_schedules.specs.Shown.{IsShown, IsShownSetup};
 
-use crate::answers::{push_advanced, push_claimed, push_completed, push_given_back, push_words};
+use crate::answers::{
+    push_advanced, push_claimed, push_completed, push_given_back, push_not_made, push_words,
+};
 use crate::calls::{Call, Run, call_in};
 use crate::ends::push_end;
 use crate::hands::Hand;
 use crate::held::Held;
-use crate::rows::{push_held, push_standing};
+use crate::rows::{push_call, push_held, push_standing};
 use crate::searches::push_searched;
 use cpn_book::{Book, Evaluated, Finish, Ticket};
 use cpn_core::{Memory, Net};
@@ -46,8 +48,9 @@ impl Table {
     }
 
     /// The text of the table.
-    pub fn text(&self) -> &str {
-        self.out.as_str()
+    pub fn into_text(self) -> String {
+        let Table { out, .. } = self;
+        out
     }
 
     /// The tickets of the claims that the seats make, one each, at the start of a run of the net beside, are at hand.
@@ -86,13 +89,12 @@ impl Table {
         Ok(())
     }
 
-    /// Adds the cells of a line: the line, what it is answered, and where the run then stands, unless it has ended.
+    /// Adds the first cells of a row, the line and what it is answered; the report, where the run ends.
     fn line(&mut self, net: &Net, run: &mut Option<Book>, line: &str) -> Result<(), Memory>
         requires shown { IfSome run.old (λ book. IsShown (net_view net.now) book) }
         ensures shown { OnOk result (IfSome run.new (λ book. IsShown (net_view net.now) book)) }
     {
-        self.out.push_str(line)?;
-        self.out.push_str(" | ")?;
+        push_call(&mut self.out, line)?;
         if line == "alone" {
             return self.alone(net, run);
         }
@@ -100,18 +102,9 @@ impl Table {
             return self.finish(net, run);
         }
         match run {
-            Some(book) => self.call(net, book, line),
-            None => self.not_made("the run has ended\n"),
+            Some(book) => self.answer(net, book, call_in(line)),
+            None => push_not_made(&mut self.out, "the run has ended\n"),
         }
-    }
-
-    /// Adds what a call that leaves the run going on is answered, and where the run then stands.
-    fn call(&mut self, net: &Net, book: &mut Book, line: &str) -> Result<(), Memory>
-        requires shown { IsShown (net_view net.now) book.old }
-        ensures shown { OnOk result (IsShown (net_view net.now) book.new) }
-    {
-        self.answer(net, book, call_in(line))?;
-        push_standing(&mut self.out, net, book)
     }
 
     /// Makes a call that leaves the run going on, if it is one, and adds its answer.
@@ -120,7 +113,7 @@ impl Table {
         ensures shown { OnOk result (IsShown (net_view net.now) book.new) }
     {
         let Some(call) = call else {
-            return self.not_made("it is no call");
+            return push_not_made(&mut self.out, "it is no call");
         };
         match call {
             Call::Start => push_words(&mut self.out, "begun"),
@@ -130,13 +123,6 @@ impl Table {
             Call::Advance => push_advanced(&mut self.out, book.advance()),
             Call::Search { time } => self.search(net, book, time),
         }
-    }
-
-    /// Adds that a call is not made, and why.
-    fn not_made(&mut self, why: &str) -> Result<(), Memory> {
-        self.out.push_str("not made: ")?;
-        self.out.push_str(why)?;
-        Ok(())
     }
 
     /// What is at hand of the claims of a run.
@@ -153,7 +139,7 @@ impl Table {
         ensures shown { OnOk result (IsShown (net_view net.now) book.new) }
     {
         if book.setup().limits.seats <= seat {
-            return self.not_made("the run has no such seat");
+            return push_not_made(&mut self.out, "the run has no such seat");
         }
         let claimed = book.claim(seat)?;
         push_claimed(&mut self.out, net, &claimed)?;
@@ -174,7 +160,7 @@ impl Table {
     {
         match self.hand(run).take_evaluation(number)? {
             Some(done) => self.complete_by(net, book, seat, run, done),
-            None => self.not_made("no evaluation of that claim is at hand"),
+            None => push_not_made(&mut self.out, "no evaluation of that claim is at hand"),
         }
     }
 
@@ -209,7 +195,7 @@ impl Table {
     {
         match self.hand(run).take_ticket(number) {
             Some(ticket) => self.give_back_by(net, book, seat, run, ticket),
-            None => self.not_made("no ticket of that claim is at hand"),
+            None => push_not_made(&mut self.out, "no ticket of that claim is at hand"),
         }
     }
 
@@ -246,7 +232,7 @@ impl Table {
         ensures shown { OnOk result (IfSome run.new (λ book. IsShown (net_view net.now) book)) }
     {
         let Some(book) = run.take() else {
-            return self.not_made("the run has ended\n");
+            return push_not_made(&mut self.out, "the run has ended\n");
         };
         let finished = book.run_alone()?;
         push_end(&mut self.out, self.alloc, &finished)
@@ -258,25 +244,16 @@ impl Table {
         ensures shown { OnOk result (IfSome run.new (λ book. IsShown (net_view net.now) book)) }
     {
         let Some(book) = run.take() else {
-            return self.not_made("the run has ended\n");
+            return push_not_made(&mut self.out, "the run has ended\n");
         };
         match book.finish() {
             Finish::Ended(finished) => push_end(&mut self.out, self.alloc, &finished),
             Finish::Running(book) => {
-                let added = self.go_on(net, &book);
                 *run = Some(book);
-                added
+                push_words(&mut self.out, "running")
             }
             Finish::Spent => Err(Memory),
         }
-    }
-
-    /// Adds that the run goes on, and where it stands.
-    fn go_on(&mut self, net: &Net, book: &Book) -> Result<(), Memory>
-        requires shown { IsShown (net_view net.now) book.now }
-    {
-        self.out.push_str("running")?;
-        push_standing(&mut self.out, net, book)
     }
 }
 
@@ -292,7 +269,7 @@ fn held_at_start(alloc: Global, setup: &Setup, is_indexed: bool) -> Result<Optio
     Ok(Some(held))
 }
 
-/// Ends the row of a run that goes on: with what the index keeps, if there is one, once it has followed the run.
+/// Adds the last cells of a row, where the run goes on: where it stands, and what the index keeps, if there is one.
 fn end_row(
     out: &mut String,
     alloc: Global,
@@ -306,9 +283,9 @@ fn end_row(
 {
     match run {
         Some(book) => {
+            push_standing(out, net, book)?;
             follow_beside(out, alloc, net, book, held)?;
-            out.push_str("\n")?;
-            Ok(())
+            push_words(out, "\n")
         }
         None => Ok(()),
     }
@@ -369,5 +346,6 @@ fn make_claim(book: &mut Book, found: &mut Hand, seat: u32) -> Result<(), Memory
     if book.setup().limits.seats <= seat {
         return Ok(());
     }
-    found.keep_claimed(book.claim(seat)?)
+    let claimed = book.claim(seat)?;
+    found.keep_claimed(claimed)
 }

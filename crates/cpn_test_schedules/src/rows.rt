@@ -6,6 +6,7 @@ ghost use Rattle.cpn_definitions.specs.Sound.{IsMarking};
 ghost use Rattle.cpn_test_schedules.specs.Held.{IsHeld};
 ghost use Rattle.cpn_test_schedules.specs.Shown.{IsShown};
 
+use crate::answers::push_words;
 use crate::held::Held;
 use cpn_book::Book;
 use cpn_core::{Memory, Net};
@@ -13,6 +14,12 @@ use cpn_report::{push_place_lines, push_time};
 use cpn_tmset::Marking;
 use std::alloc::Global;
 use std::fmt::Write;
+
+/// Appends the call of a row.
+pub fn push_call(out: &mut String, line: &str) -> Result<(), Memory> {
+    push_words(out, line)?;
+    push_words(out, " | ")
+}
 
 /// Appends where the run stands: the clock, how many elements are ready, the next time, the unclaimed and the settled marking.
 pub fn push_standing(out: &mut String, net: &Net, book: &Book) -> Result<(), Memory>
@@ -36,32 +43,35 @@ fn push_marking(out: &mut String, net: &Net, marking: &Marking) -> Result<(), Me
 {
     let mut lines = String::new(*out.allocator());
     push_place_lines(&mut lines, net, &net.places, marking)?;
-    out.push_str(" | ")?;
+    push_words(out, " | ")?;
     push_places(out, lines.as_str())
 }
 
 /// Appends the lines of places as one.
 fn push_places(out: &mut String, lines: &str) -> Result<(), Memory> {
     for (number, line) in lines.lines().enumerate() {
-        if number > 0 {
-            out.push_str("; ")?;
-        }
-        out.push_str(line.strip_prefix("place ").unwrap_or(line))?;
+        push_place(out, if number > 0 { "; " } else { "" }, line)?;
     }
     Ok(())
+}
+
+/// Appends a sign and the line of a place, without its first word.
+fn push_place(out: &mut String, sign: &str, line: &str) -> Result<(), Memory> {
+    push_words(out, sign)?;
+    push_words(out, line.strip_prefix("place ").unwrap_or(line))
 }
 
 /// Appends what an index keeps: how many elements are ready, how many are kept, and whether a search of the whole net agrees.
 pub fn push_held(out: &mut String, alloc: Global, net: &Net, held: &Held) -> Result<(), Memory>
     requires held { IsHeld (net_view net.now) held.now.marking held.now.index held.now.clock }
 {
-    let ready = held.index.ready_len();
-    let number = held.index.len();
-    let agrees = if held.agrees(alloc, net)? {
-        "agrees"
-    } else {
-        "differs"
-    };
-    write!(out, " | {ready} | {number} | {agrees}")?;
+    let agrees = held.agrees(alloc, net)?;
+    push_kept(out, held.index.ready_len(), held.index.len(), agrees)
+}
+
+/// Appends how many elements are ready and how many are kept, and whether a search agrees.
+fn push_kept(out: &mut String, ready: u64, number: u64, agrees: bool) -> Result<(), Memory> {
+    let word = if agrees { "agrees" } else { "differs" };
+    write!(out, " | {ready} | {number} | {word}")?;
     Ok(())
 }

@@ -4,6 +4,7 @@ ghost use Rattle.std.specs.Prelude.{◌<◌, length};
 ghost use Rattle.cpn_core.specs.Nets.{net_view};
 ghost use Rattle.cpn_definitions.specs.Sound.{IsMarking, IsSound};
 
+use crate::answers::push_words;
 use cpn_core::{Binding, Memory, Net, Pair, Value, Variable};
 use cpn_report::{has_names, value_text};
 use cpn_search::{enabled, enabled_of, search};
@@ -106,9 +107,8 @@ fn push_value(
     if !variable.colour.admits(value) || !has_names(net, &variable.colour) {
         return Ok(());
     }
-    out.push_str(variable.name.as_str())?;
-    out.push_str("=")?;
     let text = value_text(alloc, net, &variable.colour, value)?;
-    out.push_str(text.as_str())?;
-    Ok(())
+    push_words(out, variable.name.as_str())?;
+    push_words(out, "=")?;
+    push_words(out, text.as_str())
 }

@@ -1,12 +1,10 @@
 //! Probes that are handed in: how often they are dropped, and what their want of memory gives.
 
+use crate::runs::simulated;
 use cpn_core::{Memory, Occurrence, Text};
 use cpn_floor::Open;
-use cpn_io::{BytesSink, BytesSource};
 use cpn_probe::Probe;
-use cpn_simulation::simulate;
 use std::alloc::Global;
-use std::str;
 use std::sync::atomic::{AtomicU64, Ordering};
 use std::sync::{Arc, Wait};
 use std::test::Fail;
@@ -48,57 +46,51 @@ impl Probe for Counted {
 const THREE_TOKENS: &str =
     r#"{"version": 1, "declarations": ["colset INT = int;", "var x : INT;"], "top": "Top", "modules": [{"name": "Top", "places": [{"name": "A", "colour": "INT", "initial": "3`7"}, {"name": "B", "colour": "INT"}], "transitions": [{"name": "t"}], "arcs": [{"place": "A", "transition": "t", "to": "transition", "expr": "x"}, {"place": "B", "transition": "t", "to": "place", "expr": "x"}]}], "phases": [{"start": "initial"}, {"start": "initial"}]}"#;
 
+// A probe that notes so many occurrences, and counts its drops there.
+fn probes_of(
+    alloc: Global,
+    left: u64,
+    drops: &Arc<AtomicU64, Global>,
+) -> Result<Vec<Box<dyn Probe>>, Memory> {
+    let mut probes: Vec<Box<dyn Probe>> = Vec::new(alloc);
+    let drops = drops.clone()?;
+    probes.push(Box::new(alloc, Counted { left, drops })?)?;
+    Ok(probes)
+}
+
 // The status of the document with a probe that notes so many occurrences, how often it is dropped, and the last line that was written.
 fn with_probe(
     rt: &(impl Threads + Wait + Sync),
     alloc: Global,
     document: &str,
     left: u64,
-) -> Result<String, Fail> {
+) -> Result<String, Memory> {
     let drops = Arc::new(alloc, AtomicU64::new(0))?;
-    let mut probes: Vec<Box<dyn Probe>> = Vec::new(alloc);
-    let counted = Counted {
-        left,
-        drops: drops.clone()?,
-    };
-    probes.push(Box::new(alloc, counted)?)?;
-    let mut bytes = Vec::new(alloc);
-    bytes.extend_from_slice(document.as_bytes())?;
-    let mut source = BytesSource::new(bytes, Vec::new(alloc), 64);
-    let mut sink = BytesSink::new(alloc, Vec::new(alloc), 64, 4096)?;
-    let status = simulate(rt, alloc, &[], &mut source, &mut sink, probes, &Open);
-    let written = str::from_utf8(sink.bytes()).unwrap_or("no text");
+    let probes = probes_of(alloc, left, &drops)?;
+    let given = simulated(rt, alloc, &[], document, probes, &Open)?;
+    let (status, written) = given.split_once(' ').unwrap_or(("", ""));
+    let dropped = drops.load(Ordering::SeqCst);
     let last = written.lines().last().unwrap_or("nothing");
-    Ok(format!(in alloc;
-        "{} {} {}",
-        status as u8,
-        drops.load(Ordering::SeqCst),
-        last
-    )?)
+    Ok(format!(in alloc; "{status} {dropped} {last}")?)
 }
+
+// The document, how many occurrences are noted, and what is told: all of them, none, and no memory at the first note, in the second run
+// and at the last note.
+const TABLE: &[(&str, u64, &str)] = &[
+    (THREE_TOKENS, 6, "0 1 total 6"),
+    ("[", 6, "3 1 error document 1 not_json"),
+    (THREE_TOKENS, 0, "8 1 nothing"),
+    (THREE_TOKENS, 4, "8 1 nothing"),
+    (THREE_TOKENS, 5, "8 1 nothing"),
+];
 
 #[test]
 fn probes_are_dropped_once(rt: HostRuntime) -> Result<(), Fail> {
-    let rows = [
-        ("done", THREE_TOKENS, 6, "0 1 total 6"),
-        ("no document", "[", 6, "3 1 error document 1 not_json"),
-        (
-            "no memory at the first note",
-            THREE_TOKENS,
-            0,
-            "8 1 nothing",
-        ),
-        (
-            "no memory in the second run",
-            THREE_TOKENS,
-            4,
-            "8 1 nothing",
-        ),
-        ("no memory at the last note", THREE_TOKENS, 5, "8 1 nothing"),
-    ];
-    for (name, document, left, wanted) in rows {
-        let given = with_probe(&rt, rt.alloc(), document, left)?;
-        assert_eq!(rt; given.as_str(), wanted, "{name}");
+    for (document, left, wanted) in TABLE {
+        assert_eq!(rt;
+            with_probe(&rt, rt.alloc(), document, *left)?.as_str(),
+            *wanted
+        );
     }
     Ok(())
 }

@@ -20,33 +20,42 @@ use std::test::Fail;
 const NET: &str =
     r#"{"version": 1, "declarations": ["colset INT = int;", "var x, y : INT;"], "top": "Top", "modules": [{"name": "Top", "places": [{"name": "A", "colour": "INT", "initial": "1`1 ++ 1`2 ++ 1`3"}], "transitions": [{"name": "t", "guard": "y = x"}], "arcs": [{"place": "A", "transition": "t", "to": "transition", "expr": "x"}]}], "monitors": [{"name": "m", "kind": "value", "transition": "Top/t", "expr": "y"}]}"#;
 
-// An edit in words: its kind, the name of a transition or a place, and after a colon the text.
-fn edit_in(alloc: Global, words: &str) -> Result<Edit, Memory> {
-    let (kind, rest) = words.split_once(' ').unwrap_or((words, ""));
-    let (name, text) = rest.split_once(": ").unwrap_or((rest, ""));
-    let name = format!(in alloc; "{name}")?;
-    let text = format!(in alloc; "{text}")?;
-    Ok(match kind {
-        "guard" => Edit::Guard {
-            transition: name,
-            text,
-        },
-        _ => Edit::Initial { place: name, text },
+// An edit: of the guard of a transition, or of the initial marking of a place, each by its name, with its text.
+enum Words {
+    Guard(&'static str, &'static str),
+    Initial(&'static str, &'static str),
+}
+
+fn edit_of(alloc: Global, words: &Words) -> Result<Edit, Memory> {
+    match words {
+        Words::Guard(name, text) => Ok(Edit::Guard {
+            transition: String::from_str(alloc, name)?,
+            text: String::from_str(alloc, text)?,
+        }),
+        Words::Initial(name, text) => Ok(Edit::Initial {
+            place: String::from_str(alloc, name)?,
+            text: String::from_str(alloc, text)?,
+        }),
+    }
+}
+
+// A phase with these edits.
+fn phase_of(alloc: Global, words: &[Words]) -> Result<Phase, Memory> {
+    let mut edits = Vec::new(alloc);
+    for words in words {
+        edits.push(edit_of(alloc, words)?)?;
+    }
+    Ok(Phase {
+        start: Start::Initial,
+        edits,
     })
 }
 
-// A phase for each of these edits.
-fn phases_in(alloc: Global, words: &str) -> Result<Vec<Phase>, Memory> {
+// A phase for each list of edits.
+fn phases_of(alloc: Global, lists: &[&[Words]]) -> Result<Vec<Phase>, Memory> {
     let mut phases = Vec::new(alloc);
-    for words in words.split("; ") {
-        let mut edits = Vec::new(alloc);
-        if words != "" {
-            edits.push(edit_in(alloc, words)?)?;
-        }
-        phases.push(Phase {
-            start: Start::Initial,
-            edits,
-        })?;
+    for words in lists {
+        phases.push(phase_of(alloc, words)?)?;
     }
     Ok(phases)
 }
@@ -73,74 +82,120 @@ fn edited_session(alloc: Global, loaded: Loaded, edit: &Edit) -> Result<Session,
     Ok(session)
 }
 
-// What is told of these phases and this edit: how many occurrences the run from the initial marking has, or the refusal.
-fn told(alloc: Global, phases: &str, edit: &str) -> Result<String, Fail> {
-    let loaded = loaded_with(alloc, phases_in(alloc, phases)?)?;
-    match edited_session(alloc, loaded, &edit_in(alloc, edit)?) {
+// How many occurrences the run of the session from the initial marking has.
+fn run_length(session: Session) -> Result<usize, Memory>
+    requires stands { IsSession session }
+{
+    let (_, book) = session.begin(Start::Initial)?;
+    let finished = book.run_alone()?;
+    Ok(finished.occurrences.len())
+}
+
+// Writes why an edit is refused.
+fn tell_refusal(text: &mut String, error: &EditError) -> Result<(), Memory> {
+    match error {
+        EditError::UnknownName(at) => write!(text, "unknown name, {at:?}")?,
+        EditError::Bad(at, trouble) => write!(text, "{trouble}, {at:?}")?,
+        _ => text.push_str("another refusal")?,
+    }
+    Ok(())
+}
+
+// Writes what becomes of these phases and this edit: how many occurrences the run has, or the refusal.
+fn tell(text: &mut String, alloc: Global, loaded: Loaded, edit: &Edit) -> Result<(), Memory>
+    requires consistent { IsConsistent (decls_view loaded.decls) }
+    requires well_loaded { IsWellLoaded (loaded_view loaded) }
+{
+    match edited_session(alloc, loaded, edit) {
         Ok(session) => {
-            let (_, book) = session.begin(Start::Initial)?;
-            let finished = book.run_alone()?;
-            Ok(format!(in alloc; "runs to {}", finished.occurrences.len())?)
+            let length = run_length(session)?;
+            write!(text, "runs to {length}")?;
+            Ok(())
         }
-        Err(EditError::UnknownName(at)) => Ok(format!(in alloc; "unknown name, {at:?}")?),
-        Err(EditError::Bad(at, trouble)) => Ok(format!(in alloc; "{trouble}, {at:?}")?),
-        Err(error) => Ok(format!(in alloc; "{error}")?),
+        Err(error) => tell_refusal(text, &error),
     }
 }
 
-// The edits of the phases, the edit in the first phase, and what is told.
-const TABLE: &[(&str, &str, &str)] = &[
-    ("", "initial Top/A: 2`7", "runs to 2"),
-    ("", "initial Top/A: empty", "runs to 0"),
-    ("", "guard Top/t: y = x andalso x < 3", "runs to 2"),
+// What is told of these phases and this edit.
+fn told(alloc: Global, phases: &[&[Words]], edit: &Words) -> Result<String, Fail> {
+    let mut text = String::new(alloc);
+    let edit = edit_of(alloc, edit)?;
+    let loaded = loaded_with(alloc, phases_of(alloc, phases)?)?;
+    tell(&mut text, alloc, loaded, &edit)?;
+    Ok(text)
+}
+
+// The edits of each phase, the edit in the first phase, and what is told.
+const TABLE: &[(&[&[Words]], Words, &str)] = &[
+    (&[&[]], Words::Initial("Top/A", "2`7"), "runs to 2"),
+    (&[&[]], Words::Initial("Top/A", "empty"), "runs to 0"),
     (
-        "guard Top/t: y = x andalso x > 2",
-        "initial Top/A: 1`2 ++ 4`3",
+        &[&[]],
+        Words::Guard("Top/t", "y = x andalso x < 3"),
+        "runs to 2",
+    ),
+    (
+        &[&[Words::Guard("Top/t", "y = x andalso x > 2")]],
+        Words::Initial("Top/A", "1`2 ++ 4`3"),
         "runs to 4",
     ),
     (
-        "initial Top/A: 5`3; initial Top/A: 9`3",
-        "guard Top/t: x = y",
+        &[
+            &[Words::Initial("Top/A", "5`3")],
+            &[Words::Initial("Top/A", "9`3")],
+        ],
+        Words::Guard("Top/t", "x = y"),
         "runs to 5",
     ),
     (
-        "guard Top/t: y > 0 andalso y = x",
-        "guard Top/t: y = x",
+        &[&[Words::Guard("Top/t", "y > 0 andalso y = x")]],
+        Words::Guard("Top/t", "y = x"),
         "runs to 3",
     ),
     (
-        "; guard Top/u: true",
-        "initial Top/A: 2`7",
+        &[&[], &[Words::Guard("Top/u", "true")]],
+        Words::Initial("Top/A", "2`7"),
         "unknown name, Phase(1, Edit(0, Whole))",
     ),
-    ("", "guard Top/u: true", "unknown name, Root"),
-    ("", "guard t: true", "unknown name, Root"),
-    ("", "guard Top/t: ", "the text ends too early, Root"),
+    (&[&[]], Words::Guard("Top/u", "true"), "unknown name, Root"),
+    (&[&[]], Words::Guard("t", "true"), "unknown name, Root"),
     (
-        "",
-        "guard Top/t: x > 1 ?",
+        &[&[]],
+        Words::Guard("Top/t", ""),
+        "the text ends too early, Root",
+    ),
+    (
+        &[&[]],
+        Words::Guard("Top/t", "x > 1 ?"),
         "no token begins with the byte at 6, Root",
     ),
-    ("", "guard Top/t: x > 1", "y is not known here, Root"),
     (
-        "",
-        "guard Top/t: y > x",
+        &[&[]],
+        Words::Guard("Top/t", "x > 1"),
+        "y is not known here, Root",
+    ),
+    (
+        &[&[]],
+        Words::Guard("Top/t", "y > x"),
         "the variable y is not bindable, Root",
     ),
-    ("", "initial Top/B: 1`7", "unknown name, Root"),
+    (&[&[]], Words::Initial("Top/B", "1`7"), "unknown name, Root"),
     (
-        "",
-        "initial Top/A: 1`x",
+        &[&[]],
+        Words::Initial("Top/A", "1`x"),
         "the variable x may not stand here, Root",
     ),
-    ("", "initial Top/A: (0 - 1)`7", "BadCoefficient, Root"),
+    (
+        &[&[]],
+        Words::Initial("Top/A", "(0 - 1)`7"),
+        "BadCoefficient, Root",
+    ),
 ];
 
 #[test]
 fn sessions_are_edited_and_run(rt: HostRuntime) -> Result<(), Fail> {
     for (phases, edit, wanted) in TABLE {
-        let given = told(rt.alloc(), phases, edit)?;
-        assert_eq!(rt; given.as_str(), *wanted, "{edit}");
+        assert_eq!(rt; told(rt.alloc(), phases, edit)?.as_str(), *wanted);
     }
     Ok(())
 }

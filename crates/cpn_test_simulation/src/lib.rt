@@ -8,6 +8,8 @@ mod dropped_probes;
 #[cfg(test)]
 mod edited_sessions;
 #[cfg(test)]
+mod runs;
+#[cfg(test)]
 mod shared_books;
 #[cfg(test)]
 mod two_workers;

@@ -1,5 +1,5 @@
 -- The arms of a `case` that are checked already, in front of what the rules say of the rest.
-use Rattle.std.proofs.Common.{◌≡◌, ℕ, suc, ◌+◌, ◌<◌, ◌≤◌, drop_of_length-le, List, [], ◌∷◌, ◌++◌, length, get_or, drop, map, refl, sym, ap, ◌∙◌, add-one, rules, drop-cons, Option, Some}
+use Rattle.std.proofs.Common.{◌≡◌, ℕ, suc, ◌+◌, ◌<◌, ◌≤◌, drop_of_length-le, List, [], ◌∷◌, ◌++◌, length, get_or, drop, map, refl, sym, ap, ◌∙◌, add-one, rules, drop-cons, Option, Some, None}
 use Rattle.cpn_trees.specs.AstViews.{arms_from, arm_view, ast_view}
 use Rattle.cpn_trees.specs.PatViews.{pat_view}
 use Rattle.cpn_core.specs.Inscriptions as core
@@ -17,7 +17,8 @@ use Rattle.cpn_definitions.specs.Inscription.{PlainPattern, PlainExpr, PlainArms
 use Rattle.cpn_definitions.specs.Inscription as inscription
 use Rattle.cpn_definitions.proofs.ListItems.{map_more}
 use Rattle.cpn_typing.specs.Types.{PlainTy}
-use Rattle.cpn_typing.specs.Names.{Declared, Scope, Checked, ok, refused, ◌>>=◌}
+use Rattle.cpn_typing.specs.Names.{Declared, Scope, Checked, Refusal, ok, refused, ◌>>=◌}
+use Rattle.cpn_typing.specs.Answers.{Refuses}
 use Rattle.cpn_typing.specs.Contexts.{Context}
 use Rattle.cpn_typing.specs.PatternRules.{BoundPattern, typed_pattern}
 use Rattle.cpn_typing.specs.Rules.{Typed, Arms}
@@ -50,6 +51,32 @@ arm_step ds context sc inner subject arms i x w xs ys b r all lt e f n g y h =
     let g2 : typed ds context (arm_view x).1 (sc ++ b.locals) w ≡ ok r = ap (λ s. typed ds context (arm_view x).1 s w) (sym n) ∙ g in
     let k = rw (d, f, g2) at h in
     rw (add-one i, y) (arms_in_front xs b.pattern r (typed_arms ds context (arms_from (map arm_view (drop (suc i) arms))) sc subject (Some r.type_of)) ∙ k)
+
+-- an arm whose pattern is refused, and one whose result is
+pub pattern_refused : (q : Option Refusal) (ds : Declared) (context : Context) (sc now : Scope) (subject : PlainTy) (arms : List Arm) (i : ℕ) (x : Arm) (w : Option PlainTy) (xs : List (PlainPattern × PlainExpr)) (all : Checked Arms)
+    → now ≡ sc → i < length arms → x ≡ get_or arms i x → Refuses q (typed_pattern ds (pat_view x.pattern) now subject)
+    → before_arms xs (typed_arms ds context (arms_from (map arm_view (drop i arms))) sc subject w) ≡ all
+    → Refuses q all
+pattern_refused None ds context sc now subject arms i x w xs all n lt e f h = tt
+pattern_refused (Some q) ds context sc now subject arms i x w xs all n lt e f h =
+    let d : drop i arms ≡ x ∷ drop (suc i) arms = drop-cons arms i x lt ∙ ap (λ z. z ∷ drop (suc i) arms) (sym e) in
+    let f2 : typed_pattern ds (arm_view x).0 sc subject ≡ refused q = ap (λ p. typed_pattern ds p.0 sc subject) (view_arm x) ∙ ap (λ s. typed_pattern ds (pat_view x.pattern) s subject) (sym n) ∙ f in
+    let k = rw (d, f2) at h in
+    sym k
+
+pub result_refused : (q : Option Refusal) (ds : Declared) (context : Context) (sc now : Scope) (subject : PlainTy) (arms : List Arm) (i : ℕ) (x : Arm) (v w : Option PlainTy) (xs : List (PlainPattern × PlainExpr)) (b : BoundPattern) (all : Checked Arms)
+    → now ≡ sc → v ≡ w → i < length arms → x ≡ get_or arms i x → typed_pattern ds (pat_view x.pattern) now subject ≡ ok b
+    → Refuses q (typed ds context (ast_view x.result) (now ++ b.locals) v)
+    → before_arms xs (typed_arms ds context (arms_from (map arm_view (drop i arms))) sc subject w) ≡ all
+    → Refuses q all
+result_refused None ds context sc now subject arms i x v w xs b all n u lt e f g h = tt
+result_refused (Some q) ds context sc now subject arms i x v w xs b all n u lt e f g h =
+    let d : drop i arms ≡ x ∷ drop (suc i) arms = drop-cons arms i x lt ∙ ap (λ z. z ∷ drop (suc i) arms) (sym e) in
+    let f2 : typed_pattern ds (arm_view x).0 sc subject ≡ ok b = ap (λ p. typed_pattern ds p.0 sc subject) (view_arm x) ∙ ap (λ s. typed_pattern ds (pat_view x.pattern) s subject) (sym n) ∙ f in
+    let g2 : typed ds context (arm_view x).1 (sc ++ b.locals) w ≡ refused q =
+    ap (λ p. typed ds context p.1 (sc ++ b.locals) w) (view_arm x) ∙ ap (λ s. typed ds context (ast_view x.result) (s ++ b.locals) w) (sym n) ∙ ap (λ t. typed ds context (ast_view x.result) (now ++ b.locals) t) (sym u) ∙ g in
+    let k = rw (d, f2, g2) at h in
+    sym k
 
 arms_all : (xs : List (PlainPattern × PlainExpr)) → arms_before xs no_arms ≡ inscription.arms_from xs
 arms_all [] = refl

@@ -1,15 +1,16 @@
 -- The rules of the operators are those that are taken apart.
-use Rattle.std.proofs.Common.{◌≡◌, ℕ, Bool, true, false, if◌then◌else◌, refl, sym, ◌∙◌, Option, Some, None}
+use Rattle.std.proofs.Common.{◌≡◌, ℕ, Bool, true, false, if◌then◌else◌, refl, sym, ap, subst, ◌∙◌, Option, Some, None}
 use Rattle.cpn_definitions.specs.Inscription.{PlainExpr, Operation, apply, operation, equality, inequality, less_than, at_most, greater_than, at_least, appending, addition, subtraction, multiplication, division, remainder, concatenation}
 use Rattle.cpn_trees.specs.declared.operators.Infix.{Infix}
 use Rattle.cpn_trees.specs.declared.operators.Infix.TheVariants as sign
 use Rattle.cpn_trees.specs.declared.operators.Prefix.{Prefix}
 use Rattle.cpn_trees.specs.declared.operators.Prefix.TheVariants as front
 use Rattle.cpn_typing.specs.Types.{PlainTy, bool_type, int_type, text_type}
-use Rattle.cpn_typing.specs.Names.{Checked, ◌>>=◌}
+use Rattle.cpn_typing.specs.Names.{Checked, Refusal, ok, ◌>>=◌}
+use Rattle.cpn_typing.specs.Answers.{Refuses}
 use Rattle.cpn_typing.specs.Rules.{Typed, Spot, Part, two, meets, infix_rule, prefix_rule, on_two_of, alike, sides, any_type, ordered, a_list, waits, list_wanted}
 use Rattle.cpn_forms.specs.Operators.{TypedSides, turned, side_wanted, side_test, other_wanted, sides_make, right_first as is_right_first, in_turn, from_left, from_right, from_sides, operand_wanted, operand_makes, unless_wanted}
-use Rattle.cpn_types.proofs.CallFronts.{regrouped, alike_behind}
+use Rattle.cpn_types.proofs.CallFronts.{regrouped, alike_behind, refused_behind}
 
 -- two parts of given types
 both_apart : (s t : PlainTy) (o : Operation) (spot : Spot) (a b : Part) → on_two_of t o spot a b ≡ (a.check (Some t) >>= λ x. b.check (Some t) >>= λ y. meets spot.wanted spot.at (apply (operation o) (two x.expr y.expr)) t)
@@ -80,7 +81,16 @@ steps_in_turn false o spot s a b = sym (in_turn_steps o (side_wanted o spot.want
 pub infix_apart : (o : Infix) (spot : Spot) (s : ℕ) (a b : Part) → infix_rule o spot s a b ≡ from_sides o spot s a b
 infix_apart o spot s a b = infix_steps o spot s a b ∙ steps_in_turn (is_right_first o spot.wanted (waits a b)) o spot s a b
 
-pub prefix_apart : (o : Prefix) (spot : Spot) (a : Part) → prefix_rule o spot a ≡ (a.check (operand_wanted o) >>= operand_makes o spot a.at)
+prefix_apart : (o : Prefix) (spot : Spot) (a : Part) → prefix_rule o spot a ≡ (a.check (operand_wanted o) >>= operand_makes o spot a.at)
 prefix_apart front.Not spot a = refl
 prefix_apart front.Negate spot a = refl
 prefix_apart (front.Component k) spot a = refl
+
+-- what is made of the operand, and where it is refused
+pub prefix_makes : (o : Prefix) (spot : Spot) (a : Part) (at : ℕ) (u : Option PlainTy) (x : Typed) → a.at ≡ at → u ≡ operand_wanted o → a.check u ≡ ok x → prefix_rule o spot a ≡ operand_makes o spot at x
+prefix_makes o spot a at u x n v e =
+    prefix_apart o spot a ∙ ap (λ w. a.check w >>= operand_makes o spot a.at) (sym v) ∙ ap (λ c. c >>= operand_makes o spot a.at) e ∙ ap (λ k. operand_makes o spot k x) n
+
+pub prefix_refused : (q : Option Refusal) (o : Prefix) (spot : Spot) (a : Part) (u : Option PlainTy) → u ≡ operand_wanted o → Refuses q (a.check u) → Refuses q (prefix_rule o spot a)
+prefix_refused q o spot a u v h =
+    subst (Refuses q) (sym (prefix_apart o spot a ∙ ap (λ w. a.check w >>= operand_makes o spot a.at) (sym v))) (refused_behind q (a.check u) (operand_makes o spot a.at) h)

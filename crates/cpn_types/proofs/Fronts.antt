@@ -8,7 +8,8 @@ use Rattle.cpn_definitions.proofs.ListItems.{map_more}
 use Rattle.cpn_core.specs.Inscriptions.{expr_view}
 use Rattle.cpn_core.specs.declared.inscriptions.Expr.{Expr}
 use Rattle.cpn_typing.specs.Types.{PlainTy, PlainTys, no_types, more_types, types_from}
-use Rattle.cpn_typing.specs.Names.{Declared, Scope, Checked, ok, refused, ◌>>=◌}
+use Rattle.cpn_typing.specs.Names.{Declared, Scope, Checked, Refusal, ok, refused, ◌>>=◌}
+use Rattle.cpn_typing.specs.Answers.{Refuses}
 use Rattle.cpn_typing.specs.Contexts.{Context}
 use Rattle.cpn_typing.specs.Rules.{Typed, Parts, Items, first_wanted, later_wanted}
 use Rattle.cpn_typing.specs.Expressions.{typed, typed_parts, typed_items}
@@ -107,6 +108,29 @@ items_step ds context sc now xs i x v w es r es2 all n u p lt e f h =
     let typing : typed ds context (ast_view x) sc w ≡ ok (typed_view r) = subst (λ y. typed ds context (ast_view x) sc y ≡ ok (typed_view r)) u (subst (λ s. typed ds context (ast_view x) s v ≡ ok (typed_view r)) n f) in
     let es_are : map expr_view es2 ≡ map expr_view es ++ expr_view r.expr ∷ [] = ap (map expr_view) p ∙ map_more expr_view es r.expr in
     rw es_are (items_more ds context sc xs i x w (map expr_view es) (typed_view r) all lt e typing h)
+
+-- one that is refused
+pub parts_refused : (q : Option Refusal) (ds : Declared) (context : Context) (sc now : Scope) (xs : List Ast) (i j : ℕ) (x : Ast) (ws : List Ty) (w : Option PlainTy) (es : List PlainExpr) (ts : List PlainTy) (all : Checked Parts)
+    → now ≡ sc → w ≡ first_wanted (tys_view (drop j ws)) → i < length xs → x ≡ get_or xs i x → Refuses q (typed ds context (ast_view x) now w)
+    → before_parts es ts (typed_parts ds context (asts_from (map ast_view (drop i xs))) sc (tys_view (drop j ws))) ≡ all
+    → Refuses q all
+parts_refused None ds context sc now xs i j x ws w es ts all n v lt e f h = tt
+parts_refused (Some q) ds context sc now xs i j x ws w es ts all n v lt e f h =
+    let typing : typed ds context (ast_view x) sc (first_wanted (tys_view (drop j ws))) ≡ refused q = subst (λ u. typed ds context (ast_view x) sc u ≡ refused q) v (subst (λ s. typed ds context (ast_view x) s w ≡ refused q) n f) in
+    let d : drop i xs ≡ x ∷ drop (suc i) xs = drop-cons xs i x lt ∙ ap (λ y. y ∷ drop (suc i) xs) (sym e) in
+    let k = rw (d, typing) at h in
+    sym k
+
+pub items_refused : (q : Option Refusal) (ds : Declared) (context : Context) (sc now : Scope) (xs : List Ast) (i : ℕ) (x : Ast) (v w : Option PlainTy) (es : List PlainExpr) (all : Checked Items)
+    → now ≡ sc → v ≡ w → i < length xs → x ≡ get_or xs i x → Refuses q (typed ds context (ast_view x) now v)
+    → before_items es (typed_items ds context (asts_from (map ast_view (drop i xs))) sc w) ≡ all
+    → Refuses q all
+items_refused None ds context sc now xs i x v w es all n u lt e f h = tt
+items_refused (Some q) ds context sc now xs i x v w es all n u lt e f h =
+    let typing : typed ds context (ast_view x) sc w ≡ refused q = subst (λ y. typed ds context (ast_view x) sc y ≡ refused q) u (subst (λ s. typed ds context (ast_view x) s v ≡ refused q) n f) in
+    let d : drop i xs ≡ x ∷ drop (suc i) xs = drop-cons xs i x lt ∙ ap (λ y. y ∷ drop (suc i) xs) (sym e) in
+    let k = rw (d, typing) at h in
+    sym k
 
 -- nothing is left
 exprs_all : (es : List PlainExpr) → exprs_before es no_exprs ≡ exprs_from es

@@ -1,5 +1,5 @@
 -- The values of a `let` that are checked already, around what the rules say of the rest.
-use Rattle.std.proofs.Common.{◌≡◌, ℕ, suc, ◌+◌, ◌<◌, ◌≤◌, List, [], ◌∷◌, ◌++◌, length, get_or, drop, map, refl, sym, ap, ◌∙◌, add-one, length-append, arith, rules, take, Bor, string_bytes, drop-cons, None}
+use Rattle.std.proofs.Common.{◌≡◌, ℕ, suc, ◌+◌, ◌<◌, ◌≤◌, List, [], ◌∷◌, ◌++◌, length, get_or, drop, map, refl, sym, ap, ◌∙◌, add-one, length-append, arith, rules, take, Bor, string_bytes, drop-cons, drop_of_length-le, Option, Some, None}
 use Rattle.std.proofs.lemmas.List.{take-append-le}
 use Rattle.cpn_trees.specs.AstViews.{locals_from, local_view, ast_view}
 use Rattle.cpn_trees.specs.declared.trees.LocalValue.{LocalValue}
@@ -14,7 +14,8 @@ use Rattle.cpn_forms.specs.declared.typed.Typed as program
 use Rattle.cpn_forms.specs.ScopeViews.{scope_view}
 use Rattle.cpn_forms.specs.TypedViews.{typed_view}
 use Rattle.cpn_declared.specs.TypeViews.{ty_view}
-use Rattle.cpn_typing.specs.Names.{Declared, Scope, local_of, Checked, ok, refused, ◌>>=◌}
+use Rattle.cpn_typing.specs.Names.{Declared, Scope, local_of, Checked, Refusal, ok, refused, ◌>>=◌}
+use Rattle.cpn_typing.specs.Answers.{Refuses}
 use Rattle.cpn_typing.specs.Contexts.{Context}
 use Rattle.cpn_typing.specs.Rules.{Typed}
 use Rattle.cpn_typing.specs.Expressions.{typed, typed_let}
@@ -52,6 +53,34 @@ values_step ds context now now2 next values i x es es2 r name body all lt e f y 
     (ap scope_view n ∙ ap (λ l. scope_view (l ++ record { name = name; ty = r.ty } ∷ [])) m ∙ map_more _ now (record { name = name; ty = r.ty })
     ∙ ap (λ p. scope_view now ++ local_of p (ty_view r.ty) ∷ []) (s ∙ ap (λ p. p.0) (sym (view_local x))))
     h
+
+-- a value that is refused
+pub values_refused : (q : Option Refusal) (ds : Declared) (context : Context) (now : Scope) (values : List LocalValue) (i : ℕ) (x : LocalValue) (es : List PlainExpr) (body : Scope → Checked Typed) (all : Checked Typed)
+    → i < length values → x ≡ get_or values i x → Refuses q (typed ds context (ast_view x.value) now None)
+    → around_rest es (typed_let ds context (locals_from (map local_view (drop i values))) now body) ≡ all
+    → Refuses q all
+values_refused None ds context now values i x es body all lt e f h = tt
+values_refused (Some q) ds context now values i x es body all lt e f h =
+    let d : drop i values ≡ x ∷ drop (suc i) values = drop-cons values i x lt ∙ ap (λ z. z ∷ drop (suc i) values) (sym e) in
+    let g : typed ds context (local_view x).1 now None ≡ refused q = ap (λ p. typed ds context p.1 now None) (view_local x) ∙ f in
+    let k = rw (d, g) at h in
+    sym k
+
+-- what follows all values
+body_left : (ds : Declared) (context : Context) (now : Scope) (values : List LocalValue) (i : ℕ) (es : List PlainExpr) (body : Scope → Checked Typed) (all : Checked Typed) → length values ≤ i
+    → around_rest es (typed_let ds context (locals_from (map local_view (drop i values))) now body) ≡ all → around_rest es (body now) ≡ all
+body_left ds context now values i es body all le h =
+    let d : drop i values ≡ [] = drop_of_length-le values le in
+    rw d at h
+
+pub body_refused : (q : Option Refusal) (ds : Declared) (context : Context) (now : Scope) (values : List LocalValue) (i : ℕ) (es : List PlainExpr) (body : Scope → Checked Typed) (all : Checked Typed) → length values ≤ i → Refuses q (body now)
+    → around_rest es (typed_let ds context (locals_from (map local_view (drop i values))) now body) ≡ all → Refuses q all
+body_refused None ds context now values i es body all le f h = tt
+body_refused (Some q) ds context now values i es body all le f h = sym (body_left ds context now values i es body all le h) ∙ ap (around_rest es) f
+
+pub body_typed : (ds : Declared) (context : Context) (now : Scope) (values : List LocalValue) (i : ℕ) (es : List PlainExpr) (r : Typed) (body : Scope → Checked Typed) (all : Checked Typed) → length values ≤ i → body now ≡ ok r
+    → around_rest es (typed_let ds context (locals_from (map local_view (drop i values))) now body) ≡ all → all ≡ ok (record { expr = bind_all es r.expr; type_of = r.type_of })
+body_typed ds context now values i es r body all le f h = sym (body_left ds context now values i es body all le h) ∙ ap (around_rest es) f
 
 pub take_front : {A : Type 0} (n : ℕ) (xs ys zs ws : List A) (x : A) → n ≤ length xs → ys ≡ xs → zs ≡ ys ++ x ∷ [] → take n xs ≡ ws → take n zs ≡ ws
 take_front n xs ys zs ws x le e f h = rw (f, e) (rw take-append-le h)

@@ -198,7 +198,6 @@ impl Surroundings<'_> {
     }
 
     /// An operator in front of its operand.
-    #[tactic(auto, using(crate::proofs::FormRules::prefix_apart))]
     #[cycle(check)]
     fn prefix<'t>(
         &self,

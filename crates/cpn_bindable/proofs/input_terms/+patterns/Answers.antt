@@ -1,8 +1,11 @@
 -- An inscription is read as the pattern that the definition says, form by form.
 use Rattle.std.proofs.Common.{◌∙◌, ap, sym}
 use Rattle.std.specs.Option.{option_map}
+use Rattle.std.proofs.lemmas.Result.{IfOk-weaker}
+use Rattle.cpn_core.specs.declared.inscriptions.Expr.TheViews as exprs
 use Rattle.cpn_definitions.specs.Bindable.{patterns_of}
 use Rattle.cpn_core.specs.Inscriptions.{pattern_view, exprs_view}
+use Rattle.cpn_bindable.proofs.BindingTermForms.{read_applied}
 use Rattle.cpn_bindable.proofs.PatternLists.{front_steps, front_done}
 use Rattle.cpn_bindable.proofs.input_terms.+patterns.Goals as goal
 
@@ -22,4 +25,11 @@ patterns_of-returns t c = record {
       c.deref-part-items.ensures.value
       c.loop-part-test.false
       c.loop-part.invariant;
+}
+
+pub pattern_of-returns-in-Some : goal.pattern_of-returns-in-Some
+pattern_of-returns-in-Some t c = record {
+  exact = IfOk-weaker c.constructor_of.result _ _
+      (λ _ h. h ∙ sym (read_applied c.args.expr.now c.deref.result.now c.in-Con.position c.in-Some.part (c.in-Con.is ∙ ap (exprs.Con c.in-Con.position) c.in-Some.is) c.deref.ensures))
+      c.constructor_of.ensures.exact;
 }

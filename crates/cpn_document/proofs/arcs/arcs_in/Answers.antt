@@ -1,21 +1,23 @@
--- The rules are looked at one group behind the other.
-use Rattle.std.proofs.Common.{rules}
+-- The rules of the list, of its arcs and of their number.
+use Rattle.std.proofs.Common.{refl}
 use Rattle.cpn_document.specs.Document.{arcs_rules}
-use Rattle.cpn_document.proofs.BrokenRules.{broken_append}
+use Rattle.cpn_document.proofs.BrokenRules.{broken_append, is_kept, is_few, is_many}
 use Rattle.cpn_document.proofs.arcs.arcs_in.Goals as goal
 
-pub returns-in_err-list : goal.returns-in_err-list
+pub returns-then-branch : goal.returns-then-branch
 unfolding arcs_rules
-returns-in_err-list c = search (rules, broken_append)
+returns-then-branch c =
+    let front = is_kept _ _ c.list_refusal.ensures.exact c.in_default.is in
+    let arcs = rw c.list_or_empty.ensures.exact at c.in_ok-arcs.ensures.gives.0 in
+    let each = rw c.list_or_empty.ensures.exact at c.in_ok-arcs.ensures.gives.1 in
+    let few = rw (c.as_slice.ensures.value, arcs, c.if-branch.true) at c.in_ok-have_few_arcs.ensures.tells in
+    record { gives = (arcs, simp broken_append (rw (front, each, is_few _ _ few) refl)) }
 
-pub returns-in_err-arcs : goal.returns-in_err-arcs
+pub returns-else-branch : goal.returns-else-branch
 unfolding arcs_rules
-returns-in_err-arcs c = search (rules, broken_append)
-
-pub returns-in_err-check_limit : goal.returns-in_err-check_limit
-unfolding arcs_rules
-returns-in_err-check_limit c = search (rules, broken_append)
-
-pub returns : goal.returns
-unfolding arcs_rules
-returns c = search (rules, broken_append)
+returns-else-branch c =
+    let front = is_kept _ _ c.list_refusal.ensures.exact c.in_default.is in
+    let arcs = rw c.list_or_empty.ensures.exact at c.in_ok-arcs.ensures.gives.0 in
+    let each = rw c.list_or_empty.ensures.exact at c.in_ok-arcs.ensures.gives.1 in
+    let few = rw (c.as_slice.ensures.value, arcs, c.if-branch.false) at c.in_ok-have_few_arcs.ensures.tells in
+    record { gives = simp broken_append (rw (front, each, is_many _ _ few) refl) }

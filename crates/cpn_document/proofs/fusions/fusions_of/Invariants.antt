@@ -3,12 +3,12 @@ use Rattle.std.proofs.Common.{◌≡◌, ◌++◌, drop, map}
 use Rattle.serde_json.specs.View.{view}
 use Rattle.cpn_document.specs.Rules.{first_broken}
 use Rattle.cpn_document.specs.Parts.{each_named}
-use Rattle.cpn_document.specs.Document.{each_fusion, fusion_in, fusion_rules}
+use Rattle.cpn_document.specs.Document.{fusion_in, fusion_rules}
 use Rattle.cpn_document.specs.Views.{fusion_view}
 use Rattle.cpn_document.proofs.fusions.fusions_of.Given as goal
 
 abbrev pub invariant-loop-number : goal.invariant-loop-number
 invariant-loop-number l = record {
   values : map fusion_view l.fusions.items ++ map fusion_in (map view (drop l.number l.list)) ≡ map fusion_in (map view l.list);
-  rest : first_broken (each_named (fusion_rules l.version) l.number l.names (map view (drop l.number l.list))) ≡ first_broken (each_fusion l.version (map view l.list));
+  rest : first_broken (each_named (fusion_rules l.version) l.number l.names (map view (drop l.number l.list))) ≡ first_broken (each_named (fusion_rules l.version) 0 l.fn.names (map view l.list));
 }

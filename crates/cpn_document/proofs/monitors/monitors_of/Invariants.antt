@@ -3,12 +3,12 @@ use Rattle.std.proofs.Common.{◌≡◌, ◌++◌, drop, map}
 use Rattle.serde_json.specs.View.{view}
 use Rattle.cpn_document.specs.Rules.{first_broken}
 use Rattle.cpn_document.specs.Parts.{each_named}
-use Rattle.cpn_document.specs.Monitors.{each_monitor, monitor_in, monitor_rules}
+use Rattle.cpn_document.specs.Monitors.{monitor_in, monitor_rules}
 use Rattle.cpn_document.specs.Views.{monitor_view}
 use Rattle.cpn_document.proofs.monitors.monitors_of.Given as goal
 
 abbrev pub invariant-loop-number : goal.invariant-loop-number
 invariant-loop-number l = record {
   values : map monitor_view l.monitors.items ++ map monitor_in (map view (drop l.number l.list)) ≡ map monitor_in (map view l.list);
-  rest : first_broken (each_named (monitor_rules l.version) l.number l.names (map view (drop l.number l.list))) ≡ first_broken (each_monitor l.version (map view l.list));
+  rest : first_broken (each_named (monitor_rules l.version) l.number l.names (map view (drop l.number l.list))) ≡ first_broken (each_named (monitor_rules l.version) 0 l.fn.names (map view l.list));
 }

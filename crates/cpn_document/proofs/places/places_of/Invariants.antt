@@ -3,12 +3,12 @@ use Rattle.std.proofs.Common.{◌≡◌, ◌++◌, drop, map}
 use Rattle.serde_json.specs.View.{view}
 use Rattle.cpn_document.specs.Rules.{first_broken}
 use Rattle.cpn_document.specs.Parts.{each_named}
-use Rattle.cpn_document.specs.Document.{each_place, place_in, place_rules}
+use Rattle.cpn_document.specs.Document.{place_in, place_rules}
 use Rattle.cpn_document.specs.Views.{place_view}
 use Rattle.cpn_document.proofs.places.places_of.Given as goal
 
 abbrev pub invariant-loop-number : goal.invariant-loop-number
 invariant-loop-number l = record {
   values : map place_view l.places.items ++ map place_in (map view (drop l.number l.list)) ≡ map place_in (map view l.list);
-  rest : first_broken (each_named (place_rules l.version l.in_module) l.number l.names (map view (drop l.number l.list))) ≡ first_broken (each_place l.version l.in_module (map view l.list));
+  rest : first_broken (each_named (place_rules l.version l.in_module) l.number l.names (map view (drop l.number l.list))) ≡ first_broken (each_named (place_rules l.version l.in_module) 0 l.fn.names (map view l.list));
 }

@@ -1,3 +1,0 @@
-mod AcceptedEdits
-mod ChangedTokens
-mod GuardEdits
