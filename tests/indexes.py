@@ -11,6 +11,9 @@
     elements:                       of no net, each of one variable
     STEP STEP .. -> ANSWER ..       what the steps answer
 
+    lines:                          of a script, as they stand
+    LINE -> ANSWER                  what the line answers
+
     thousands of tokens: NAME       in that net
     NUMBER                          2,000 numbers, each so much above the one before it: see `tokens_by`
 
@@ -34,7 +37,7 @@ import re
 import subprocess
 import tempfile
 
-BLOCK = re.compile(r"(net|changes|searches|elements|thousands of tokens|thousands of elements):(?: (\w+))?$")
+BLOCK = re.compile(r"(net|changes|searches|elements|lines|thousands of tokens|thousands of elements):(?: (\w+))?$")
 TOKENS = 2000
 ELEMENTS = 5000
 SECONDS = 120
@@ -115,6 +118,11 @@ def element_command(step):
     return f"due {'put' if step[0] == '+' else 'take'} {step[1:].replace('.', ' ').replace('@', ' ')}"
 
 
+def lines(line):
+    asked, _, wanted = line.partition(" -> ")
+    return [asked], "\n".join, wanted
+
+
 def tokens_by(line):
     """The 1 is taken from place 0. Then the numbers below TOKENS are put on it, each so much above the one before it, round and round, and the even
     ones on place 1 too. At last those of the lower half are taken from place 0, the greatest first."""
@@ -151,6 +159,7 @@ KINDS = {
     "changes": changes,
     "searches": searches,
     "elements": elements,
+    "lines": lines,
     "thousands of tokens": tokens_by,
     "thousands of elements": elements_by,
 }
