@@ -29,7 +29,7 @@ ANSWER  of a clock [1.5@3n1 of 2 from 3]: the elements that are due, each with t
         all, or `back` where it would go back; of an element that is taken out (1.5@3n1 ), or (none); of one that is put in `there`, if it is so already
 
 An index that is built of the net and the marking has to be told in the same words after each step: else it stands behind ` built as `. The program
-cpn_test_schedules makes the commands of a script; a line that begins with # is a comment.
+cpn_test_program makes the commands of a script; a line that begins with # is a comment.
 """
 import collections
 import itertools

@@ -1,4 +1,4 @@
-"""Schedules of calls on a run of several seats, as the program for tests cpn_test_schedules plays them, and those of tests/schedules.txt, which were worked out.
+"""Schedules of calls on a run of several seats, as the program for tests cpn_test_program plays them, and those of tests/schedules.txt, which were worked out.
 
     schedule: NAME | OPTIONS | NET
     CALL | ANSWER | CLOCK | READY | NEXT | UNCLAIMED | SETTLED

@@ -13,7 +13,7 @@ ANSWERS answers with `; ` between them, each of which has to be right:
         then @TIME ..   the least times of the enabled elements from the time 3 on
 
 All documents have the declarations below. A line that begins with # is a comment. <1..3: a#> stands for a1a2a3. The program
-cpn_test_schedules is asked to `search 3`, and prints what it finds as the answer of the call.
+cpn_test_program is asked to `search 3`, and prints what it finds as the answer of the call.
 """
 import json
 import re

@@ -20,8 +20,8 @@ KIND    tokens                  each token with its place; `no token` where ther
         outcome of a KIND       `read`, `too deep`, or `wrong` where a token does not fit
         value over DECLARATIONS `accepted` as what a monitor measures, or why it is not, where this is declared
 
-A blank line, and one that begins with # and has no arrow, are none. The program cpn_test_texts reads a text and prints its tokens, or
-its tree as JSON: [AT, FORM, .., PART, ..], where AT is the place of the first token, and the parts are such lists.
+A blank line, and one that begins with # and has no arrow, are none. The program cpn_test_program reads a text, as `text KIND`, and prints its
+tokens, or its tree as JSON: [AT, FORM, .., PART, ..], where AT is the place of the first token, and the parts are such lists.
 """
 import collections
 import json
@@ -62,9 +62,9 @@ class Row(collections.namedtuple("Row", "place line kind text wanted")):
     def words(self):
         """Returns the words on the command line of the program."""
         if self.kind.startswith(OVER):
-            return ["value", *re.findall(r"[^\s;][^;]*;", self.kind.removeprefix(OVER))]
+            return ["text", "value", *re.findall(r"[^\s;][^;]*;", self.kind.removeprefix(OVER))]
         kind = OUTCOME.sub("", self.kind)
-        return [WORDS.get(kind, kind)]
+        return ["text", WORDS.get(kind, kind)]
 
     def bytes(self):
         """Returns the bytes of the text."""

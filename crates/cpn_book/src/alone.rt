@@ -10,9 +10,10 @@ ghost use Rattle.cpn_runs.specs.GivingBack.{IsCutForMemory};
 ghost use Rattle.cpn_runs.specs.Playable.{IsPlayable};
 ghost use Rattle.cpn_runs.specs.Run.{IsRun};
 ghost use Rattle.cpn_runs.specs.State.{PlainEvent, wants_memory};
+ghost use Rattle.cpn_runs.specs.Views.{end_view};
 ghost use Rattle.cpn_runs.specs.FinishedViews.{setup_view, finished_view};
 ghost use Rattle.cpn_book.specs.Bounds.{EndsInBounds};
-ghost use Rattle.cpn_book.specs.Books.{setup_in, journal_in, index_in, is_spent_in, InState, IsBook, IsRunning};
+ghost use Rattle.cpn_book.specs.Books.{setup_in, journal_in, index_in, is_spent_in, shown, InState, IsBook, IsRunning};
 ghost use Rattle.cpn_book.specs.Standings.{IsAt, StillCommitted, events_in};
 ghost use Rattle.cpn_book.specs.GoingAlone.{AreCompletions, AreRounds, GivesNoneBack, GoesOnAloneTo};
 ghost use Rattle.cpn_book.specs.Telling.{TellsOn};
@@ -26,7 +27,7 @@ use crate::occurring::play_drawn;
 use crate::standings::Standing;
 use crate::tickets::Ticket;
 use cpn_core::Memory;
-use cpn_runs::{Finished, Setup};
+use cpn_runs::{End, Finished, Setup};
 use cpn_tmset::Changes;
 use std::alloc::Global;
 
@@ -55,19 +56,31 @@ impl Book {
         // most as many more than the start as the occurrences make.
         ensures bounds { IfOk result (λ f. EndsInBounds (setup_in self) (finished_view f)) }
     {
+        let mut book = self;
+        let cause = book.play_to_end()?;
+        Ok(book.ended(cause))
+    }
+
+    // Completes the open claims, then plays rounds to the end: the cause for which the run ends.
+    fn play_to_end(&mut self) -> Result<End, Memory>
+        requires kept { IsBook self.old }
+        ensures unspent { OnOk result (is_spent_in self.old ≡ false) }
+        ensures setup { OnOk result (setup_in self.new ≡ setup_in self.old) }
+        ensures end { IfOk result (λ cause. IsRun (setup_in self.new) (shown self.new (end_view cause))) }
+        ensures goes_on { OnOk result (GoesOnAloneTo (setup_in self.old) (journal_in self.old) (journal_in self.new)) }
+    {
         if self.spent {
             return Err(Memory);
         }
-        let mut book = self;
-        book.complete_open()?;
-        for _number in book.standing.log.len()..book.setup.limits.steps {
-            if let Some(cause) = book.take_end() {
-                return Ok(book.ended(cause));
+        self.complete_open()?;
+        for _number in self.standing.log.len()..self.setup.limits.steps {
+            if let Some(cause) = self.take_end() {
+                return Ok(cause);
             }
-            book.play_round()?;
+            self.play_round()?;
         }
-        match book.take_end() {
-            Some(cause) => Ok(book.ended(cause)),
+        match self.take_end() {
+            Some(cause) => Ok(cause),
             None => unreachable!(),
         }
     }

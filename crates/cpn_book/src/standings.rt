@@ -74,11 +74,7 @@ pub(crate) fn at_start(alloc: Global, setup: &Setup) -> Result<Standing, Memory>
 fn none_held(alloc: Global, seats: u32) -> Result<Vec<Option<u64>>, Memory>
     ensures none { IfOk result (λ held. held.items ≡ replicate seats None) }
 {
-    let mut held = Vec::with_capacity(alloc, seats as usize)?;
-    for _seat in 0..seats {
-        held.push(None)?;
-    }
-    Ok(held)
+    Ok(vec![in alloc; None; seats as usize]?)
 }
 
 impl Standing {
@@ -132,11 +128,13 @@ impl Standing {
     pub(crate) fn open_job(&self, number: u64) -> Option<&Arc<Job>>
         ensures job { MatchOption result (slice_get (standings (log_view self.now.log)) number ≡ Some stands_open → ⊥) (λ job. (slice_get (standings (log_view self.now.log)) number ≡ Some stands_open) × (job_in self.now.log number ≡ Some job.now.value)) }
     {
-        if number < self.log.len() && self.log.state(number) == ClaimState::Open {
-            Some(self.log.job(number))
-        } else {
-            None
+        if self.log.len() <= number {
+            return None;
         }
+        let ClaimState::Open = self.log.state(number) else {
+            return None;
+        };
+        Some(self.log.job(number))
     }
 
     /// One owner more of the job of the open claim of a number, if there is one.

@@ -2,15 +2,16 @@
 
 ghost use Rattle.std.specs.Prelude.{◌≡◌, ℕ, ◌<◌, List, [], map, length, slice_index_or, IfOk};
 ghost use Rattle.std.specs.Option.{unwrap_or};
-ghost use Rattle.std.specs.Str.{bytes_eq};
-ghost use Rattle.indexmap.specs.IndexMap.{get_by};
+ghost use Rattle.std.specs.BTreeMap.{get_by};
+ghost use Rattle.std.specs.Cmp.Lexicographic.{slice_cmp};
+ghost use Rattle.std.specs.Ordering.{nat_cmp};
 ghost use Rattle.cpn_document.specs.Document.{arcs_on, arcs_at, have_few_arcs};
 ghost use Rattle.cpn_document.specs.Views.{arc_view};
 
 use crate::document::{Arc, Way};
 use crate::names::Names;
-use indexmap::IndexMap;
 use std::alloc::{AllocError, Global};
+use std::collections::BTreeMap;
 
 /// The most arcs of one transition.
 const MOST_ARCS: u64 = 64;
@@ -27,10 +28,10 @@ fn arcs_on(way: Way) -> u64
 }
 
 /// How many of the arcs are at the transition of each name.
-fn arc_counts<'a>(alloc: Global, arcs: &'a [Arc]) -> Result<IndexMap<&'a str, u64>, AllocError>
-    ensures counts { IfOk result (λ counts. (name : List ℕ) → unwrap_or (get_by (λ k. bytes_eq name k.now) counts) 0 ≡ arcs_at name (map arc_view arcs.now)) }
+fn arc_counts<'a>(alloc: Global, arcs: &'a [Arc]) -> Result<BTreeMap<&'a str, u64>, AllocError>
+    ensures counts { IfOk result (λ counts. (name : List ℕ) → unwrap_or (get_by (λ k. slice_cmp nat_cmp name k.now) counts) 0 ≡ arcs_at name (map arc_view arcs.now)) }
 {
-    let mut counts = IndexMap::new(alloc);
+    let mut counts = BTreeMap::new(alloc);
     for arc in arcs {
         let name = arc.transition.as_str();
         let count = counts.get(name).copied().unwrap_or(0);

@@ -17,7 +17,7 @@ use serde_json::Value;
 use std::alloc::{AllocError, Global};
 
 /// The form of an edit: what its kind lets it have.
-#[derive(Clone, Copy, Debug)]
+#[derive(Clone, Copy)]
 pub(crate) enum EditForm {
     /// It changes a guard.
     Guard,

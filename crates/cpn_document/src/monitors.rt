@@ -30,7 +30,7 @@ const MOST_OCCURRENCES: u64 = 1_000_000;
 const MOST_TOKENS: u64 = 1 << 62;
 
 /// The form of a monitor: what its kind lets it have.
-#[derive(Clone, Copy, Debug)]
+#[derive(Clone, Copy)]
 pub(crate) enum MonitorForm {
     /// It counts the occurrences of a transition.
     Count,

@@ -9,24 +9,27 @@ ghost use Rattle.cpn_document.specs.Answers.{Gives};
 use crate::parts::{keys_refusal, name_refusal, text_or_empty};
 use crate::pointers::Pointer;
 use crate::refusals::DocError;
-use indexmap::IndexSet;
 use serde_json::Value;
 use std::alloc::{AllocError, Global};
+use std::collections::BTreeSet;
 use std::marker::Model;
 
 /// Names in order, none of them twice.
 #[derive(Drop)]
 pub(crate) struct Names<'n> {
-    set: IndexSet<&'n str>,
+    names: Vec<&'n str>,
+    set: BTreeSet<&'n str>,
 }
 
 impl<'n> Model for Names<'n> {
     ghost use Rattle.std.specs.Prelude.{ℕ, List};
-    ghost use Rattle.cpn_document.specs.Names.{texts_of as bytes_of};
+    ghost use Rattle.cpn_document.specs.Names.{texts_of as bytes_of, HasNames};
 
     ghost Value = { List (List ℕ) };
 
-    ghost view = { λ names. bytes_of names.set.keys };
+    ghost view = { λ names. bytes_of names.names.items };
+
+    ghost invariant = { λ names. HasNames (bytes_of names.names.items) names.set };
 }
 
 impl<'n> Names<'n> {
@@ -35,7 +38,8 @@ impl<'n> Names<'n> {
         ensures empty { result ≡ [] }
     {
         Names {
-            set: IndexSet::new(alloc),
+            names: Vec::new(alloc),
+            set: BTreeSet::new(alloc),
         }
     }
 
@@ -43,7 +47,7 @@ impl<'n> Names<'n> {
     pub(crate) fn len(&self) -> usize
         ensures number { result ≡ length self.now }
     {
-        self.set.len()
+        self.names.len()
     }
 
     /// The name of a number.
@@ -51,10 +55,7 @@ impl<'n> Names<'n> {
         requires in_range { number < length self.now }
         ensures name { result.now ≡ slice_index_or self.now number [] }
     {
-        match self.set.get_index(number) {
-            Some(name) => name,
-            None => unreachable!(),
-        }
+        self.names[number]
     }
 
     /// Adds a name at the end, unless it is there already. Answers whether it was added.
@@ -63,8 +64,18 @@ impl<'n> Names<'n> {
         ensures names { IfOk result (λ added. self.new ≡ (if added then self.old ++ name.now ∷ [] else self.old)) }
         ensures unchanged { OnErr result (self.new ≡ self.old) }
     {
-        let (_, added) = self.set.insert_full(name)?;
-        Ok(added)
+        self.names.push(name)?;
+        match self.set.insert(name) {
+            Ok(true) => Ok(true),
+            Ok(false) => {
+                self.names.pop();
+                Ok(false)
+            }
+            Err(_) => {
+                self.names.pop();
+                Err(AllocError)
+            }
+        }
     }
 }
 

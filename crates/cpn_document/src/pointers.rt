@@ -3,7 +3,7 @@
 /// A JSON pointer to a part of a document. The items of its lists are numbered from 0.
 ///
 /// Source: own choice; JSON pointers are those of RFC 6901.
-#[derive(Clone, Copy, Debug, PartialEq, Eq)]
+#[derive(Clone, Copy, Debug)]
 pub enum Pointer {
     /// The whole document.
     Root,
@@ -34,7 +34,7 @@ pub enum Pointer {
 }
 
 /// A part of a module.
-#[derive(Clone, Copy, Debug, PartialEq, Eq)]
+#[derive(Clone, Copy, Debug)]
 pub enum ModulePart {
     /// The module itself.
     Whole,
@@ -59,7 +59,7 @@ pub enum ModulePart {
 }
 
 /// A part of a place.
-#[derive(Clone, Copy, Debug, PartialEq, Eq)]
+#[derive(Clone, Copy, Debug)]
 pub enum PlacePart {
     /// The place itself.
     Whole,
@@ -74,7 +74,7 @@ pub enum PlacePart {
 }
 
 /// A part of a transition.
-#[derive(Clone, Copy, Debug, PartialEq, Eq)]
+#[derive(Clone, Copy, Debug)]
 pub enum TransitionPart {
     /// The transition itself.
     Whole,
@@ -87,7 +87,7 @@ pub enum TransitionPart {
 }
 
 /// A part of an arc.
-#[derive(Clone, Copy, Debug, PartialEq, Eq)]
+#[derive(Clone, Copy, Debug)]
 pub enum ArcPart {
     /// The arc itself.
     Whole,
@@ -102,7 +102,7 @@ pub enum ArcPart {
 }
 
 /// A part of a substitution transition.
-#[derive(Clone, Copy, Debug, PartialEq, Eq)]
+#[derive(Clone, Copy, Debug)]
 pub enum SubPart {
     /// The substitution transition itself.
     Whole,
@@ -117,7 +117,7 @@ pub enum SubPart {
 }
 
 /// A part of the assignment of a port to a socket.
-#[derive(Clone, Copy, Debug, PartialEq, Eq)]
+#[derive(Clone, Copy, Debug)]
 pub enum AssignmentPart {
     /// The assignment itself.
     Whole,
@@ -128,7 +128,7 @@ pub enum AssignmentPart {
 }
 
 /// A part of a fusion set.
-#[derive(Clone, Copy, Debug, PartialEq, Eq)]
+#[derive(Clone, Copy, Debug)]
 pub enum FusionPart {
     /// The fusion set itself.
     Whole,
@@ -141,7 +141,7 @@ pub enum FusionPart {
 }
 
 /// A part of a member of a fusion set.
-#[derive(Clone, Copy, Debug, PartialEq, Eq)]
+#[derive(Clone, Copy, Debug)]
 pub enum MemberPart {
     /// The member itself.
     Whole,
@@ -152,7 +152,7 @@ pub enum MemberPart {
 }
 
 /// A part of a monitor.
-#[derive(Clone, Copy, Debug, PartialEq, Eq)]
+#[derive(Clone, Copy, Debug)]
 pub enum MonitorPart {
     /// The monitor itself.
     Whole,
@@ -173,7 +173,7 @@ pub enum MonitorPart {
 }
 
 /// A part of a phase.
-#[derive(Clone, Copy, Debug, PartialEq, Eq)]
+#[derive(Clone, Copy, Debug)]
 pub enum PhasePart {
     /// The phase itself.
     Whole,
@@ -186,7 +186,7 @@ pub enum PhasePart {
 }
 
 /// A part of an edit.
-#[derive(Clone, Copy, Debug, PartialEq, Eq)]
+#[derive(Clone, Copy, Debug)]
 pub enum EditPart {
     /// The edit itself.
     Whole,

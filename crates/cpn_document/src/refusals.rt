@@ -22,7 +22,7 @@ pub enum Limit {
 }
 
 /// What a part of a document is refused for, by calls that take no memory.
-#[derive(Clone, Copy, Debug)]
+#[derive(Clone, Copy)]
 pub(crate) enum Refused {
     /// Something has the wrong shape.
     Shape(Pointer),

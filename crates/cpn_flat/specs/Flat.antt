@@ -28,6 +28,10 @@ pub record PlainLoaded : Type 0 where
   pub monitors : List RawMonitor
   pub phases : List RawPhase
 
+-- what is loaded of a document and of what is accepted of it, with this flat net and this initial marking
+abbrev pub loaded_with : RawDocument → PlainAccepted → PlainNet → Marking → PlainLoaded
+loaded_with d accepted net initial = record { net = net; initial = initial; declared = accepted.declared; monitors = d.monitors; phases = d.phases }
+
 -- what there are too many of
 abbrev pub too_many : UnfoldingRefusal → FlatRefusal
 too_many unfolds.instances = instances

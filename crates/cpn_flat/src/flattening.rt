@@ -13,7 +13,7 @@ ghost use Rattle.cpn_module.specs.Views.{hierarchy_view};
 ghost use Rattle.cpn_accepted.specs.Nets.{PlainAccepted, net_from, IsWellAccepted};
 ghost use Rattle.cpn_accepted.specs.Views.{module_net_view, accepted_view};
 ghost use Rattle.cpn_readings.specs.Relations.{HasOne};
-ghost use Rattle.cpn_flat.specs.Flat.{flat_in, all_written};
+ghost use Rattle.cpn_flat.specs.Flat.{loaded_with, flat_in, all_written};
 ghost use Rattle.cpn_flat.specs.FlatNet.{all_places as place_instances};
 ghost use Rattle.cpn_flat.specs.InitialMarking.{all_initials as initials_in, AreAllMeant, started};
 ghost use Rattle.cpn_flat.specs.Items.{HaveItems};
@@ -54,6 +54,15 @@ pub struct Loaded {
     pub monitors: Vec<Monitor>,
     /// The phases, in their order.
     pub phases: Vec<Phase>,
+}
+
+/// A flat net, and its initial marking.
+#[derive(Drop)]
+struct NetAtStart {
+    /// The net.
+    net: Net,
+    /// The tokens of each of its places at the start.
+    initial: Marking,
 }
 
 /// The places and the transitions of a flat net.
@@ -143,6 +152,42 @@ fn initial_of(
     marking_of(alloc, net, written.as_slice())
 }
 
+/// The flat net of what is accepted of a document, with its initial marking; or the first refusal.
+fn start_of(
+    alloc: Global,
+    document: &Document,
+    accepted: &Accepted,
+) -> Result<NetAtStart, FlatError>
+    requires well { IsWellAccepted (accepted_view accepted.now) }
+    requires few_variables { length (decls_view accepted.now.decls).variables < 2 ^ 32 }
+    requires hierarchy { hierarchy_view accepted.now.hierarchy ≡ hierarchy_in (document_view document.now) }
+    ensures reads { GivesBy (λ start. loaded_with (document_view document.now) (accepted_view accepted.now) (net_view start.net) start.initial) result
+        (flat_in (document_view document.now) (accepted_view accepted.now)) }
+    ensures one { HasOne (flat_in (document_view document.now) (accepted_view accepted.now)) }
+    ensures well_loaded { IfOk result (λ start. IsWellLoaded (loaded_with (document_view document.now) (accepted_view accepted.now) (net_view start.net) start.initial)) }
+{
+    let unfolded = unfold(alloc, &accepted.hierarchy)?;
+    let classes = compound(alloc, &accepted.hierarchy, &unfolded)?;
+    let parts = parts_of(
+        alloc,
+        document,
+        &accepted.hierarchy,
+        accepted.modules.as_slice(),
+        &unfolded,
+        &classes,
+    )?;
+    let net = net_of(alloc, &accepted.decls, parts)?;
+    let instances = unfolded.instances.as_slice();
+    let initial = initial_of(
+        alloc,
+        &net,
+        accepted.modules.as_slice(),
+        instances,
+        &classes,
+    )?;
+    Ok(NetAtStart { net, initial })
+}
+
 /// Makes the flat net of what is accepted of a document, and its initial marking.
 ///
 /// # Errors
@@ -162,28 +207,11 @@ pub fn flatten(alloc: Global, document: Document, accepted: Accepted) -> Result<
     // The net is sound, and its initial marking is one of its places.
     ensures well_loaded { IfOk result (λ loaded. IsWellLoaded (loaded_view loaded)) }
 {
-    let Accepted {
-        decls,
-        hierarchy,
-        modules,
-    } = accepted;
-    let unfolded = unfold(alloc, &hierarchy)?;
-    let classes = compound(alloc, &hierarchy, &unfolded)?;
-    let parts = parts_of(
-        alloc,
-        &document,
-        &hierarchy,
-        modules.as_slice(),
-        &unfolded,
-        &classes,
-    )?;
-    let net = net_of(alloc, &decls, parts)?;
-    let instances = unfolded.instances.as_slice();
-    let initial = initial_of(alloc, &net, modules.as_slice(), instances, &classes)?;
+    let start = start_of(alloc, &document, &accepted)?;
     Ok(Loaded {
-        net,
-        initial,
-        decls,
+        net: start.net,
+        initial: start.initial,
+        decls: accepted.decls,
         monitors: document.monitors,
         phases: document.phases,
     })

@@ -7,6 +7,7 @@ pub mod NumberedHierarchy
 mod FoundPlaces
 mod NumberedPlaces
 mod CheckedItems
+mod MappedLists
 mod NumberLists
 mod PartsOfModules
 mod ColourRules
@@ -14,6 +15,7 @@ mod OneRule
 mod FusionRules
 mod PortRules
 mod PairSets
+mod NumbersInSets
 mod SocketRules
 mod OneHierarchy
 mod Rows

@@ -1,16 +1,19 @@
 -- Names one behind the other: the number of a name among them.
-use Rattle.std.proofs.Common.{◌≡◌, ℕ, suc, ◌+◌, ◌<◌, Bool, true, false, ◌||◌, cond, if◌then◌else◌, nat_lt, List, [], ◌∷◌, ◌++◌, length, take, get_or, map, refl, sym, ap, subst, ◌∙◌, arith}
-use Rattle.std.specs.Prelude.{Option, Some, None, option_map, is_some}
+use Rattle.std.proofs.Common.{◌≡◌, ℕ, suc, ◌+◌, ◌<◌, ◌≤◌, Bool, true, false, ◌||◌, cond, if◌then◌else◌, nat_lt, List, [], ◌∷◌, ◌++◌, length, take, get_or, map, refl, sym, ap, subst, ◌∙◌, arith}
+use Rattle.std.specs.Prelude.{Option, Some, None, option_map, is_some, Result, IfOk}
 use Rattle.std.specs.Option.{option_or, unwrap_or}
 use Rattle.std.specs.Borrow.{Bor}
+use Rattle.std.specs.BTreeMap.{BTreeMap, get_by, Updates}
+use Rattle.std.specs.Cmp.Lexicographic.{slice_cmp}
+use Rattle.std.specs.Ordering.{nat_cmp}
 use Rattle.std.specs.Str.{bytes_eq}
 use Rattle.std.proofs.lemmas.Bool.{lt-ltb, le-ltb, ltb-true}
 use Rattle.std.proofs.lemmas.Bool.Decides.{nat_tests}
 use Rattle.std.proofs.lemmas.Cmp.{nat_list_eq_equiv}
-use Rattle.std.proofs.lemmas.List.{take_more, map-append, length-map, length-take-le}
-use Rattle.std.proofs.lemmas.Map.Text.{hash_map_updates_str}
+use Rattle.std.proofs.lemmas.List.{take_all, take_more, map-append, length-map, length-take-le}
+use Rattle.std.proofs.lemmas.Map.Text.{btree_map_updates_str}
+use Rattle.std.proofs.lemmas.Result.{IfOk-weaker}
 use Rattle.std.proofs.lemmas.Slice.Eq.{bytes_eq-Decides}
-use Rattle.indexmap.specs.IndexMap.{IndexMap, get_by, Updates}
 use Rattle.cpn_document.specs.Parts.{is_one_of}
 use Rattle.cpn_module.specs.Named.{position, node_among}
 use Rattle.cpn_module.specs.Names.{texts_of, number_of, Numbers}
@@ -103,10 +106,10 @@ as_before None = refl
 as_before (Some k) = refl
 
 -- a map that has the number of the next name too
-module _ {S : Type 0} (names : List (Bor (List ℕ))) (i : ℕ) (d : Bor (List ℕ)) (lt : i < length names) (old new : IndexMap (Bor (List ℕ)) ℕ S) (first : ℕ) where
-  pub numbers_more : Numbers (texts_of (take i names)) old → first ≡ unwrap_or (get_by (λ k. bytes_eq (get_or names i d).now k.now) old) i → Updates (λ x y. bytes_eq x.now y.now) old new (get_or names i d) (Some first) → Numbers (texts_of (take (i + 1) names)) new
+module _ (names : List (Bor (List ℕ))) (i : ℕ) (d : Bor (List ℕ)) (lt : i < length names) (old new : BTreeMap (Bor (List ℕ)) ℕ) (first : ℕ) where
+  pub numbers_more : Numbers (texts_of (take i names)) old → first ≡ unwrap_or (get_by (λ k. slice_cmp nat_cmp (get_or names i d).now k.now) old) i → Updates (λ x y. slice_cmp nat_cmp x.now y.now) old new (get_or names i d) (Some first) → Numbers (texts_of (take (i + 1) names)) new
   numbers_more known is_first updates q =
-      hash_map_updates_str name old new (Some first) updates q ∙ rw (known q, fronts, number_more q name (texts_of (take i names)), long, nat_list_eq_equiv.symm q name) (by (bytes_eq name q) same)
+      btree_map_updates_str name old new (Some first) updates q ∙ rw (known q, fronts, number_more q name (texts_of (take i names)), long, nat_list_eq_equiv.symm q name) (by (bytes_eq name q) same)
     where
       name : List ℕ
       name = (get_or names i d).now
@@ -129,6 +132,10 @@ pub names_more : {X Y : Type 0} (name : Y → List ℕ) (view : X → Y) (xs : L
 names_more name view xs i d lt names next is h =
     rw (take_more xs i d lt, map-append view (take i xs) (get_or xs i d ∷ []), map-append name (map view (take i xs)) (view (get_or xs i d) ∷ []), map-append (λ (k : Bor (List ℕ)). k.now) names (next ∷ []), h, is) refl
 
+-- where the names of all things were taken, they are those of the things
+pub names_all : {X Y E : Type 0} (name : Y → List ℕ) (view : X → Y) (xs : List X) (i : ℕ) → length xs ≤ i → (names : List (Bor (List ℕ))) → texts_of names ≡ map name (map view (take i xs)) → (result : Result (List (List ℕ)) E) → IfOk result (λ numbered. numbered ≡ texts_of names) → IfOk result (λ numbered. numbered ≡ map name (map view xs))
+names_all name view xs i le names h result made = IfOk-weaker result _ _ (λ numbered is. is ∙ h ∙ ap (λ ys. map name (map view ys)) (take_all i xs le)) made
+
 -- the number that a map has
-pub number_found : {S : Type 0} (name : List ℕ) (names : List (Bor (List ℕ))) (numbers : IndexMap (Bor (List ℕ)) ℕ S) (number : Option ℕ) → Numbers (texts_of names) numbers → number ≡ get_by (λ k. bytes_eq name k.now) numbers → number ≡ number_of name (texts_of names)
+pub number_found : (name : List ℕ) (names : List (Bor (List ℕ))) (numbers : BTreeMap (Bor (List ℕ)) ℕ) (number : Option ℕ) → Numbers (texts_of names) numbers → number ≡ get_by (λ k. slice_cmp nat_cmp name k.now) numbers → number ≡ number_of name (texts_of names)
 number_found name names numbers number known h = h ∙ known name

@@ -5,8 +5,7 @@ use Rattle.std.proofs.lemmas.List.{length-append, get_or_append_left, get_or_def
 use Rattle.std.proofs.lemmas.Bool.Decides.{eqb_tells}
 use Rattle.std.proofs.lemmas.List.Folds.{list_any-append, list_any_at, Any-from_list_any}
 use Rattle.std.proofs.Math.Bool.{or-true}
-use Rattle.indexmap.specs.IndexSet.{insert_key, insert_all}
-use Rattle.cpn_module.specs.Submodules.{is_among, each_once}
+use Rattle.cpn_module.specs.Submodules.{is_among, with_number, with_numbers, each_once}
 
 or_false : (b : Bool) → (b || false) ≡ b
 or_false true = refl
@@ -17,8 +16,8 @@ or_or true b c = refl
 or_or false b c = refl
 
 -- one more number
-pub among-insert_key : (q : ℕ) (xs : List ℕ) (y : ℕ) → is_among q (insert_key nat_eq xs y) ≡ (is_among q xs || nat_eq q y)
-among-insert_key q xs y = by (is_among y xs) refl
+pub among-with_number : (q : ℕ) (xs : List ℕ) (y : ℕ) → is_among q (with_number xs y) ≡ (is_among q xs || nat_eq q y)
+among-with_number q xs y = by (is_among y xs) refl
   where
     old : is_among y xs ≡ true → is_among q xs ≡ (is_among q xs || nat_eq q y)
     old there = ⊎_elim
@@ -31,12 +30,12 @@ among-insert_key q xs y = by (is_among y xs) refl
     by false new = list_any-append (nat_eq q) xs (y ∷ []) ∙ ap (λ (b : Bool). is_among q xs || b) (or_false (nat_eq q y))
 
 -- more numbers
-pub among-insert_all : (q : ℕ) (xs ys : List ℕ) → is_among q (insert_all nat_eq xs ys) ≡ (is_among q xs || is_among q ys)
-among-insert_all q xs [] = sym (or_false (is_among q xs))
-among-insert_all q xs (y ∷ ys) = among-insert_all q (insert_key nat_eq xs y) ys ∙ (rw (among-insert_key q xs y) (or_or (is_among q xs) (nat_eq q y) (is_among q ys)))
+pub among-with_numbers : (q : ℕ) (xs ys : List ℕ) → is_among q (with_numbers xs ys) ≡ (is_among q xs || is_among q ys)
+among-with_numbers q xs [] = sym (or_false (is_among q xs))
+among-with_numbers q xs (y ∷ ys) = among-with_numbers q (with_number xs y) ys ∙ (rw (among-with_number q xs y) (or_or (is_among q xs) (nat_eq q y) (is_among q ys)))
 
 pub among-each_once : (q : ℕ) (ys : List ℕ) → is_among q (each_once ys) ≡ is_among q ys
-among-each_once q ys = among-insert_all q [] ys
+among-each_once q ys = among-with_numbers q [] ys
 
 -- the numbers so far stay where they are
 pub record Grows (xs ys : List ℕ) : Type 0 where
@@ -49,16 +48,16 @@ stays xs = record { longer = omega arith; same = λ j lt. refl }
 after : (xs ys zs : List ℕ) → Grows xs ys → Grows ys zs → Grows xs zs
 after xs ys zs f g = record { longer = omega (arith, f.longer, g.longer); same = λ j lt. g.same j (omega (arith, f.longer)) ∙ f.same j lt }
 
-Grows-insert_key : (xs : List ℕ) (y : ℕ) → Grows xs (insert_key nat_eq xs y)
-Grows-insert_key xs y = by (is_among y xs)
+Grows-with_number : (xs : List ℕ) (y : ℕ) → Grows xs (with_number xs y)
+Grows-with_number xs y = by (is_among y xs)
   where
     by : (b : Bool) → Grows xs (cond b xs (xs ++ y ∷ []))
     by true = stays xs
     by false = record { longer = omega (arith, length-append xs (y ∷ [])); same = λ j lt. get_or_append_left xs (y ∷ []) 0 j lt }
 
-pub Grows-insert_all : (xs ys : List ℕ) → Grows xs (insert_all nat_eq xs ys)
-Grows-insert_all xs [] = stays xs
-Grows-insert_all xs (y ∷ ys) = after xs _ _ (Grows-insert_key xs y) (Grows-insert_all (insert_key nat_eq xs y) ys)
+pub Grows-with_numbers : (xs ys : List ℕ) → Grows xs (with_numbers xs ys)
+Grows-with_numbers xs [] = stays xs
+Grows-with_numbers xs (y ∷ ys) = after xs _ _ (Grows-with_number xs y) (Grows-with_numbers (with_number xs y) ys)
 
 -- the number at an index is there
 pub among_at : (xs : List ℕ) (j : ℕ) → j < length xs → is_among (get_or xs j 0) xs ≡ true

@@ -1,27 +1,45 @@
--- Sets of pairs of numbers with one more.
-use Rattle.std.proofs.Common.{◌≡◌, ℕ, Bool, true, false, ◌&&◌, ◌||◌, List, [], ◌∷◌, ◌++◌, nat_eq, if◌then◌else◌, refl}
+-- Ordered sets of pairs of numbers, and what they have with one more.
+use Rattle.std.proofs.Common.{◌≡◌, ℕ, Bool, true, false, cond, ◌&&◌, ◌||◌, List, [], ◌∷◌, nat_eq, nat_cmp, is_eq, refl, sym, ap₂, ◌∙◌, arith}
+use Rattle.std.specs.BTreeMap.{is_at}
+use Rattle.std.specs.BTreeSet.{BTreeSet, Updates}
 use Rattle.std.specs.List.{list_any}
-use Rattle.std.proofs.lemmas.List.Folds.{list_any-append}
-use Rattle.std.proofs.lemmas.Bool.{and_parts}
-use Rattle.std.proofs.lemmas.Map.Views.{exact_unsigned_eq}
+use Rattle.std.specs.Ordering.{ordering_then}
+use Rattle.std.specs.declared.cmp.Ordering.{Ordering}
+use Rattle.std.specs.declared.cmp.Ordering.TheVariants.{Less, Equal, Greater}
+use Rattle.std.proofs.lemmas.Bool.Decides.{nat_tests}
+use Rattle.std.proofs.lemmas.Cmp.{nat_eq_equiv}
 use Rattle.cpn_module.specs.Pairs.{has_pair}
 
-or_none : (p q : Bool) → (p || (q || false)) ≡ (p || q)
-or_none true q = refl
-or_none false true = refl
-or_none false false = refl
+-- two numbers are compared as equal where they are the same
+pub equal_numbers : (a b : ℕ) → is_eq (nat_cmp a b) ≡ nat_eq a b
+equal_numbers a b = grind (arith, nat_tests)
 
-or_there : (p q : Bool) → (q ≡ true → p ≡ true) → p ≡ (p || q)
-or_there true q h = refl
-or_there false true h = h refl
-or_there false false h = refl
+abbrev pub pair_cmp : ℕ × ℕ → ℕ × ℕ → Ordering
+pair_cmp x y = ordering_then (nat_cmp x.0 y.0) (nat_cmp x.1 y.1)
+
+both_equal : (x y : Ordering) → is_eq (ordering_then x y) ≡ (is_eq x && is_eq y)
+both_equal Less y = refl
+both_equal Equal y = refl
+both_equal Greater y = refl
+
+equal_pairs : (a b : ℕ) (pair : ℕ × ℕ) → is_eq (pair_cmp (a, b) pair) ≡ (nat_eq a pair.0 && nat_eq b pair.1)
+equal_pairs a b pair = both_equal (nat_cmp a pair.0) (nat_cmp b pair.1) ∙ ap₂ (λ p q. p && q) (equal_numbers a pair.0) (equal_numbers b pair.1)
+
+-- what an ordered set answers
+pub pair_told : (a b : ℕ) (pairs : List (ℕ × ℕ)) → list_any (is_at (pair_cmp (a, b))) pairs ≡ has_pair a b pairs
+pair_told a b [] = refl
+pair_told a b (pair ∷ pairs) = ap₂ (λ p q. p || q) (equal_pairs a b pair) (pair_told a b pairs)
+
+new_or_old : (p q : Bool) → cond q true p ≡ (p || q)
+new_or_old true true = refl
+new_or_old true false = refl
+new_or_old false true = refl
+new_or_old false false = refl
 
 -- the pairs with one more, unless it is there already
-pub pair_added : (keys new : List (ℕ × ℕ)) (first second : ℕ) → new ≡ (if list_any (λ k. nat_eq first k.0 && nat_eq second k.1) keys then keys else keys ++ (first, second) ∷ []) → (a b : ℕ) → has_pair a b new ≡ (has_pair a b keys || (nat_eq a first && nat_eq b second))
-pair_added keys new first second h a b = by (has_pair first second keys) refl h
-  where
-    by : (there : Bool) → has_pair first second keys ≡ there → new ≡ (if there then keys else keys ++ (first, second) ∷ []) → has_pair a b new ≡ (has_pair a b keys || (nat_eq a first && nat_eq b second))
-    by true is e =
-        let same : (nat_eq a first && nat_eq b second) ≡ true → has_pair a b keys ≡ true = λ t. (let parts = and_parts (nat_eq a first) (nat_eq b second) t in rw (exact_unsigned_eq a first parts.0, exact_unsigned_eq b second parts.1) is) in
-        rw e (or_there (has_pair a b keys) (nat_eq a first && nat_eq b second) same)
-    by false is e = rw (e, list_any-append (λ (k : ℕ × ℕ). nat_eq a k.0 && nat_eq b k.1) keys ((first, second) ∷ [])) (or_none (has_pair a b keys) (nat_eq a first && nat_eq b second))
+pub pair_added : (old new : BTreeSet (ℕ × ℕ)) (first second : ℕ) → Updates pair_cmp old new (first, second) true → (a b : ℕ) → has_pair a b new.keys ≡ (has_pair a b old.keys || (nat_eq a first && nat_eq b second))
+pair_added old new first second updates a b =
+    sym (pair_told a b new.keys)
+    ∙ updates.0 (a, b)
+    ∙ ap₂ (λ here there. cond here true there) (equal_pairs first second (a, b) ∙ ap₂ (λ p q. p && q) (nat_eq_equiv.symm first a) (nat_eq_equiv.symm second b)) (pair_told a b old.keys)
+    ∙ new_or_old (has_pair a b old.keys) (nat_eq a first && nat_eq b second)

@@ -7,11 +7,10 @@ use Rattle.std.proofs.lemmas.List.Elements.{All-get_or}
 use Rattle.std.proofs.lemmas.Cmp.{nat_eq_equiv}
 use Rattle.std.proofs.lemmas.Map.Views.{All-from_any}
 use Rattle.std.proofs.lemmas.Map.Steps.{length-le_from_distinct_below}
-use Rattle.indexmap.specs.IndexSet.{insert_all}
 use Rattle.cpn_module.specs.Hierarchy.{PlainHierarchy, PlainStructure, PlainSubstitution, IsPartOf, submodule, through, structure_at, substitution_at, no_structure, no_substitution}
 use Rattle.cpn_module.specs.Ranges.{HasItsNumbers}
-use Rattle.cpn_module.specs.Submodules.{submodules_of, each_once, is_among, submodule_lists}
-use Rattle.cpn_module.proofs.NumberLists.{among-insert_all, among-each_once, Grows, Grows-insert_all, among_at, place_of}
+use Rattle.cpn_module.specs.Submodules.{submodules_of, with_numbers, each_once, is_among, submodule_lists}
+use Rattle.cpn_module.proofs.NumberLists.{among-with_numbers, among-each_once, Grows, Grows-with_numbers, among_at, place_of}
 
 -- ---- the submodules of one module
 
@@ -79,7 +78,7 @@ module _ (lists : List (List ℕ)) (whole : ℕ) (there : whole < length lists) 
   }
 
   module _ (found : List ℕ) (seen : ℕ) (so_far : Search lists whole found seen) where
-    pub search_goes_on : seen < length found → Search lists whole (insert_all nat_eq found (get_or lists (get_or found seen 0) [])) (seen + 1)
+    pub search_goes_on : seen < length found → Search lists whole (with_numbers found (get_or lists (get_or found seen 0) [])) (seen + 1)
     search_goes_on lt = record {
       sound = λ h same q among. ⊎_elim
           (λ (old : is_among q found ≡ true). so_far.sound h same q old)
@@ -109,17 +108,17 @@ module _ (lists : List (List ℕ)) (whole : ℕ) (there : whole < length lists) 
         part_below : part < length lists
         part_below = so_far.below part part_found
 
-        grows : Grows found (insert_all nat_eq found more)
-        grows = Grows-insert_all found more
+        grows : Grows found (with_numbers found more)
+        grows = Grows-with_numbers found more
 
-        cases : (q : ℕ) → is_among q (insert_all nat_eq found more) ≡ true → (is_among q found ≡ true) ⊎ (is_among q more ≡ true)
-        cases q among = or_cases (is_among q found) (is_among q more) (sym (among-insert_all q found more) ∙ among)
+        cases : (q : ℕ) → is_among q (with_numbers found more) ≡ true → (is_among q found ≡ true) ⊎ (is_among q more ≡ true)
+        cases q among = or_cases (is_among q found) (is_among q more) (sym (among-with_numbers q found more) ∙ among)
 
-        kept : (q : ℕ) → is_among q found ≡ true → is_among q (insert_all nat_eq found more) ≡ true
-        kept q among = among-insert_all q found more ∙ or_left (is_among q found) (is_among q more) among
+        kept : (q : ℕ) → is_among q found ≡ true → is_among q (with_numbers found more) ≡ true
+        kept q among = among-with_numbers q found more ∙ or_left (is_among q found) (is_among q more) among
 
-        added : (q : ℕ) → is_among q more ≡ true → is_among q (insert_all nat_eq found more) ≡ true
-        added q among = among-insert_all q found more ∙ or_right (is_among q found) (is_among q more) among
+        added : (q : ℕ) → is_among q more ≡ true → is_among q (with_numbers found more) ≡ true
+        added q among = among-with_numbers q found more ∙ or_right (is_among q found) (is_among q more) among
 
     -- the next place is that of a module
     pub next_below : seen < length found → get_or found seen 0 < length lists
@@ -139,44 +138,26 @@ module _ (lists : List (List ℕ)) (whole : ℕ) (there : whole < length lists) 
             let listed : is_among x (get_or lists p []) ≡ true = among_list h lists same p (so_far.below p p_found) x ∙ among in
             so_far.later a.0 (omega (arith, a.1, over)) x (subst (λ (y : ℕ). is_among x (get_or lists y []) ≡ true) (sym a.2) listed)
 
--- ---- the same of sets that have lists
+-- ---- the same of lists as they are looked up
 
-module _ {T : Type 0} (keys : T → List ℕ) (sets : List T) (whole : ℕ) (there : whole < length sets) (all_below : All (All (λ q. q < length sets)) (map keys sets)) where
-  many : length (map keys sets) ≡ length sets
-  many = length-map sets keys
+module _ (lists : List (List ℕ)) (whole : ℕ) (there : whole < length lists) (all_below : All (All (λ q. q < length lists)) lists) where
+  pub lists_begin : (of_whole slice start found : List ℕ) → of_whole ≡ get_or lists whole of_whole → slice ≡ of_whole → start ≡ [] → found ≡ with_numbers start slice → Search lists whole found 0
+  lists_begin of_whole slice start found is sliced empty added =
+      subst (λ (x : List ℕ). Search lists whole x 0)
+      (sym (added ∙ ap (λ (x : List ℕ). with_numbers x slice) empty ∙ ap (λ (x : List ℕ). with_numbers [] x) (sliced ∙ is ∙ sym (get_or_default lists whole [] of_whole there))))
+      (search_begins lists whole there all_below)
 
-  in_lists : whole < length (map keys sets)
-  in_lists = omega (arith, many)
+  module _ (found : List ℕ) (seen : ℕ) (so_far : Search lists whole found seen) where
+    pub lists_next : (all : List ℕ) → all ≡ found → seen < length found → get_or all seen 0 < length lists
+    lists_next all is lt = rw is (next_below lists whole there all_below found seen so_far lt)
 
-  lists_below : All (All (λ q. q < length (map keys sets))) (map keys sets)
-  lists_below = subst (λ (n : ℕ). All (All (λ q. q < n)) (map keys sets)) (sym many) all_below
-
-  list_at : (p : ℕ) (s : T) → p < length sets → s ≡ get_or sets p s → get_or (map keys sets) p [] ≡ keys s
-  list_at p s lt is = get_or-map keys sets p s [] lt ∙ ap keys (sym is)
-
-  pub sets_begin : (s : T) (slice start found : List ℕ) → s ≡ get_or sets whole s → slice ≡ keys s → start ≡ [] → found ≡ insert_all nat_eq start slice → Search (map keys sets) whole found 0
-  sets_begin s slice start found is sliced empty added =
-      subst (λ (x : List ℕ). Search (map keys sets) whole x 0)
-      (sym (added ∙ ap (λ (x : List ℕ). insert_all nat_eq x slice) empty ∙ ap (λ (x : List ℕ). insert_all nat_eq [] x) (sliced ∙ sym (list_at whole s there is))))
-      (search_begins (map keys sets) whole in_lists lists_below)
-
-  module _ (found : List ℕ) (seen : ℕ) (so_far : Search (map keys sets) whole found seen) where
-    pub sets_next : (all : List ℕ) → all ≡ found → seen < length found → get_or all seen 0 < length sets
-    sets_next all is lt = rw (is, ← many) (next_below (map keys sets) whole in_lists lists_below found seen so_far lt)
-
-    pub sets_go_on : (all slice found' : List ℕ) (s : T) → seen < length found → all ≡ found → s ≡ get_or sets (get_or all seen 0) s → slice ≡ keys s → found' ≡ insert_all nat_eq found slice → Search (map keys sets) whole found' (seen + 1)
-    sets_go_on all slice found' s lt same is sliced added =
-        let at : get_or (map keys sets) (get_or found seen 0) [] ≡ keys s =
-        ap (λ (x : List ℕ). get_or (map keys sets) (get_or x seen 0) []) (sym same) ∙ list_at (get_or all seen 0) s (sets_next all same lt) is in
-        subst (λ (x : List ℕ). Search (map keys sets) whole x (seen + 1))
-        (sym (added ∙ ap (λ (x : List ℕ). insert_all nat_eq found x) (sliced ∙ sym at)))
-        (search_goes_on (map keys sets) whole in_lists lists_below found seen so_far lt)
-
-    pub sets_are_few : IsDistinct nat_eq found → length found ≤ length sets
-    sets_are_few distinct = omega (arith, many, search_is_short (map keys sets) whole in_lists lists_below found seen so_far distinct)
-
-    pub sets_are_over : length found ≤ seen → (h : PlainHierarchy) → map keys sets ≡ submodule_lists h.modules → (q : ℕ) → (is_among q found ≡ true) ↔ IsPartOf h q whole
-    sets_are_over over h same q = search_is_over (map keys sets) whole in_lists lists_below found seen so_far over h same q
+    pub lists_go_on : (all slice found' of_part : List ℕ) → seen < length found → all ≡ found → of_part ≡ get_or lists (get_or all seen 0) of_part → slice ≡ of_part → found' ≡ with_numbers found slice → Search lists whole found' (seen + 1)
+    lists_go_on all slice found' of_part lt same is sliced added =
+        let at : of_part ≡ get_or lists (get_or found seen 0) [] =
+        is ∙ sym (get_or_default lists (get_or all seen 0) [] of_part (lists_next all same lt)) ∙ ap (λ (x : List ℕ). get_or lists (get_or x seen 0) []) same in
+        subst (λ (x : List ℕ). Search lists whole x (seen + 1))
+        (sym (added ∙ ap (λ (x : List ℕ). with_numbers found x) (sliced ∙ at)))
+        (search_goes_on lists whole there all_below found seen so_far lt)
 
 -- ---- a whole hierarchy
 
@@ -198,5 +179,5 @@ whole_is_there h (submodule m i lt there) = lt
 whole_is_there h (through l m n lower upper) = whole_is_there h upper
 
 -- lists of submodules, wherever they stand
-pub same_lists : {T U : Type 0} (keys : T → List ℕ) (see : U → PlainStructure) (sets sets' : List T) (us us' : List U) → sets ≡ sets' → map keys sets' ≡ submodule_lists (map see us) → us ≡ us' → map keys sets ≡ submodule_lists (map see us')
-same_lists keys see sets sets' us us' e each f = ap (λ xs. map keys xs) e ∙ each ∙ ap (λ xs. submodule_lists (map see xs)) f
+pub same_lists : {U : Type 0} (see : U → PlainStructure) (lists lists' : List (List ℕ)) (us us' : List U) → lists ≡ lists' → lists' ≡ submodule_lists (map see us) → us ≡ us' → lists ≡ submodule_lists (map see us')
+same_lists see lists lists' us us' e each f = e ∙ each ∙ ap (λ xs. submodule_lists (map see xs)) f

@@ -1,6 +1,7 @@
 pub mod Refusals
 pub mod Hierarchy
 pub mod Submodules
+pub mod NumberSets
 pub mod Named
 pub mod Names
 pub mod Known

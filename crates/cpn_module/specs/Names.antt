@@ -1,8 +1,10 @@
 -- What names name, from the lists of the names alone. Source: own choice.
 use Rattle.std.specs.Prelude.{◌≡◌, ℕ, suc, if◌then◌else◌, List, [], ◌∷◌, length, map, slice_index_or, Option, Some, None, option_map}
 use Rattle.std.specs.Borrow.{Bor}
+use Rattle.std.specs.BTreeMap.{BTreeMap, get_by}
+use Rattle.std.specs.Cmp.Lexicographic.{slice_cmp}
+use Rattle.std.specs.Ordering.{nat_cmp}
 use Rattle.std.specs.Str.{bytes_eq}
-use Rattle.indexmap.specs.IndexMap.{IndexMap, get_by}
 use Rattle.cpn_document.specs.Document.{RawSub, RawModule, RawMember, RawFusion, RawDocument}
 use Rattle.cpn_module.specs.Hierarchy.{PlainSubstitution, PlainStructure, PlainMember}
 use Rattle.cpn_module.specs.Named.{position, module_names, place_names, ends_in, assignment_among}
@@ -17,8 +19,8 @@ number_of name [] = None
 number_of name (n ∷ ns) = if bytes_eq name n then Some 0 else option_map (λ i. suc i) (number_of name ns)
 
 -- a map that has the number of each name of a list, and no other names
-abbrev pub Numbers : {S : Type 0} → List (List ℕ) → IndexMap (Bor (List ℕ)) ℕ S → Type 0
-Numbers names numbers = (name : List ℕ) → get_by (λ k. bytes_eq name k.now) numbers ≡ number_of name names
+abbrev pub Numbers : List (List ℕ) → BTreeMap (Bor (List ℕ)) ℕ → Type 0
+Numbers names numbers = (name : List ℕ) → get_by (λ k. slice_cmp nat_cmp name k.now) numbers ≡ number_of name names
 
 -- the list of names at a number; past the last there is no name
 abbrev pub names_at : List (List (List ℕ)) → ℕ → List (List ℕ)

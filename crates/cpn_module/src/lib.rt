@@ -13,6 +13,7 @@ mod fusions;
 mod hierarchy;
 mod name_lists;
 mod names;
+mod number_sets;
 mod numbered;
 mod pairs;
 mod pointing;

@@ -8,15 +8,15 @@ ghost use Rattle.cpn_module.specs.Names.{texts_of as bytes_of, number_of, names_
 ghost use Rattle.cpn_module.specs.Known.{IsKnown};
 
 use cpn_document::{Module, Place, Sub, Transition};
-use indexmap::IndexMap;
 use std::alloc::{AllocError, Global};
+use std::collections::BTreeMap;
 use std::marker::Model;
 
 /// The number of each name: that of the first place at which it stands.
-fn numbers_of<'n>(alloc: Global, names: &[&'n str]) -> Result<IndexMap<&'n str, usize>, AllocError>
+fn numbers_of<'n>(alloc: Global, names: &[&'n str]) -> Result<BTreeMap<&'n str, usize>, AllocError>
     ensures numbers { IfOk result (λ numbers. Numbers (bytes_of names.now) numbers) }
 {
-    let mut numbers = IndexMap::new(alloc);
+    let mut numbers = BTreeMap::new(alloc);
     for (number, name) in names.iter().enumerate() {
         let first = numbers.get(*name).copied().unwrap_or(number);
         numbers.insert(*name, first)?;
@@ -28,7 +28,7 @@ fn numbers_of<'n>(alloc: Global, names: &[&'n str]) -> Result<IndexMap<&'n str, 
 #[derive(Drop)]
 pub(crate) struct Names<'n> {
     names: Vec<&'n str>,
-    numbers: IndexMap<&'n str, usize>,
+    numbers: BTreeMap<&'n str, usize>,
 }
 
 impl<'n> Model for Names<'n> {

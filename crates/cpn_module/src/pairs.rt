@@ -3,14 +3,14 @@
 ghost use Rattle.std.specs.Prelude.{◌≡◌, ℕ, ◌==◌, ◌&&◌, ◌||◌, [], OnOk, OnErr};
 ghost use Rattle.cpn_module.specs.Pairs.{has_pair};
 
-use indexmap::IndexSet;
 use std::alloc::{AllocError, Global};
+use std::collections::BTreeSet;
 use std::marker::Model;
 
 /// Pairs of numbers, none of them twice.
 #[derive(Drop)]
 pub(crate) struct Pairs {
-    set: IndexSet<(usize, usize)>,
+    set: BTreeSet<(usize, usize)>,
 }
 
 impl Model for Pairs {
@@ -27,7 +27,7 @@ impl Pairs {
         ensures empty { result ≡ [] }
     {
         Pairs {
-            set: IndexSet::new(alloc),
+            set: BTreeSet::new(alloc),
         }
     }
 

@@ -11,10 +11,10 @@ ghost use Rattle.cpn_module.specs.ModuleRules.{rule, is_assigned, port_rules};
 ghost use Rattle.cpn_module.specs.Answers.{Checks};
 
 use crate::hierarchy::{Assigned, Hierarchy, Substitution};
+use crate::number_sets::NumberSet;
 use crate::pointing::at_assignment;
 use crate::refusals::ModuleError;
 use cpn_document::{AssignmentPart, PortType};
-use indexmap::IndexSet;
 use std::alloc::Global;
 
 /// What port the place of a number is, in the module of a number.
@@ -34,9 +34,9 @@ fn check_assignments(
 ) -> Result<(), ModuleError>
     ensures checks { Checks result (each_item (λ k a. rule (not (is_assigned a.port (take k (map assigned_view assignments.now)))) (port_twice (part_of_assignment in_module in_sub k Whole))) 0 (map assigned_view assignments.now)) }
 {
-    let mut assigned = IndexSet::new(alloc);
+    let mut assigned = NumberSet::new(alloc);
     for (number, assignment) in assignments.iter().enumerate() {
-        if !assigned.insert(assignment.port)? {
+        if !assigned.add(assignment.port)? {
             let here = at_assignment(in_module, in_sub, number, AssignmentPart::Whole);
             return Err(ModuleError::PortTwice(here));
         }

@@ -4,7 +4,7 @@ ghost use Rattle.std.specs.Prelude.{◌≡◌};
 ghost use Rattle.cpn_module.specs.declared.refusals.ModuleError.TheVariants.{Memory};
 
 use cpn_document::Pointer;
-use std::alloc::{AllocError, AllocFailed};
+use std::alloc::AllocError;
 
 /// Why the modules of a document make no hierarchy, with the place in the document. Each rule is looked at over the whole document
 /// before the next one.
@@ -46,14 +46,6 @@ impl From<AllocError> for ModuleError {
     ghost from_gives = { λ _ e. e ≡ Memory };
 
     fn from(_error: AllocError) -> ModuleError {
-        ModuleError::Memory
-    }
-}
-
-impl<T: Drop> From<AllocFailed<T>> for ModuleError {
-    ghost from_gives = { λ _ e. e ≡ Memory };
-
-    fn from(_error: AllocFailed<T>) -> ModuleError {
         ModuleError::Memory
     }
 }

@@ -143,7 +143,7 @@ fn check_arc_places(places: &Names, in_module: usize, of_module: &Module) -> Res
 /// The place of a name in the module of a name, where both are there.
 fn find_place<'d>(
     document: &'d Document,
-    names: &DocumentNames<'d>,
+    names: &DocumentNames,
     of_module: &str,
     name: &str,
 ) -> Option<&'d Place>

@@ -52,9 +52,10 @@ fn probes_of(
     left: u64,
     drops: &Arc<AtomicU64, Global>,
 ) -> Result<Vec<Box<dyn Probe>>, Memory> {
-    let mut probes: Vec<Box<dyn Probe>> = Vec::new(alloc);
     let drops = drops.clone()?;
-    probes.push(Box::new(alloc, Counted { left, drops })?)?;
+    let probe: Box<dyn Probe> = Box::new(alloc, Counted { left, drops })?;
+    let mut probes = Vec::new(alloc);
+    probes.push(probe)?;
     Ok(probes)
 }
 

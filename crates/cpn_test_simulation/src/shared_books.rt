@@ -208,23 +208,41 @@ fn later_stamp(marking: &Marking) -> Option<u64> {
     marking.get(0)?.stamp(&Value::Int(7), 1)
 }
 
+// Plays by two seats in the first net, and writes what they leave.
+fn play_stamped(text: &mut String, rt: &impl Wait, alloc: Global) -> Result<(), Fail> {
+    let (desk, first) = opened(alloc, book_of(alloc, STAMPED, 4, 2)?)?;
+    let mut book = played(text, rt, desk, first)?;
+    tell_left(text, &mut book)?;
+    Ok(())
+}
+
 #[test]
 fn two_seats_share_a_book(rt: HostRuntime) -> Result<(), Fail> {
     let mut text = String::new(rt.alloc());
-    let (desk, first) = opened(rt.alloc(), book_of(rt.alloc(), STAMPED, 4, 2)?)?;
-    let mut book = played(&mut text, &rt, desk, first)?;
-    tell_left(&mut text, &mut book)?;
+    play_stamped(&mut text, &rt, rt.alloc())?;
     assert_eq!(rt; text.as_str(), PLAYED);
     Ok(())
+}
+
+// Splits three times.
+fn split_thrice(
+    text: &mut String,
+    rt: &impl Wait,
+    desk: &SeatDesk,
+    seat: &mut Seat,
+) -> Result<(), Memory>
+    requires { IsSeatOf desk.now seat.old }
+{
+    split(text, rt, desk, seat)?;
+    split(text, rt, desk, seat)?;
+    split(text, rt, desk, seat)
 }
 
 #[test]
 fn three_seats_are_given_and_no_more(rt: HostRuntime) -> Result<(), Fail> {
     let mut text = String::new(rt.alloc());
     let (desk, mut first) = opened(rt.alloc(), book_of(rt.alloc(), THREE_TOKENS, 0, 3)?)?;
-    split(&mut text, &rt, &desk, &mut first)?;
-    split(&mut text, &rt, &desk, &mut first)?;
-    split(&mut text, &rt, &desk, &mut first)?;
+    split_thrice(&mut text, &rt, &desk, &mut first)?;
     assert_eq!(rt; text.as_str(), "a seat; a seat; full with 3; ");
     Ok(())
 }

@@ -51,6 +51,14 @@ next_part g ts i t sc ms more m whole lt at is more_is before =
     ∙ front_more ms m (marked_each g (asts_from (map ast_view (drop (i + 1) ts))) sc)
     ∙ ap (λ xs. with_front xs (marked_each g (asts_from (map ast_view (drop (i + 1) ts))) sc)) (sym more_is)
 
+pub no_part : (g : Site) (ts : List Ast) (i : ℕ) (t : Ast) (sc : Scope) (ms : List ArcInscription) (r : Refusal) (whole : Checked ArcInscriptions)
+    → i < length ts → t ≡ get_or ts i t → marked g (ast_view t) sc ≡ refused r
+    → whole ≡ with_front ms (marked_each g (asts_from (map ast_view (drop i ts))) sc) → whole ≡ refused r
+no_part g ts i t sc ms r whole lt at is before =
+    before
+    ∙ ap (λ xs. with_front ms (marked_each g (asts_from xs) sc)) (from_index ts i t lt at)
+    ∙ ap (λ c. with_front ms (c >>= λ first. marked_each g (asts_from (map ast_view (drop (i + 1) ts))) sc >>= λ rest. ok (more_inscriptions first rest))) is
+
 pub last_part : (g : Site) (ts : List Ast) (i : ℕ) (sc : Scope) (ms : List ArcInscription) (whole : Checked ArcInscriptions)
     → length ts ≤ i → whole ≡ with_front ms (marked_each g (asts_from (map ast_view (drop i ts))) sc) → whole ≡ ok (inscriptions_from ms)
 last_part g ts i sc ms whole le before = before ∙ ap (λ xs. with_front ms (marked_each g (asts_from (map ast_view xs)) sc)) (drop_of_length-le ts le) ∙ ap ok (front_alone ms)

@@ -5,4 +5,4 @@ use Rattle.cpn_module.specs.Views.{structure_view}
 use Rattle.cpn_module.proofs.cycles.all_submodules.Given as goal
 
 abbrev pub invariant-loop-structure : goal.invariant-loop-structure
-invariant-loop-structure l = map (λ list. list.keys) l.lists.items ≡ submodule_lists (map structure_view (take l.structure-index l.modules))
+invariant-loop-structure l = l.lists.items ≡ submodule_lists (map structure_view (take l.structure-index l.modules))

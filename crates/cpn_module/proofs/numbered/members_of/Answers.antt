@@ -1,7 +1,11 @@
 -- The names of each member are known.
+use Rattle.std.proofs.Common.{map, ap, arith}
 use Rattle.cpn_document.specs.Views.{member_view}
+use Rattle.cpn_module.specs.Names.{member_among}
 use Rattle.cpn_module.specs.Known.{IsKnownMember}
+use Rattle.cpn_module.specs.Views.{fused_view}
 use Rattle.cpn_module.proofs.CheckedItems.{seen_at}
+use Rattle.cpn_module.proofs.MappedLists.{mapped_all}
 use Rattle.cpn_module.proofs.NameNumbers.{number_within}
 use Rattle.cpn_module.proofs.numbered.members_of.Goals as goal
 
@@ -17,3 +21,9 @@ pub place-place-requires-clause-there : goal.place-place-requires-clause-there
 place-place-requires-clause-there c =
     let known = seen_at (IsKnownMember c.args.names.now.modules c.args.names.now.places.items) member_view c.args.members.now c.loop-member.member-index c.member-item.result c.loop-member-test.true c.member-item.is c.requires.known in
     rw (c.as_str-in-loop-member.ensures.value, c.number_there-of_module.ensures.number, c.as_str.ensures.value) known.place
+
+pub loop-member-init : goal.loop-member-init
+loop-member-init c = ap (λ made. map fused_view made) c.in_ok-fused.ensures.items
+
+pub returns : goal.returns
+returns c = record { members = mapped_all (member_among c.args.names.now.modules c.args.names.now.places.items) member_view c.args.members.now c.loop-member.member-index (omega arith) _ c.loop-member.invariant }

@@ -13,7 +13,7 @@ returns-then-not-branch c =
     let all = c.args.assignments.now in
     let k = c.loop-number.number in
     record {
-      checks = rw c.at_assignment-here.ensures.exact (one_broken assigned_view all k (record { port = 0; socket = 0 }) c.loop-number-test.true (is_new_port (map assigned_view all)) (is_port_twice c.args.in_module c.args.in_sub) (each_item (λ k a. rule (is_new_port (map assigned_view all) k a) (is_port_twice c.args.in_module c.args.in_sub k a)) 0 (map assigned_view all)) (sym (new_told all k (record { port = 0; socket = 0 }) c.loop-number-test.true c.loop-number.assigned.keys c.loop-number.invariant.ports c.in_ok-insert.field-0 c.in_ok-insert.ensures.added) ∙ c.if-not-branch.true) c.loop-number.invariant.rest);
+      checks = rw c.at_assignment-here.ensures.exact (one_broken assigned_view all k (record { port = 0; socket = 0 }) c.loop-number-test.true (is_new_port (map assigned_view all)) (is_port_twice c.args.in_module c.args.in_sub) (each_item (λ k a. rule (is_new_port (map assigned_view all) k a) (is_port_twice c.args.in_module c.args.in_sub k a)) 0 (map assigned_view all)) (sym (new_told all k (record { port = 0; socket = 0 }) c.loop-number-test.true c.loop-number.assigned c.loop-number.invariant.ports c.in_ok-add.field-0 c.in_ok-add.ensures.added) ∙ c.if-not-branch.true) c.loop-number.invariant.rest);
     }
 
 pub loop-number-preserved : goal.loop-number-preserved
@@ -21,8 +21,8 @@ loop-number-preserved c =
     let all = c.args.assignments.now in
     let k = c.loop-number.number in
     record {
-      ports = ports_more all k (record { port = 0; socket = 0 }) c.loop-number-test.true c.loop-number.assigned.keys c.loop-number.invariant.ports c.in_ok-insert.field-0 c.in_ok-insert.ensures.added c.insert.new.self.keys c.in_ok-insert.ensures.keys c.if-not-branch.false;
-      rest = one_kept assigned_view all k (record { port = 0; socket = 0 }) c.loop-number-test.true (is_new_port (map assigned_view all)) (is_port_twice c.args.in_module c.args.in_sub) (first_broken (each_item (λ k a. rule (is_new_port (map assigned_view all) k a) (is_port_twice c.args.in_module c.args.in_sub k a)) 0 (map assigned_view all))) (sym (new_told all k (record { port = 0; socket = 0 }) c.loop-number-test.true c.loop-number.assigned.keys c.loop-number.invariant.ports c.in_ok-insert.field-0 c.in_ok-insert.ensures.added) ∙ c.if-not-branch.false) c.loop-number.invariant.rest;
+      ports = ports_more all k (record { port = 0; socket = 0 }) c.loop-number-test.true c.loop-number.assigned c.loop-number.invariant.ports c.in_ok-add.field-0 c.in_ok-add.ensures.added c.add.new.self c.in_ok-add.ensures.numbers c.if-not-branch.false;
+      rest = one_kept assigned_view all k (record { port = 0; socket = 0 }) c.loop-number-test.true (is_new_port (map assigned_view all)) (is_port_twice c.args.in_module c.args.in_sub) (first_broken (each_item (λ k a. rule (is_new_port (map assigned_view all) k a) (is_port_twice c.args.in_module c.args.in_sub k a)) 0 (map assigned_view all))) (sym (new_told all k (record { port = 0; socket = 0 }) c.loop-number-test.true c.loop-number.assigned c.loop-number.invariant.ports c.in_ok-add.field-0 c.in_ok-add.ensures.added) ∙ c.if-not-branch.false) c.loop-number.invariant.rest;
     }
 
 pub returns : goal.returns

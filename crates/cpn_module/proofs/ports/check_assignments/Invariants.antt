@@ -8,6 +8,6 @@ use Rattle.cpn_module.proofs.ports.check_assignments.Given as goal
 
 abbrev pub invariant-loop-number : goal.invariant-loop-number
 invariant-loop-number l = record {
-  ports : l.assigned.keys ≡ ports_of (take l.number l.assignments);
+  ports : l.assigned ≡ ports_of (take l.number l.assignments);
   rest : first_broken (each_item (λ k a. rule (is_new_port (map assigned_view l.assignments) k a) (is_port_twice l.in_module l.in_sub k a)) l.number (map assigned_view (drop l.number l.assignments))) ≡ first_broken (each_item (λ k a. rule (is_new_port (map assigned_view l.assignments) k a) (is_port_twice l.in_module l.in_sub k a)) 0 (map assigned_view l.assignments));
 }

@@ -11,8 +11,8 @@ use Rattle.cpn_forms.specs.ScopeViews.{scope_view}
 use Rattle.cpn_declared.specs.TypeViews.{ty_view}
 use Rattle.cpn_types.specs.Sites.{site_view, arm_at}
 use Rattle.cpn_typing.proofs.Answered.{answers_on, refuses_through}
-use Rattle.cpn_types.proofs.MarkedForms.{many_marked}
-use Rattle.cpn_types.proofs.MarkedParts.{next_part, last_part, next_arm, no_arm, last_arm}
+use Rattle.cpn_types.proofs.MarkedForms.{many_marked, later_marked, one_marked}
+use Rattle.cpn_types.proofs.MarkedParts.{next_part, no_part, last_part, next_arm, no_arm, last_arm}
 use Rattle.cpn_types.proofs.sites.Site.+multiset.Goals as goal
 
 pub tokens-returns-then-is_times-clause-exact : goal.tokens-returns-then-is_times-clause-exact
@@ -24,6 +24,38 @@ tokens-returns-then-is_times-clause-exact t c =
     c.deref.ensures
     c.deref-then-is_times.ensures)
     c.many.ensures.exact
+
+pub tokens-returns-then-is_later-clause-exact : goal.tokens-returns-then-is_later-clause-exact
+tokens-returns-then-is_later-clause-exact t c =
+    subst (Answers multiset_view c.later.result)
+    (later_marked (site_view c.args.self.now) c.args.tree.now c.in-Infix.operator c.in-Infix.sign c.in-Infix.left c.in-Infix.right c.deref-then-is_later.result.now c.deref-then-is_later-2.result.now (scope_view c.args.scope.now.items)
+    c.in-Infix.is
+    (sym c.is_later.ensures.exact ∙ c.if-is_later.true)
+    c.deref-then-is_later.ensures
+    c.deref-then-is_later-2.ensures)
+    c.later.ensures.exact
+
+pub tokens-returns-else-is_later-clause-exact : goal.tokens-returns-else-is_later-clause-exact
+tokens-returns-else-is_later-clause-exact t c =
+    subst (Answers multiset_view c.one.result)
+    (one_marked (site_view c.args.self.now) c.args.tree.now c.in-Infix.operator c.in-Infix.sign c.in-Infix.left c.in-Infix.right (scope_view c.args.scope.now.items)
+    c.in-Infix.is
+    (sym c.is_times.ensures.exact ∙ c.if-is_times.false)
+    (sym c.is_later.ensures.exact ∙ c.if-is_later.false))
+    c.one.ensures.exact
+
+pub parts-returns-in_err-part-clause-exact : goal.parts-returns-in_err-part-clause-exact
+parts-returns-in_err-part-clause-exact t c =
+    let g = site_view c.args.self.now in
+    let whole = marked_each g (asts_from (map ast_view c.args.trees.now)) (scope_view c.args.scope.now.items) in
+    answers_on refusal_of _ c.from_residual.result c.in_err-part.field-0.0 whole c.from_residual.ensures.1
+    (refuses_through (refusal_of c.in_err-part.field-0.0) (marked g (ast_view c.tree-item.result) (scope_view c.loop-tree.scope.items)) whole
+    (λ r h. no_part g c.args.trees.now c.loop-tree.tree-index c.tree-item.result (scope_view c.args.scope.now.items) (map multiset_view c.loop-tree.parts.items) r whole
+    c.loop-tree-test.true
+    c.tree-item.is
+    (ap (λ s. marked g (ast_view c.tree-item.result) (scope_view s)) (sym c.loop-tree.invariant.locals) ∙ h)
+    c.loop-tree.invariant.left)
+    c.in_err-part.ensures.exact)
 
 pub parts-loop-tree-preserved : goal.parts-loop-tree-preserved
 parts-loop-tree-preserved t c = record {

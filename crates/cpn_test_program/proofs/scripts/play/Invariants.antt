@@ -1,0 +1,5 @@
+-- The ledger is the one that was made.
+use Rattle.cpn_test_program.proofs.scripts.play.Given as goal
+
+abbrev pub ghosts-play_lines : goal.ghosts-play_lines
+ghosts-play_lines a = record { name = a.blank.name; parts = a.blank.parts }

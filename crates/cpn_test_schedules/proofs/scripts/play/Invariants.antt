@@ -1,5 +1,0 @@
--- The ledger is the one that was made.
-use Rattle.cpn_test_schedules.proofs.scripts.play.Given as goal
-
-abbrev pub ghosts-play_lines : goal.ghosts-play_lines
-ghosts-play_lines a = record { name = a.blank.name; parts = a.blank.parts }

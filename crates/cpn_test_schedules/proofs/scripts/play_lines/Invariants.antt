@@ -1,6 +1,0 @@
--- What is held is the index of its net and marking.
-use Rattle.cpn_test_schedules.specs.EditedNets.{IsEditedNet}
-use Rattle.cpn_test_schedules.proofs.scripts.play_lines.Given as goal
-
-abbrev pub invariant-loop-line : goal.invariant-loop-line
-invariant-loop-line g l = IsEditedNet l.held
