@@ -4,7 +4,7 @@ ghost use Rattle.std.specs.Prelude.{◌≡◌, ◌≢◌, ◌<◌, ◌≤◌, �
 ghost use Rattle.std.specs.List.{count_by};
 ghost use Rattle.std.specs.Option.{is_some, option_map};
 ghost use Rattle.cpn_definitions.specs.Enabled.{next_time, ready};
-ghost use Rattle.cpn_jobs.specs.Views.{job_view};
+ghost use Rattle.cpn_jobs.specs.Views.{job_view, work_view};
 ghost use Rattle.cpn_log.specs.Logs.{claims_made};
 ghost use Rattle.cpn_log.specs.LogViews.{log_view, job_in};
 ghost use Rattle.cpn_runs.specs.FinishedViews.{setup_view};
@@ -16,9 +16,10 @@ ghost use Rattle.cpn_book.specs.Books.{setup_in, journal_in, index_in, committed
 ghost use Rattle.cpn_book.specs.Committing.{AddsCompletion};
 ghost use Rattle.cpn_book.specs.Standings.{IsAt};
 ghost use Rattle.cpn_book.specs.Steps.{Follows, IsMovedFrom, IsSpentFrom, Moves};
+ghost use Rattle.cpn_book.specs.Works.{AreWorks};
 ghost use Rattle.cpn_book.specs.Tickets.{number_of, job_of, evaluated_number, evaluated_job};
 ghost use Rattle.cpn_book.specs.declared.standings.Cut.{Cut};
-ghost use Rattle.cpn_index.specs.Index.{clock_in, MayFollow};
+ghost use Rattle.cpn_index.specs.Index.{clock_in, IsIndexOf, MayFollow};
 ghost use Rattle.cpn_tmset.specs.ChangedViews.{changes_view};
 
 use crate::answers::{Advanced, Claimed, Completed, Finish};
@@ -57,6 +58,24 @@ pub struct Book {
     pub(crate) entered: u32,
 }
 
+/// The works of a net, and the index and the standing at the start of a run.
+fn parts_at_start(alloc: Global, setup: &Setup) -> Result<(Vec<Arc<Work>>, Index, Standing), Memory>
+    requires playable { IsPlayable (setup_view setup.now) }
+    ensures works { IfOk result (λ parts. AreWorks (setup_view setup.now).net (map (λ work. work_view work.value) parts.0.items)) }
+    ensures index { IfOk result (λ parts. IsIndexOf (setup_view setup.now).net setup.now.start parts.1) }
+    ensures at_clock { IfOk result (λ parts. clock_in parts.1 ≡ setup.now.clock) }
+    ensures starts { IfOk result (λ parts. IsAt (setup_view setup.now) parts.2) }
+    ensures journal { IfOk result (λ parts. parts.2.journal.items ≡ []) }
+    ensures clock { IfOk result (λ parts. parts.2.clock ≡ setup.now.clock) }
+    ensures marking { IfOk result (λ parts. (log_view parts.2.log).unclaimed ≡ setup.now.start) }
+    ensures room { IfOk result (λ parts. vec_len parts.2.journal < vec_capacity parts.2.journal) }
+{
+    let works = works_of(alloc, &setup.net)?;
+    let index = Index::build(alloc, &setup.net, &setup.start, setup.clock)?;
+    let standing = at_start(alloc, setup)?;
+    Ok((works, index, standing))
+}
+
 impl Book {
     /// A book at the start of its run, with no event.
     ///
@@ -71,10 +90,7 @@ impl Book {
         ensures unspent { IfOk result (λ book. is_spent_in book ≡ false) }
         ensures entered { IfOk result (λ book. entered_in book ≡ 0) }
     {
-        let works = works_of(alloc, &setup.net)?;
-        let mut standing = at_start(alloc, &setup)?;
-        standing.journal.reserve(1)?;
-        let index = Index::build(alloc, &setup.net, standing.log.unclaimed(), setup.clock)?;
+        let (works, index, standing) = parts_at_start(alloc, &setup)?;
         let opening = outlook(&index);
         Ok(Book {
             alloc,

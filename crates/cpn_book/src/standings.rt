@@ -1,6 +1,6 @@
 //! Where a run stands.
 
-ghost use Rattle.std.specs.Prelude.{◌≡◌, ℕ, replicate, ◌<◌, ◌≤◌, [], Some, None, true, false, IfOk, MatchOption, length, map, slice_get};
+ghost use Rattle.std.specs.Prelude.{◌≡◌, ℕ, replicate, ◌<◌, ◌≤◌, [], Some, None, true, false, IfOk, MatchOption, length, map, slice_get, vec_len, vec_capacity};
 ghost use Rattle.std.specs.List.{count_by};
 ghost use Rattle.std.specs.Option.{is_some, option_map};
 ghost use Rattle.cpn_jobs.specs.Views.{job_view};
@@ -47,21 +47,23 @@ pub(crate) struct Standing {
     pub(crate) cut: Option<Cut>,
 }
 
-/// Where a run stands at its start.
+/// Where a run stands at its start. The journal has room for an event.
 pub(crate) fn at_start(alloc: Global, setup: &Setup) -> Result<Standing, Memory>
     requires playable { IsPlayable (setup_view setup.now) }
     ensures starts { IfOk result (λ s. IsAt (setup_view setup.now) s) }
     ensures journal { IfOk result (λ s. s.journal.items ≡ []) }
     ensures clock { IfOk result (λ s. s.clock ≡ setup.now.clock) }
     ensures marking { IfOk result (λ s. (log_view s.log).unclaimed ≡ setup.now.start) }
+    ensures room { IfOk result (λ s. vec_len s.journal < vec_capacity s.journal) }
 {
-    let log = Log::start(alloc, setup.start.copy()?)?;
+    let journal = Vec::with_capacity(alloc, 1)?;
     let held = none_held(alloc, setup.limits.seats)?;
     let values = setup.monitors.start(alloc, &setup.start, setup.clock)?;
+    let log = Log::start(alloc, setup.start.copy()?)?;
     Ok(Standing {
         clock: setup.clock,
         log,
-        journal: Vec::new(alloc),
+        journal,
         occurrences: Vec::new(alloc),
         values,
         draw: Draw::new(setup.seed),

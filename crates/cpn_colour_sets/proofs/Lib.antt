@@ -1,4 +1,6 @@
 mod AlternativeLists
 mod Bodies
 mod Components
+pub mod GrownDeclared
 mod NameLists
+mod OneAlternative

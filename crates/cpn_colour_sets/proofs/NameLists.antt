@@ -3,12 +3,13 @@ use Rattle.std.proofs.Common.{◌≡◌, ◌∙◌, ℕ, suc, ◌+◌, ◌<◌, 
 use Rattle.std.specs.List.{list_any}
 use Rattle.std.specs.Str.{bytes_eq}
 use Rattle.std.specs.declared.alloc.Global.{Global}
-use Rattle.std.proofs.lemmas.List.{drop_more, take_more, map-append, length-map, length-take-le}
+use Rattle.std.proofs.lemmas.List.{drop_more, take_more, map-append, append-nil, length-map, length-take-le}
 use Rattle.std.proofs.lemmas.List.Folds.{list_any-append}
 use Rattle.cpn_typing.specs.ColourSets.{is_there, is_new, with_new, with_all_new, constants_from, other_names}
 use Rattle.cpn_typing.specs.Declarations.{variables_from, coloured_as, with_variables, declared_form}
 use Rattle.cpn_trees.specs.DeclTrees.{variables}
 use Rattle.cpn_definitions.specs.Colour.{PlainColour}
+use Rattle.cpn_definitions.specs.Net.{Coloured}
 use Rattle.cpn_typing.specs.Names.{Name, Meant, a_variable, a_constant, NamedMeaning, Declared, colour_named, predeclared_named, unknown, duplicate, Refusal, Checked, ok, refused, ◌>>=◌, accepted_if, required}
 use Rattle.cpn_typing.specs.Types.{PlainTy, type_of_shape}
 use Rattle.cpn_colour_sets.specs.ColouredNames.{declared_with}
@@ -174,3 +175,18 @@ module _ (ds : Declared) (ns : List Name) (n : Name) where
 
   pub unknown_told : colour_named n ds ≡ None → (taken : List Name) → with_all_new ns (other_names ds) ≡ ok taken → declared_form ds (variables ns n) ≡ refused (unknown n)
   unknown_told none taken h = form_uncoloured none ∙ ap (λ c. c >>= λ names. refused (unknown n)) h
+
+-- ---- variables of a colour set
+
+variables_again : (ds : Declared) (some more : List Coloured) → with_more_variables (with_more_variables ds some) more ≡ with_more_variables ds (some ++ more)
+variables_again ds some more = ap (λ vs. record { colours = ds.colours; names = ds.names; variables = vs; enumerations = ds.enumerations; unions = ds.unions; functions = ds.functions }) (append_assoc ds.variables some more)
+
+pub no_variables : (ds : Declared) → ds ≡ with_more_variables ds []
+no_variables ds = ap (λ vs. record { colours = ds.colours; names = ds.names; variables = vs; enumerations = ds.enumerations; unions = ds.unions; functions = ds.functions }) (sym (append-nil ds.variables))
+
+pub variable_added : (ds now new : Declared) (variable : Name → Coloured) (names : List (String Global)) (i : ℕ) (name : String Global) → i < length names → name ≡ get_or names i name → (added : Coloured) → new ≡ with_more_variables now (added ∷ [])
+    → now ≡ with_more_variables ds (map variable (map string_bytes (take i names))) → added ≡ variable (string_bytes name) → new ≡ with_more_variables ds (map variable (map string_bytes (take (i + 1) names)))
+variable_added ds now new variable names i name lt at added h inv is =
+    let some = map variable (map string_bytes (take i names)) in
+    h ∙ ap (λ d. with_more_variables d (added ∷ [])) inv ∙ variables_again ds some (added ∷ []) ∙ ap (λ v. with_more_variables ds (some ++ v ∷ [])) is
+    ∙ ap (with_more_variables ds) (sym (ap (map variable) (seen_is names i name lt at) ∙ map-append variable (map string_bytes (take i names)) (string_bytes name ∷ [])))

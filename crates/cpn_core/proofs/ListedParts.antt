@@ -1,13 +1,13 @@
 -- The rows of a tuple's shapes and the values of a union's constructors, one shape or constructor at a time.
 use Rattle.std.proofs.Common.{◌≡◌, ℕ, zero, suc, ◌+◌, ◌*◌, ◌<◌, ◌≤◌, List, [], ◌∷◌, ◌++◌, map, length, get_or, drop, Option, Some, None, refl, sym, ap, ◌∙◌, arith, add-one, drop-cons, append_assoc, subst, Box, Global}
 use Rattle.std.proofs.Math.Nat.{mul-suc, suc-mul}
-use Rattle.std.proofs.lemmas.List.{nil_from_length}
+use Rattle.std.proofs.lemmas.List.{append-nil, drop_all, nil_from_length}
 use Rattle.cpn_definitions.specs.Value.{PlainValue, bare, applied, list, none}
 use Rattle.cpn_definitions.specs.Colour.{PlainShapes, list_shape}
 use Rattle.cpn_core.specs.declared.colours.Shape.{Shape}
 use Rattle.cpn_core.specs.declared.colours.Shape.TheViews as views
 use Rattle.cpn_core.specs.Colours.{shape_view, shapes_view, constructors_view}
-use Rattle.cpn_core.specs.ShapeValues.{values_in, rows_in, constructed_in, lists, count_of, count_of_rows, count_of_constructed}
+use Rattle.cpn_core.specs.ShapeValues.{values_in, headed, rows_in, constructed_in, lists, count_of, count_of_rows, count_of_constructed}
 use Rattle.cpn_core.proofs.ShapeCounts.{values_counted, rows_counted}
 use Rattle.cpn_core.proofs.ShapeMembers.{no_item}
 use Rattle.cpn_core.proofs.ShapeLevels.{shape_list}
@@ -30,6 +30,16 @@ pub few_of_each : (ss : List Shape) (k : ℕ) (s : Shape) (m : ℕ) → k < leng
 few_of_each [] k s m lt is le some = let no : ⊥ = omega arith in absurd no
 few_of_each (x ∷ ss) zero s m lt is le some = let both = few_of_two (count_of (shape_view x)) (count_of_rows (shapes_view ss)) m le some in rw is both.0
 few_of_each (x ∷ ss) (suc k) s m lt is le some = let both = few_of_two (count_of (shape_view x)) (count_of_rows (shapes_view ss)) m le some in few_of_each ss k s m (omega arith) is both.1 both.2
+
+-- past the last shape there is the empty row alone
+pub no_shape_left : (ss : List Shape) (i : ℕ) → length ss ≤ i → rows_in (shapes_view (drop i ss)) ≡ none ∷ []
+no_shape_left ss i past = ap (λ (left : List Shape). rows_in (shapes_view left)) (drop_all i ss past)
+
+-- the rows from an index on have the values of the shape there ahead of the rows of those after it
+pub rows_grow : (ss : List Shape) (i j : ℕ) (s : Shape) → i < length ss → j ≡ i + 1 → s ≡ get_or ss i s → rows_in (shapes_view (drop i ss)) ≡ headed (values_in (shape_view s)) (rows_in (shapes_view (drop j ss)))
+rows_grow ss i j s lt after is =
+    let here : drop i ss ≡ s ∷ drop (i + 1) ss = rw add-one (drop-cons ss i s lt ∙ ap (λ x. x ∷ drop (suc i) ss) (sym is)) in
+    rw (here, after) refl
 
 -- ---- constructors
 
@@ -73,6 +83,10 @@ constructed_grows cs k d e before after all lt is same grown so_far =
     ∙ append_assoc before (of_one d k) rest
     ∙ ap (λ xs. before ++ xs) (sym (constructed_goes_on cs k d lt is))
     ∙ so_far
+
+-- past the last constructor all are listed
+pub all_constructed : (cs : List (Option Shape)) (k : ℕ) (listed all : List PlainValue) → length cs ≤ k → listed ++ constructed_in (constructors_view (drop k cs)) k ≡ all → listed ≡ all
+all_constructed cs k listed all past so_far = sym (ap (λ (left : List (Option Shape)). listed ++ constructed_in (constructors_view left) k) (drop_all k cs past) ∙ append-nil listed) ∙ so_far
 
 -- ---- lists
 

@@ -1,10 +1,10 @@
 -- One level of a value.
-use Rattle.std.proofs.Common.{◌≡◌, ℕ, ℤ, Option, Some, None, Box, Global, rules}
-use Rattle.cpn_definitions.specs.Value.{int, constant, applied}
+use Rattle.std.proofs.Common.{◌≡◌, ℕ, ℤ, Option, Some, None, Box, Vec, Global, rules}
+use Rattle.cpn_definitions.specs.Value.{int, constant, tuple, applied}
 use Rattle.cpn_core.specs.declared.values.Value.{Value, the_lemmas}
 use Rattle.cpn_core.specs.declared.values.Value.TheBlock.{Int, Enum}
-use Rattle.cpn_core.specs.declared.values.Value.TheViews.{Con}
-use Rattle.cpn_core.specs.Views.{value_view, constructor_view}
+use Rattle.cpn_core.specs.declared.values.Value.TheViews.{Con, Tuple}
+use Rattle.cpn_core.specs.Views.{value_view, values_view, constructor_view}
 
 -- a constructor with its argument is seen as that constructor, applied to what the argument is seen as
 pub view_con_some : (k : ℕ) (b : Box Value Global) → value_view (Con k (Some b)) ≡ applied k (value_view b.value)
@@ -21,3 +21,7 @@ view_int z = search (rules, the_lemmas)
 
 pub view_enum : (k : ℕ) → value_view (Enum k) ≡ constant k
 view_enum k = search (rules, the_lemmas)
+
+-- a tuple
+pub view_tuple : (vs : Vec Value Global) → value_view (Tuple vs) ≡ tuple (values_view vs.items)
+view_tuple vs = search (rules, the_lemmas)

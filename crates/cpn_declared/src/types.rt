@@ -12,7 +12,7 @@ use std::alloc::Global;
 pub type Tys = Vec<Ty>;
 
 /// The type of an inscription. Source: the simple types of CPN ML.
-#[derive(Debug, Drop)]
+#[derive(Drop)]
 pub enum Ty {
     /// The type of `()`.
     Unit,

@@ -108,7 +108,7 @@ fn arcs_of(
 {
     let mut arcs = Vec::with_capacity(alloc, list.len())?;
     for (number, value) in list.iter().enumerate() {
-        arcs.push(arc_of(alloc, version, in_module, number, value)?)?;
+        arcs.push_reserved(arc_of(alloc, version, in_module, number, value)?);
     }
     Ok(arcs)
 }

@@ -151,7 +151,7 @@ pub(crate) fn edits_of(
 {
     let mut edits = Vec::with_capacity(alloc, list.len())?;
     for (number, value) in list.iter().enumerate() {
-        edits.push(edit_of(alloc, version, in_phase, number, value)?)?;
+        edits.push_reserved(edit_of(alloc, version, in_phase, number, value)?);
     }
     Ok(edits)
 }

@@ -83,7 +83,7 @@ fn declarations_of(alloc: Global, list: &[Value]) -> Result<Vec<String>, DocErro
     let mut texts = Vec::with_capacity(alloc, list.len())?;
     for (number, value) in list.iter().enumerate() {
         let text = text_of(value, Pointer::Declaration(number))?;
-        texts.push(copied(alloc, text)?)?;
+        texts.push_reserved(copied(alloc, text)?);
     }
     Ok(texts)
 }

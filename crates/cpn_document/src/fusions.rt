@@ -86,7 +86,7 @@ fn members_of(
 {
     let mut members = Vec::with_capacity(alloc, list.len())?;
     for (number, value) in list.iter().enumerate() {
-        members.push(member_of(alloc, version, in_fusion, number, value)?)?;
+        members.push_reserved(member_of(alloc, version, in_fusion, number, value)?);
     }
     Ok(members)
 }
@@ -135,7 +135,7 @@ fn fusions_of<'v>(
 {
     let mut fusions = Vec::with_capacity(alloc, list.len())?;
     for (number, value) in list.iter().enumerate() {
-        fusions.push(fusion_of(alloc, version, number, names, value)?)?;
+        fusions.push_reserved(fusion_of(alloc, version, number, names, value)?);
     }
     Ok(fusions)
 }

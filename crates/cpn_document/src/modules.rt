@@ -90,7 +90,7 @@ fn modules_of<'v>(
 {
     let mut modules = Vec::with_capacity(alloc, list.len())?;
     for (number, value) in list.iter().enumerate() {
-        modules.push(module_of(alloc, version, number, names, value)?)?;
+        modules.push_reserved(module_of(alloc, version, number, names, value)?);
     }
     Ok(modules)
 }

@@ -233,7 +233,7 @@ fn monitors_of<'v>(
 {
     let mut monitors = Vec::with_capacity(alloc, list.len())?;
     for (number, value) in list.iter().enumerate() {
-        monitors.push(monitor_of(alloc, version, number, names, value)?)?;
+        monitors.push_reserved(monitor_of(alloc, version, number, names, value)?);
     }
     Ok(monitors)
 }

@@ -78,7 +78,7 @@ fn phases_of(alloc: Global, version: u64, list: &[Value]) -> Result<Vec<Phase>, 
 {
     let mut phases = Vec::with_capacity(alloc, list.len())?;
     for (number, value) in list.iter().enumerate() {
-        phases.push(phase_of(alloc, version, number, value)?)?;
+        phases.push_reserved(phase_of(alloc, version, number, value)?);
     }
     Ok(phases)
 }

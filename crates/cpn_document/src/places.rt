@@ -125,7 +125,7 @@ fn places_of<'v>(
 {
     let mut places = Vec::with_capacity(alloc, list.len())?;
     for (number, value) in list.iter().enumerate() {
-        places.push(place_of(alloc, version, in_module, number, names, value)?)?;
+        places.push_reserved(place_of(alloc, version, in_module, number, names, value)?);
     }
     Ok(places)
 }

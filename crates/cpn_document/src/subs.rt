@@ -101,7 +101,7 @@ fn assignments_of(
 {
     let mut assign = Vec::with_capacity(alloc, list.len())?;
     for (number, value) in list.iter().enumerate() {
-        assign.push(assignment_of(alloc, version, in_module, in_sub, number, value)?)?;
+        assign.push_reserved(assignment_of(alloc, version, in_module, in_sub, number, value)?);
     }
     Ok(assign)
 }
@@ -157,7 +157,7 @@ fn subs_of<'v>(
 {
     let mut subs = Vec::with_capacity(alloc, list.len())?;
     for (number, value) in list.iter().enumerate() {
-        subs.push(sub_of(alloc, version, in_module, number, names, value)?)?;
+        subs.push_reserved(sub_of(alloc, version, in_module, number, names, value)?);
     }
     Ok(subs)
 }

@@ -85,7 +85,7 @@ fn transitions_of<'v>(
 {
     let mut transitions = Vec::with_capacity(alloc, list.len())?;
     for (number, value) in list.iter().enumerate() {
-        transitions.push(transition_of(alloc, version, in_module, number, names, value)?)?;
+        transitions.push_reserved(transition_of(alloc, version, in_module, number, names, value)?);
     }
     Ok(transitions)
 }

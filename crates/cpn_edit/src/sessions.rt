@@ -24,9 +24,10 @@ ghost use Rattle.cpn_model.specs.Reading.{PlainModel};
 ghost use Rattle.cpn_model.specs.Views.{model_view};
 ghost use Rattle.cpn_readings.specs.Relations.{RefusesBy};
 ghost use Rattle.cpn_runs.specs.Bounds.{most_steps};
+ghost use Rattle.cpn_runs.specs.FinishedViews.{setup_view};
 ghost use Rattle.cpn_typing.specs.Consistency.{IsConsistent};
 ghost use Rattle.cpn_typing.specs.DeclaresFor.{DeclaresFor};
-ghost use Rattle.cpn_edit.specs.Sessions.{PlainSession, phases_run, session_of, after_edit, after_run, IsNextRun};
+ghost use Rattle.cpn_edit.specs.Sessions.{PlainSession, phases_run, session_of, after_edit, after_run, setup_of, StartsAt, IsNextRun};
 ghost use Rattle.cpn_edit.specs.Standing.{Stands, IsSession, IsBetween, MayStart, run_view};
 ghost use Rattle.cpn_edit.specs.Answers.{TakesPhase, Begins};
 
@@ -89,6 +90,23 @@ fn phases_run(alloc: Global, phases: Vec<Phase>) -> Result<Vec<Phase>, Memory>
         })?;
     }
     Ok(phases)
+}
+
+/// A net and monitors, to be shared by runs, and the phases that are run.
+fn shared(
+    alloc: Global,
+    net: Net,
+    monitors: Monitors,
+    phases: Vec<Phase>,
+) -> Result<(Arc<Net>, Arc<Monitors>, Vec<Phase>), Memory>
+    ensures net { IfOk result (λ shared. shared.0.value ≡ net) }
+    ensures monitors { IfOk result (λ shared. shared.1.value ≡ monitors) }
+    ensures phases { IfOk result (λ shared. phases_view shared.2.items ≡ phases_run (phases_view phases.items)) }
+{
+    let phases = phases_run(alloc, phases)?;
+    let monitors = Arc::new(alloc, monitors)?;
+    let net = Arc::new(alloc, net)?;
+    Ok((net, monitors, phases))
 }
 
 impl Session {
@@ -158,13 +176,14 @@ impl Session {
             monitors,
             phases,
         } = model;
+        let (net, monitors, phases) = shared(alloc, loaded.net, monitors, phases)?;
         Ok(Session {
             alloc,
             decls: loaded.decls,
-            net: Arc::new(alloc, loaded.net)?,
+            net,
             initial: loaded.initial,
-            monitors: Arc::new(alloc, monitors)?,
-            phases: phases_run(alloc, phases)?,
+            monitors,
+            phases,
             limits,
             seed,
             latest: None,
@@ -246,17 +265,43 @@ impl Session {
         ensures entered { IfOk result (λ begun. entered_in begun.1 ≡ 0) }
     {
         let mut session = self;
-        let from = session.take_start(start)?;
-        let setup = Setup {
-            net: session.net.clone()?,
+        let book = session.start_run(start)?;
+        Ok((Between { session }, book))
+    }
+
+    /// Takes what a run starts from, and starts its book.
+    fn start_run(&mut self, start: Start) -> Result<Book, Memory>
+        requires stands { IsSession self.old }
+        requires may_start { MayStart start self.old }
+        ensures begins { IfOk result (λ book. (s : PlainSession) → Stands s self.old → Begins s start (record { session = self.new }) book) }
+        ensures kept { IfOk result (λ book. IsBook book) }
+        ensures journal { IfOk result (λ book. journal_in book ≡ []) }
+        ensures unspent { IfOk result (λ book. is_spent_in book ≡ false) }
+        ensures entered { IfOk result (λ book. entered_in book ≡ 0) }
+    {
+        let setup = self.take_setup(start)?;
+        let book = Book::start(self.alloc, setup)?;
+        Ok(book)
+    }
+
+    /// Takes what a run starts from, and gives the setup of the run.
+    fn take_setup(&mut self, start: Start) -> Result<Setup, Memory>
+        requires may_start { MayStart start self.old }
+        ensures setup { IfOk result (λ setup. (s : PlainSession) → Stands s self.old
+            → StartsAt s start setup.start setup.clock × (setup_view setup ≡ setup_of s setup.start setup.clock)) }
+        ensures rest { OnOk result (self.new ≡ record self.old { latest = self.new.latest }) }
+    {
+        let net = self.net.clone()?;
+        let monitors = self.monitors.clone()?;
+        let from = self.take_start(start)?;
+        Ok(Setup {
+            net,
             start: from.marking,
             clock: from.clock,
-            limits: session.limits,
-            monitors: session.monitors.clone()?,
-            seed: session.seed,
-        };
-        let book = Book::start(session.alloc, setup)?;
-        Ok((Between { session }, book))
+            limits: self.limits,
+            monitors,
+            seed: self.seed,
+        })
     }
 
     /// Takes what a run starts from.

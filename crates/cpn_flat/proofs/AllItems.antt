@@ -1,5 +1,5 @@
 -- What holds of all items of a list holds of the one at a position.
-use Rattle.std.proofs.Common.{◌≡◌, ℕ, zero, suc, ◌<◌, List, [], ◌∷◌, length, get_or, map, refl, subst, sym, arith}
+use Rattle.std.proofs.Common.{◌≡◌, ℕ, zero, suc, ◌<◌, List, [], ◌∷◌, length, get_or, map, subst, sym, arith}
 use Rattle.std.specs.List.{AllByRecursion}
 
 pub all_at : {V A : Type 0} (P : A → Type 0) (view : V → A) (vs : List V) (i : ℕ) (d : V) → i < length vs → AllByRecursion P (map view vs) → P (view (get_or vs i d))

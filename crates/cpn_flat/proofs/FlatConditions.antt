@@ -1,5 +1,5 @@
 -- What the calls of flattening ask for, of what is accepted and its hierarchy unfolded.
-use Rattle.std.proofs.Common.{◌≡◌, ℕ, ◌<◌, ◌≤◌, ◌^◌, List, [], length, map, refl, sym, ap, ◌∙◌, subst, arith}
+use Rattle.std.proofs.Common.{◌≡◌, ℕ, ◌<◌, ◌^◌, List, [], length, refl, sym, ap, ◌∙◌, subst, arith}
 use Rattle.std.specs.List.{AllByRecursion}
 use Rattle.std.proofs.lemmas.List.{length-map}
 use Rattle.std.proofs.lemmas.List.Elements.{recursion_from_All}
@@ -13,7 +13,6 @@ use Rattle.cpn_document.specs.Monitors.{RawMonitor}
 use Rattle.cpn_document.specs.Phases.{RawPhase}
 use Rattle.cpn_fuse.specs.Compound.{AreCompound}
 use Rattle.cpn_fuse.specs.Instances.{PlainInstance, AreInstances}
-use Rattle.cpn_fuse.specs.PlaceInstances.{place_count}
 use Rattle.cpn_fuse.specs.Unfolded.{UnfoldingRefusal, IsUnfolded, IsRefusedFor, AreInModules}
 use Rattle.cpn_module.specs.Named.{hierarchy_in}
 use Rattle.cpn_accepted.specs.Nets.{PlainAccepted, IsWellAccepted, net_from}

@@ -1,8 +1,8 @@
 -- What is accepted means the flat net of its instances, their names and their compound places, with its initial marking.
-use Rattle.std.proofs.Common.{◌≡◌, ℕ, zero, suc, ◌+◌, ◌<◌, List, [], ◌∷◌, length, get_or, map, refl, sym, ap, ap₂, ◌∙◌, subst, arith, add-one}
-use Rattle.std.specs.Prelude.{Option, Some, None, IfSome, option_map, slice_index_or}
+use Rattle.std.proofs.Common.{◌≡◌, ℕ, zero, suc, ◌+◌, ◌<◌, List, [], ◌∷◌, length, get_or, refl, sym, ap, ap₂, ◌∙◌, arith}
+use Rattle.std.specs.Prelude.{Option, Some, None, IfSome, option_map}
 use Rattle.std.specs.List.{AllByRecursion}
-use Rattle.std.proofs.lemmas.List.{ext_get_or, length-map}
+use Rattle.std.proofs.lemmas.List.{ext_get_or}
 use Rattle.cpn_classes.specs.Numbering.{Numbering}
 use Rattle.cpn_definitions.specs.Inscription.{Functions}
 use Rattle.cpn_definitions.specs.Marking.{Marking}
@@ -11,12 +11,12 @@ use Rattle.cpn_document.specs.Document.{RawDocument}
 use Rattle.cpn_fuse.specs.Compound.{AreCompound}
 use Rattle.cpn_fuse.specs.Instances.{PlainInstance}
 use Rattle.cpn_fuse.specs.Unfolded.{UnfoldingRefusal, IsUnfolded, IsRefusedFor}
-use Rattle.cpn_accepted.specs.Nets.{Initial, PlainModuleNet, PlainAccepted, IsMeant, net_from}
+use Rattle.cpn_accepted.specs.Nets.{Initial, PlainModuleNet, PlainAccepted, net_from}
 use Rattle.cpn_readings.specs.Relations.{RefusesBy}
 use Rattle.cpn_readings.proofs.RelatedReadings.{then_read, then_refused, refused_first, refused_next}
-use Rattle.cpn_flat.specs.Refusals.{FlatRefusal, read, refused}
+use Rattle.cpn_flat.specs.Refusals.{FlatRefusal, read}
 use Rattle.cpn_flat.specs.Names.{AreNames}
-use Rattle.cpn_flat.specs.FlatNet.{compound_places, all_transitions, flat_net}
+use Rattle.cpn_flat.specs.FlatNet.{flat_net}
 use Rattle.cpn_flat.specs.InitialMarking.{written_of, AreMeant, AreAllMeant, started}
 use Rattle.cpn_flat.specs.Flat.{IsUnfoldedAs, unfolded, not_unfolded, too_many, written_from, all_written, flat_in}
 use Rattle.cpn_flat.specs.Parts.{AreItsParts}

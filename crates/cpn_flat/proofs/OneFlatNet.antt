@@ -1,11 +1,9 @@
 -- What is accepted of a document means at most one thing.
-use Rattle.std.proofs.Common.{◌≡◌, ℕ, zero, suc, ◌+◌, ◌<◌, ◌≤◌, List, [], ◌∷◌, ◌++◌, length, get_or, refl, sym, ap, ◌∙◌, subst, arith, inl, inr}
-use Rattle.std.specs.Prelude.{Option, Some, None, All, Contains}
+use Rattle.std.proofs.Common.{◌≡◌, ℕ, zero, suc, ◌+◌, ◌<◌, List, [], ◌∷◌, ◌++◌, length, refl, sym, ap, ◌∙◌, subst, arith}
+use Rattle.std.specs.Prelude.{Option, Some, None}
 use Rattle.std.specs.List.{AllByRecursion}
-use Rattle.std.proofs.lemmas.Bool.{cases_order}
 use Rattle.std.proofs.lemmas.List.{ext_get_or}
 use Rattle.std.proofs.lemmas.List.Elements.{All-contains}
-use Rattle.cpn_classes.specs.Numbering.{Numbering}
 use Rattle.cpn_classes.specs.OneNumbering.{numbering_same}
 use Rattle.cpn_definitions.specs.Net.{Coloured, PlainNet, place_at}
 use Rattle.cpn_definitions.specs.Outcome.{Outcome, gives, faults, no_meaning}
@@ -18,10 +16,9 @@ use Rattle.cpn_fuse.specs.Unfolded.{UnfoldingRefusal, IsUnfolded, IsRefusedFor}
 use Rattle.cpn_fuse.proofs.InstanceTrees.{instances_come}
 use Rattle.cpn_module.specs.Hierarchy.{PlainSubstitution, PlainHierarchy, structure_at}
 use Rattle.cpn_accepted.specs.Nets.{Initial, PlainAccepted}
-use Rattle.cpn_readings.specs.Reading as readings
-use Rattle.cpn_readings.specs.Relations.{such_that, After, ◌>>=◌, HasOne}
+use Rattle.cpn_readings.specs.Relations.{such_that, HasOne}
 use Rattle.cpn_readings.proofs.RelatedReadings.{IsOne, just_one, such_one, then_one_at, then_one, each_so_one}
-use Rattle.cpn_flat.specs.Refusals.{FlatRefusal, Reading, read, refused, init}
+use Rattle.cpn_flat.specs.Refusals.{read, refused, init}
 use Rattle.cpn_flat.specs.Names.{joined_name, sub_name_at, name_at, name_where, AreNames}
 use Rattle.cpn_flat.specs.Placed.{IsBehind, StandBehind}
 use Rattle.cpn_flat.specs.FlatNet.{flat_net}

@@ -1,8 +1,8 @@
 -- The initial marking of the flat net. The members of a compound place that have a written initial marking share it: all of them
 -- have the same value, which counts once. A member without one takes that of the others, and where none is written there is no
 -- token. Source: own choice; initial markings are those of Jensen and Kristensen, chapter 4.
-use Rattle.std.specs.Prelude.{◌≡◌, ℕ, ◌==◌, Bool, if◌then◌else◌, List, [], ◌∷◌, ◌++◌, replicate, map, Option, Some, None, Contains, All}
-use Rattle.std.specs.List.{flat_map, enumerate_from, AllByRecursion}
+use Rattle.std.specs.Prelude.{◌≡◌, ℕ, ◌==◌, Bool, if◌then◌else◌, List, [], ◌∷◌, ◌++◌, replicate, Option, Some, None, Contains, All}
+use Rattle.std.specs.List.{flat_map, AllByRecursion}
 use Rattle.cpn_definitions.specs.Inscription.{Functions}
 use Rattle.cpn_definitions.specs.Lists.{in_order}
 use Rattle.cpn_definitions.specs.Marking.{PlainToken, Tokens, Marking, token_at, token_cmp}
@@ -13,7 +13,7 @@ use Rattle.cpn_classes.specs.Numbering.{Numbering}
 use Rattle.cpn_fuse.specs.Instances.{PlainInstance}
 use Rattle.cpn_accepted.specs.Nets.{Initial, IsMeant, PlainModuleNet}
 use Rattle.cpn_readings.specs.Relations.{just, ◌>>=◌, each_so}
-use Rattle.cpn_flat.specs.Refusals.{FlatRefusal, init, initial_differs, Reading, read, refused}
+use Rattle.cpn_flat.specs.Refusals.{init, initial_differs, Reading, read, refused}
 use Rattle.cpn_flat.specs.FlatNet.{each_instance, module_net_among}
 
 -- ---- the members of compound places

@@ -105,3 +105,12 @@ pub arc_known : (P : PlainArc → Type 0) (arcs : List PlaceArc) (i : ℕ) (arc 
 arc_known P [] i arc lt is all = absurd (omega arith)
 arc_known P (x ∷ xs) zero arc lt is all = subst (λ (y : PlaceArc). P (arc_view y)) (sym is) all.0
 arc_known P (x ∷ xs) (suc i) arc lt is all = arc_known P xs i arc (omega arith) is all.1
+
+-- ---- empty lists
+
+-- one empty list more
+pub empty_more : (lists : List (Vec ℕ Global)) (more : Vec ℕ Global) → more.items ≡ [] → ((p : ℕ) → numbers_at lists p ≡ []) → (p : ℕ) → numbers_at (lists ++ more ∷ []) p ≡ []
+empty_more [] more none all zero = none
+empty_more [] more none all (suc p) = refl
+empty_more (xs ∷ lists) more none all zero = all 0
+empty_more (xs ∷ lists) more none all (suc p) = empty_more lists more none (λ q. all (suc q)) p

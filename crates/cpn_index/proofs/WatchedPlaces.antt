@@ -1,5 +1,6 @@
 -- The elements that wait on each place, after what waits on one place has changed; and after some of the needs of an element.
-use Rattle.std.proofs.Common.{◌≡◌, ℕ, ◌+◌, ◌<◌, ◌==◌, not, Bool, true, false, ◌&&◌, ◌||◌, cond, List, [], ◌∷◌, length, drop, get_or, Option, refl, sym, ap, ◌∙◌, slice_get, slice_set, option_map, eqb-true, eq-eqb, ⊎_elim}
+use Rattle.std.proofs.Common.{◌≡◌, ℕ, ◌+◌, ◌<◌, ◌==◌, not, Bool, true, false, ◌&&◌, ◌||◌, cond, List, [], ◌∷◌, ◌++◌, length, drop, get_or, Option, refl, sym, ap, ◌∙◌, slice_get, slice_set, option_map, eqb-true, eq-eqb, ⊎_elim}
+use Rattle.std.specs.List.{AllByRecursion}
 use Rattle.std.specs.Option.{unwrap_or}
 use Rattle.std.proofs.lemmas.List.{drop_more}
 use Rattle.std.proofs.lemmas.Bool.{cases_lt}
@@ -132,3 +133,13 @@ module _ (needs : List Needed) (i : ℕ) (need : Needed) (within : i < length ne
       ap (λ x. not (s && is_needed p v (needed_views (drop (i + 1) needs))) && x) taken
       ∙ taken_next s ((p == need.place) && same_value v (needed_view need).value) (is_needed p v (needed_views (drop (i + 1) needs))) old
       ∙ ap (λ (ns : List plain.Needed). not (s && is_needed p v ns) && old) (sym needs_next) ∙ so_far
+
+-- ---- places on which nothing waits
+
+abbrev pub IsUnwatched : Waiting → Type 0
+IsUnwatched place = place.sets.entries ≡ []
+
+-- one place more
+pub unwatched_more : (places : Places) (place : Waiting) → AllByRecursion IsUnwatched places → IsUnwatched place → AllByRecursion IsUnwatched (places ++ place ∷ [])
+unwatched_more [] place all none = (none, tt)
+unwatched_more (p ∷ ps) place all none = (all.0, unwatched_more ps place all.1 none)

@@ -1,4 +1,5 @@
 mod PairIndices
 mod Rows
+mod GrownLists
 mod ForgottenValues
 mod Matched

@@ -38,3 +38,8 @@ pub row_goes
 row_goes ps vs i p v b c whole true lp lv ep ev so t fits =
     so ∙ row_next ps vs i p v b lp lv ep ev ∙ ap (option_and_then (fitted_each (patterns_view (drop (i + 1) ps)) (values_view (drop (i + 1) vs)))) fits
 row_goes ps vs i p v b c whole false lp lv ep ev so t fits = cc
+
+-- an answer that is a test
+pub becomes_if : (is : Bool) (b : PlainPartial) (wanted : Option PlainPartial) → wanted ≡ (if is then Some b else None) → BecomesIf is b wanted
+becomes_if true b wanted e = e
+becomes_if false b wanted e = e

@@ -24,3 +24,7 @@ module _ {A : Type 0} (each : A → A → Bool) (all : List A → List A → Boo
   compared_end (x ∷ xs) [] i e = let z : i ≡ 0 = omega arith in rw z (compares.first_longer x xs ∙ grind (arith, nat_tests))
   compared_end (x ∷ xs) (y ∷ ys) zero e = let no : ⊥ = omega arith in absurd no
   compared_end (x ∷ xs) (y ∷ ys) (suc i) e = compared_end xs ys i (omega arith) ∙ grind (arith, nat_tests)
+
+-- where the items there are the same, it is left to those after them
+pub after_same : {whole first rest : Bool} → whole ≡ (first && rest) → first ≡ true → whole ≡ rest
+after_same {rest = rest} is same = is ∙ ap (λ b. b && rest) same

@@ -1,7 +1,8 @@
 // The least time at which a binding element is covered.
 ghost use Rattle.std.specs.Prelude.{◌≡◌, ◌<◌, true, length, IfOk, IfSome, MatchOption, option_map};
 ghost use Rattle.cpn_definitions.specs.Net.{transition_at};
-ghost use Rattle.cpn_definitions.specs.Occurrence.{binds};
+ghost use Rattle.cpn_definitions.specs.Occurrence.{binds, needs_of as needs_in};
+ghost use Rattle.cpn_definitions.specs.Outcome.{gives};
 ghost use Rattle.cpn_definitions.specs.Sound.{IsSound, IsMarking};
 ghost use Rattle.cpn_core.specs.Elements.{enabled_view, HasItsNeeds};
 ghost use Rattle.cpn_core.specs.Nets.{net_view};
@@ -31,17 +32,39 @@ pub fn enabled_element(
     ensures element { IfOk result (λ found. IfSome found (λ x. (enabled_view x).element ≡ element_of t binding)) }
     ensures needs { IfOk result (λ found. IfSome found (HasItsNeeds (net_view net.now))) }
 {
+    match least_time(alloc, net, marking, t, &binding)? {
+        Some(found) => {
+            let (earliest, needs) = found;
+            let element = with_needs(alloc, t, binding, earliest, needs)?;
+            Ok(Some(element))
+        }
+        None => Ok(None),
+    }
+}
+
+/// The least time at which the element of a transition and a binding is covered, with its needs; `None` where it is covered at no time.
+fn least_time(
+    alloc: Global,
+    net: &Net,
+    marking: &Marking,
+    t: u32,
+    binding: &Binding,
+) -> Result<Option<(u64, Needs)>, Memory>
+    requires sound { IsSound (net_view net.now) }
+    requires marking { IsMarking (net_view net.now).places marking.now }
+    requires in_range { t < length net.now.transitions.items }
+    requires bound { binds (net_view net.now) (transition_at (net_view net.now) t).vars binding.now ≡ true }
+    ensures least { IfOk result (λ found. MatchOption (option_map (λ x. x.0) found) (IsNeverCovered (net_view net.now) marking.now (element_of t binding.now)) (IsLeastTime (net_view net.now) marking.now (element_of t binding.now))) }
+    ensures needs { IfOk result (λ found. IfSome found (λ x. needs_in (net_view net.now) (element_of t binding.now) ≡ gives x.1)) }
+{
     let transition = &net.transitions[t as usize];
-    let holds = guard_holds(alloc, net, transition, &binding)?;
+    let holds = guard_holds(alloc, net, transition, binding)?;
     if !holds {
         return Ok(None);
     }
-    match needs_of(alloc, net, t, &binding) {
+    match needs_of(alloc, net, t, binding) {
         Ok(needs) => match marking.earliest(&needs) {
-            Some(earliest) => {
-                let element = with_needs(alloc, t, binding, earliest, needs)?;
-                Ok(Some(element))
-            }
+            Some(earliest) => Ok(Some((earliest, needs))),
             None => Ok(None),
         },
         Err(Refused::Fault(_)) => Ok(None),

@@ -9,7 +9,7 @@ ghost use Rattle.cpn_core.specs.Views.{value_view};
 ghost use Rattle.cpn_core.specs.Inscriptions.{pattern_view, expr_view};
 ghost use Rattle.cpn_core.specs.Nets.{net_view};
 ghost use Rattle.cpn_stages.specs.Partial.{Extends, bound_in};
-ghost use Rattle.cpn_stages.specs.Fitting.{fitted};
+ghost use Rattle.cpn_stages.specs.Fitting.{fitted, held};
 ghost use Rattle.cpn_stages.specs.Trials.{are_admitted as admitted_values, kept, with_outcome, next, matching, solving};
 ghost use Rattle.cpn_tmset.specs.ListedViews.{pointed_view};
 ghost use Rattle.cpn_search.specs.TrialViews.{trial_view, all_under_way, after};
@@ -149,6 +149,18 @@ fn push_choices(
     Ok(())
 }
 
+/// The partial binding in which the variable has the value, if it may have it.
+fn with_value(partial: &Partial, variable: u32, value: Value) -> Result<Option<Partial>, Memory>
+    ensures held { IfOk result (λ longer. longer ≡ held variable (value_view value) partial.now) }
+    ensures extends { IfOk result (λ longer. IfSome longer (Extends partial.now)) }
+{
+    let mut longer = partial.copy()?;
+    match longer.hold_own(variable, value) {
+        true => Ok(Some(longer)),
+        false => Ok(None),
+    }
+}
+
 /// The partial binding in which the variable has the value of the inscription, if there is one.
 fn solved(
     alloc: Global,
@@ -163,13 +175,7 @@ fn solved(
 {
     let binding = partial.bound()?;
     match eval(alloc, &net.funs, inscription, &binding, 0) {
-        Ok(value) => {
-            let mut longer = partial.copy()?;
-            match longer.hold_own(variable, value) {
-                true => Ok(Some(longer)),
-                false => Ok(None),
-            }
-        }
+        Ok(value) => with_value(partial, variable, value),
         Err(Refused::Fault(_)) => Ok(None),
         Err(Refused::Memory) => Err(Memory),
     }

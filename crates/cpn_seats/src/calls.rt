@@ -33,12 +33,20 @@ fn is_over(book: &Book) -> bool
     book.is_spent() || book.is_cut()
 }
 
-// Whether a claim is answered that there is no more work for a seat that holds no claim.
+// Whether the answer to a claim says that there is no more work for a seat that holds no claim.
+fn is_end(claimed: &Claimed) -> bool {
+    match claimed {
+        Claimed::Ticket(_) | Claimed::Nothing { held: _ } => false,
+        Claimed::Busy { number: _ } | Claimed::StepLimit | Claimed::Over => true,
+    }
+}
+
+// The same of a claim that may want memory.
 fn ends_claims(answer: &Result<Claimed, Memory>) -> bool {
-    !matches!(
-        answer,
-        Ok(Claimed::Ticket(_)) | Ok(Claimed::Nothing { held: _ })
-    )
+    match answer {
+        Ok(claimed) => is_end(claimed),
+        Err(_) => true,
+    }
 }
 
 // The same of a move of the clock.
@@ -78,7 +86,10 @@ impl SeatDesk {
         ensures own { token.new.table_id ≡ token.old.table_id }
         ensures full { token.new.me ≡ (token.old.me.0, (0, Some book) ∷ []) }
     {
-        let _nothing = self.table.shared.exchange(token, 0, Some(book));
+        match self.table.shared.exchange(token, 0, Some(book)) {
+            None => {}
+            Some(_book) => unreachable!(),
+        }
     }
 
     // The book's claim.

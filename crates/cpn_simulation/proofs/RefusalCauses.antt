@@ -10,7 +10,7 @@ use Rattle.cpn_file.specs.Reading.{of_form, of_net, of_flat}
 use Rattle.cpn_model.specs.Reading.{PlainModel, ModelRefusal, of_document, of_edits, Reading, read, refused}
 use Rattle.cpn_model.specs.Models.{IsModel}
 use Rattle.cpn_model.specs.Lines.{model_line}
-use Rattle.cpn_io.specs.Outside.{Rose}
+use Rattle.cpn_io.specs.Outside.{Rose, AppendsProperPrefix}
 use Rattle.cpn_simulation.specs.Limits.{most_bytes}
 use Rattle.cpn_simulation.specs.Options.{PlainOptions, options_from}
 use Rattle.cpn_simulation.specs.Causes.{PlainRefusal, bad_words, read_fault, too_long, bad_document, HasCause, HaveOneReading, IsReadOnce, error_line, status_of, status_of_document, IsOrExcused, IsReportedOrExcused, IsRefused}
@@ -203,3 +203,42 @@ module _ (refusal : PlainRefusal) (words : List (List ℕ)) (left : Option (List
   refused_complete options some bytes is short model reads =
       ⊎_elim (λ which. absurd (read_not_refused bytes (read_once bytes is which.0 which.1) model which.0 reads which.2)) (λ rose. inr (inr (inl rose)))
       (cause_of_document refusal words left before after cause options some bytes is short)
+
+-- ---- what was written of a refusal
+
+-- its status is not that of want of memory, nor that of a fault of the sink
+never_memory : {A : Type 0} (refusal : PlainRefusal) → status_of refusal ≡ statuses.Memory → A
+never_memory bad_words is = absurd cc
+never_memory read_fault is = absurd cc
+never_memory too_long is = absurd cc
+never_memory (bad_document r) is = no_document r statuses.Memory refl is
+
+never_write_fault : {A : Type 0} (refusal : PlainRefusal) → status_of refusal ≡ statuses.WriteFault → A
+never_write_fault bad_words is = absurd cc
+never_write_fault read_fault is = absurd cc
+never_write_fault too_long is = absurd cc
+never_write_fault (bad_document r) is = no_document r statuses.WriteFault refl is
+
+-- its line was written
+pub line_written : (o : Option PlainRefusal) (status : Status) (line : List ℕ) (old new : Option (List ℕ)) (before now : ℕ)
+    → IfSome o (λ plain. line ≡ error_line plain) → IfSome o (λ plain. status ≡ status_of plain) → Appends old new line → IfSome o (λ plain. IsRefused plain status old new before now)
+line_written None status line old new before now same is appended = tt
+line_written (Some plain) status line old new before now same is appended = record {
+  outcome = inl is;
+  line = λ _. subst (λ (text : List ℕ). Appends old new text) same appended;
+  memory = λ memory. never_memory plain (sym is ∙ memory);
+  part = λ fault. never_write_fault plain (sym is ∙ fault);
+  fault = λ fault. never_write_fault plain (sym is ∙ fault);
+}
+
+-- the sink had a fault, and holds a part of it
+pub part_written : (o : Option PlainRefusal) (line : List ℕ) (old new : Option (List ℕ)) (before now : ℕ)
+    → IfSome o (λ plain. line ≡ error_line plain) → AppendsProperPrefix old new line → Rose before now → IfSome o (λ plain. IsRefused plain statuses.WriteFault old new before now)
+part_written None line old new before now same part rose = tt
+part_written (Some plain) line old new before now same part rose = record {
+  outcome = inr (inr refl);
+  line = λ is. never_write_fault plain (sym is);
+  memory = λ is. absurd cc;
+  part = λ _. subst (λ (text : List ℕ). AppendsProperPrefix old new text) same part;
+  fault = λ _. rose;
+}

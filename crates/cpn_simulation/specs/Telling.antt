@@ -1,8 +1,11 @@
--- What a report has been told of a run, and from where the runs of a document begin. Source: own choice.
+-- What a book begins, what a report has been told of a run, and from where the runs of a document begin. Source: own choice.
 use Rattle.std.specs.Prelude.{◌≡◌, ◌++◌, List, [], ◌∷◌}
+use Rattle.cpn_book.specs.declared.books.Book.{Book}
 use Rattle.cpn_document.specs.declared.document.Start.{Start}
+use Rattle.cpn_edit.specs.Answers.{Begins}
 use Rattle.cpn_edit.specs.Sessions.{PlainSession, StartInitially}
-use Rattle.cpn_edit.specs.Standing.{Stands}
+use Rattle.cpn_edit.specs.Standing.{IsValid, Stands}
+use Rattle.cpn_edit.specs.declared.sessions.Between.{Between}
 use Rattle.cpn_edit.specs.declared.sessions.Session.{Session}
 use Rattle.cpn_report.specs.Report.{ToldRun}
 use Rattle.cpn_report.specs.Tells.{Tells}
@@ -10,6 +13,10 @@ use Rattle.cpn_report.specs.declared.reports.Report.{Report}
 use Rattle.cpn_report.specs.declared.traces.Trace.{Trace}
 use Rattle.cpn_runs.specs.Phases.{PlainPhase}
 use Rattle.cpn_simulation.specs.Reported.{shown_start}
+
+-- a book begins the next run of some session
+abbrev pub BeginsNext : Start → Book → Type 0
+BeginsNext start book = (s : PlainSession) × (between : Between) × IsValid s × Begins s start between book
 
 -- a run of a phase, as a report tells it
 abbrev pub told_one : Start → PlainPhase → ToldRun

@@ -1,27 +1,33 @@
 //! The runs of the phases of a document, one after another.
 
-ghost use Rattle.std.specs.Prelude.{◌≡◌, ◌≢◌, ◌+◌, ◌<◌, ◌^◌, List, [], IfOk};
+ghost use Rattle.std.specs.Prelude.{◌≡◌, ◌≢◌, ◌+◌, ◌<◌, ◌^◌, List, [], length, IfOk, OnOk};
+ghost use Rattle.cpn_book.specs.Books.{setup_in, journal_in, entered_in, IsBook};
+ghost use Rattle.cpn_core.specs.Nets.{net_view};
 ghost use Rattle.cpn_edit.specs.Sessions.{PlainSession, AreRuns, IsNextRun, after_run};
-ghost use Rattle.cpn_edit.specs.Standing.{Stands, IsSession, MayStart};
+ghost use Rattle.cpn_edit.specs.Standing.{Stands, IsSession, MayStart, run_view};
 ghost use Rattle.cpn_probe.specs.Told.{AreTold};
+ghost use Rattle.cpn_report.specs.Printable.{IsPrintable};
 ghost use Rattle.cpn_report.specs.Tells.{runs_in, occurrences_in, Tells};
 ghost use Rattle.cpn_report.specs.declared.traces.Trace.{Trace};
 ghost use Rattle.cpn_runs.specs.Bounds.{most_steps};
+ghost use Rattle.cpn_runs.specs.FinishedViews.{setup_view, finished_view};
 ghost use Rattle.cpn_runs.specs.Phases.{PlainPhase};
+ghost use Rattle.cpn_runs.specs.Run.{IsRun};
 ghost use Rattle.cpn_runs.specs.State.{wants_memory};
 ghost use Rattle.cpn_runs.specs.Views.{end_view};
 ghost use Rattle.cpn_simulation.specs.Reported.{shown_start as start_shown, told_runs, occurrences_in_all, status_after as status_after_end, status_after_all, IsReported};
-ghost use Rattle.cpn_simulation.specs.Telling.{HasTold, MayBegin};
+ghost use Rattle.cpn_simulation.specs.Telling.{BeginsNext, HasTold, MayBegin};
 
 use crate::statuses::Status;
 use crate::workers::run_by_workers;
+use cpn_book::Book;
 use cpn_core::Memory;
 use cpn_document::Start;
 use cpn_edit::Session;
 use cpn_floor::Gate;
 use cpn_probe::{Probe, tell_all};
 use cpn_report::{Report, printable_runs};
-use cpn_runs::End;
+use cpn_runs::{End, Finished};
 use std::alloc::Global;
 use std::sync::Wait;
 use std::thread::Threads;
@@ -75,12 +81,55 @@ fn run_phase<P: Probe, G: Gate + Sync, R: Threads + Wait + Sync>(
     ensures reported { IfOk result (λ after. IsReported after.1) }
 {
     let (between, book) = session.begin(start)?;
-    let finished = run_by_workers(rt, alloc, book, gate)?;
-    printable_runs();
-    told.tell(shown_start(start), &finished)?;
-    tell_all(probes, finished.occurrences.as_slice())?;
+    let finished = run_told(rt, alloc, book, start, told, probes, gate)?;
     let status = status_after(&finished.cause);
     Ok((between.end(finished), status))
+}
+
+/// Makes the run of a book that was just begun, and tells the report and the probes of it.
+fn run_told<P: Probe, G: Gate + Sync, R: Threads + Wait + Sync>(
+    rt: &R,
+    alloc: Global,
+    book: Book,
+    start: Start,
+    told: &mut Report,
+    probes: &mut Vec<P>,
+    gate: &G,
+) -> Result<Finished, Memory>
+    requires kept { IsBook book }
+    requires begun { journal_in book ≡ [] }
+    requires none_entered { entered_in book ≡ 0 }
+    requires begins { BeginsNext start book }
+    requires few_runs { runs_in told.old + 1 < 2 ^ 64 }
+    requires few_occurrences { occurrences_in told.old + most_steps < 2 ^ 64 }
+    ensures setup { IfOk result (λ f. setup_view f.setup ≡ setup_in book) }
+    ensures run { IfOk result (λ f. IsRun (setup_in book) (finished_view f)) }
+    ensures ends_otherwise { IfOk result (λ f. (finished_view f).cause ≢ wants_memory) }
+    ensures is_told { IfOk result (λ f. HasTold start (run_view f) told.old told.new) }
+    ensures are_told { IfOk result (λ f. AreTold P.Notes probes.old.items (finished_view f).occurrences probes.new.items) }
+{
+    let finished = run_by_workers(rt, alloc, book, gate)?;
+    printable_runs();
+    tell_run(start, &finished, told, probes)?;
+    Ok(finished)
+}
+
+/// Tells the report and the probes of a run that has ended.
+fn tell_run<P: Probe>(
+    start: Start,
+    finished: &Finished,
+    told: &mut Report,
+    probes: &mut Vec<P>,
+) -> Result<(), Memory>
+    requires printable { IsPrintable (net_view finished.now.setup.net.value) (finished_view finished.now) }
+    requires few_runs { runs_in told.old + 1 < 2 ^ 64 }
+    requires few_occurrences { occurrences_in told.old + length (finished_view finished.now).occurrences < 2 ^ 64 }
+    ensures is_told { OnOk result (HasTold start (run_view finished.now) told.old told.new) }
+    ensures are_told { OnOk result (AreTold P.Notes probes.old.items (finished_view finished.now).occurrences probes.new.items) }
+{
+    told.tell(shown_start(start), finished)?;
+    tell_all(probes, finished.occurrences.as_slice())?;
+    Ok(())
 }
 
 /// The start of a phase, as a report shows it.

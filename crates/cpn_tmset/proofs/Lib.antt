@@ -8,6 +8,7 @@ mod ChangedTokens
 mod CoveredNeeds
 pub mod CountedTokens
 mod CopiedEntries
+mod GrownLists
 mod TakenNeeds
 mod Thresholds
 mod Ranks

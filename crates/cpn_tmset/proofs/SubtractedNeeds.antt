@@ -1,8 +1,8 @@
 -- What needs leave of a marking that are taken out one after another: of each value on each place the stamps less its thresholds.
-use Rattle.std.proofs.Common.{◌≡◌, ℕ, ◌+◌, ◌<◌, ◌≤◌, Bool, true, false, cond, List, [], ◌∷◌, ◌++◌, map, length, take, drop, get_or, append-nil, refl, sym, ap, subst, ◌∙◌}
+use Rattle.std.proofs.Common.{◌≡◌, ℕ, ◌+◌, ◌<◌, ◌≤◌, Bool, true, false, cond, List, [], ◌∷◌, ◌++◌, map, length, take, drop, get_or, append-nil, append_assoc, refl, sym, ap, ap₂, subst, ◌∙◌}
 use Rattle.std.specs.List.{filter}
 use Rattle.std.proofs.lemmas.Cmp.{nat_cmp_total}
-use Rattle.std.proofs.lemmas.List.{drop_more, map-append, take_all, take_more}
+use Rattle.std.proofs.lemmas.List.{drop_all, drop_more, map-append, take_all, take_more}
 use Rattle.std.proofs.lemmas.List.Elements.{filter-append}
 use Rattle.std.specs.Ordering.{nat_cmp}
 use Rattle.cpn_definitions.specs.Value.{PlainValue}
@@ -16,6 +16,7 @@ use Rattle.cpn_definitions.proofs.OrderedLists.{in_order_same}
 use Rattle.cpn_definitions.proofs.Subtraction.{is_for, thresholds_for, taken}
 use Rattle.cpn_core.specs.NeedsViews.{needed_view, needed_views}
 use Rattle.cpn_core.specs.declared.needed.Needed.{Needed}
+use Rattle.cpn_tmset.specs.StampsTaken.{stamp_taken, stamps_taken}
 use Rattle.cpn_tmset.specs.Subtracted.{IsSubtracted}
 
 -- what the thresholds of needs leave of each value on each place, in the order of the needs
@@ -74,7 +75,28 @@ module _ (time : ℕ) (needs : List Needed) (i : ℕ) (need : Needed) (within : 
       let seen : needed_views (take (i + 1) needs) ≡ needed_views (take i needs) ++ needed_view need ∷ [] = ap needed_views (take_more needs i need within ∙ ap (λ n. take i needs ++ n ∷ []) (sym is)) ∙ map_more needed_view (take i needs) need in
       subst (λ ns. IsLessFor time ns old new) (sym seen) (less_for_more time (needed_views (take i needs)) (needed_view need) old mid new so_far sorted without)
 
--- all of them are
+  -- and its stamp is given
+  pub stamps_next : (made more : List ℕ) (stamp : ℕ) (mid new : Marking) (last : List ℕ) → more ≡ made ++ stamp ∷ [] → stamp ≡ stamp_taken time (needed_view need) mid → IsWithout mid new → made ++ stamps_taken time (needed_views (drop i needs)) mid ≡ last → more ++ stamps_taken time (needed_views (drop (i + 1) needs)) new ≡ last
+  stamps_next made more stamp mid new last grown given without so_far =
+      let rest = needed_views (drop (i + 1) needs) in
+      let left = stamps_taken time rest (on_place need.place (without_token (needed_view need).value (threshold time (needed_view need))) mid) in
+      ap₂ (λ ss m. ss ++ stamps_taken time rest m) grown without
+      ∙ append_assoc made (stamp ∷ []) left
+      ∙ ap (λ s. made ++ s ∷ left) given
+      ∙ ap (λ ns. made ++ stamps_taken time (needed_views ns) mid) (sym (drop_more needs i need within ∙ ap (λ n. n ∷ drop (i + 1) needs) (sym is)))
+      ∙ so_far
+
+-- ---- all of them are
+
+module _ (time : ℕ) (needs : List Needed) (i : ℕ) (ordered : List plain.Needed) (past : length needs ≤ i) (same : needed_views needs ≡ ordered) where
+  pub all_out : (old new : Marking) → subtract (threshold time) (needed_views (drop i needs)) new ≡ subtract (threshold time) (needed_views needs) old → new ≡ subtract (threshold time) ordered old
+  all_out old new so_far =
+      sym (ap (λ ns. subtract (threshold time) (needed_views ns) new) (drop_all i needs past)) ∙ so_far ∙ ap (λ ns. subtract (threshold time) ns old) same
+
+  pub all_stamps : (made : List ℕ) (old new : Marking) → made ++ stamps_taken time (needed_views (drop i needs)) new ≡ stamps_taken time (needed_views needs) old → made ≡ stamps_taken time ordered old
+  all_stamps made old new so_far =
+      sym (ap (λ ns. made ++ stamps_taken time (needed_views ns) new) (drop_all i needs past) ∙ append-nil made) ∙ so_far ∙ ap (λ ns. stamps_taken time ns old) same
+
 pub all_subtracted : (time : ℕ) (needs : List Needed) (i : ℕ) (ordered : List plain.Needed) (old new : Marking) → length needs ≤ i → needed_views needs ≡ ordered → IsInOrder needed_cmp ordered → IsLessFor time (needed_views (take i needs)) old new → IsSubtracted time ordered old new
 all_subtracted time needs i ordered old new past same in_order all =
     subtracted_for time ordered old new in_order (subst (λ ns. IsLessFor time ns old new) (ap needed_views (take_all i needs past) ∙ same) all)

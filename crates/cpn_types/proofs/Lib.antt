@@ -1,3 +1,4 @@
+mod AddedFunctions
 mod ArmFronts
 mod CallFronts
 mod Conjuncts
@@ -8,6 +9,7 @@ mod Fronts
 mod LetValues
 mod MarkedForms
 mod MarkedParts
+mod ParameterScopes
 mod PlainTypes
 mod ScopeTypes
 mod TokenMeanings

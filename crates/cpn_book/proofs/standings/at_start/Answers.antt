@@ -26,14 +26,14 @@ use Rattle.cpn_runs.specs.FinishedViews.{setup_view}
 use Rattle.cpn_book.proofs.StartedRuns.{stands_at_start}
 use Rattle.cpn_book.proofs.standings.at_start.Goals as goal
 
-pub start-requires-clause-sorted : goal.start-requires-clause-sorted
-start-requires-clause-sorted c = λ p. subst (λ (m : Marking). AreSorted (tokens_at m p)) (sym c.in_ok-copy.ensures.same) (held_at (setup_view c.args.setup.now).net.places c.args.setup.now.start c.requires.playable.marking p).0
+pub start-requires-2-clause-sorted : goal.start-requires-2-clause-sorted
+start-requires-2-clause-sorted c = λ p. subst (λ (m : Marking). AreSorted (tokens_at m p)) (sym c.in_ok-copy.ensures.same) (held_at (setup_view c.args.setup.now).net.places c.args.setup.now.start c.requires.playable.marking p).0
 
-pub start-requires-clause-few : goal.start-requires-clause-few
-start-requires-clause-few c = λ p. subst (λ (m : Marking). length (tokens_at m p) ≤ 2 ^ 47) (sym c.in_ok-copy.ensures.same) (c.requires.playable.bounded p)
+pub start-requires-2-clause-few : goal.start-requires-2-clause-few
+start-requires-2-clause-few c = λ p. subst (λ (m : Marking). length (tokens_at m p) ≤ 2 ^ 47) (sym c.in_ok-copy.ensures.same) (c.requires.playable.bounded p)
 
-pub start-requires-2-clause-seen : goal.start-requires-2-clause-seen
-start-requires-2-clause-seen c =
+pub start-requires-clause-seen : goal.start-requires-clause-seen
+start-requires-clause-seen c =
     subst (λ (d : Monitors). AllByRecursion (λ monitor. MayLook c.args.setup.now.start monitor.measure) (monitors_view d)) (sym c.deref.ensures) (may_look_at_start (setup_view c.args.setup.now) c.requires.playable)
 
 abbrev nobody : Option ℕ
@@ -61,7 +61,7 @@ returns-clause-starts c =
     let none : held ≡ replicate s.limits.seats None = c.in_ok-held.ensures.none in
     let long : length held ≡ s.limits.seats = ap length none ∙ length-replicate s.limits.seats None in
     let each : (n : ℕ) → n < s.limits.seats → slice_get held n ≡ Some None = λ n lt. ap (λ hs. slice_get hs n) none ∙ none_at s.limits.seats n lt in
-    let empty : map event_view c.new.result.items ≡ [] = ap (map event_view) c.new.ensures.items in
+    let empty : map event_view c.in_ok-journal.journal.items ≡ [] = ap (map event_view) c.in_ok-journal.ensures.items in
     let stands : StandsAt s [] (first_state s) (log_view log) held = subst (λ l. StandsAt s [] (first_state s) l held) (sym is) (stands_at_start s held kept long each) in
     record {
       at = record {
@@ -70,12 +70,12 @@ returns-clause-starts c =
         clock = refl;
         cut = refl;
         jobs = ap (map job_view) c.in_ok-log.ensures.jobs ∙ sym (ap (λ l. map (job_for s.net) (map head_of l.claims)) is);
-        occurrences = ap (map occurrence_view) c.new-2.ensures.items ∙ ap (numbered 0) (sym (none_taken (length (log_view log).committed)));
+        occurrences = ap (map occurrence_view) c.new.ensures.items ∙ ap (numbered 0) (sym (none_taken (length (log_view log).committed)));
         measured =
             measured_alike s s.clock s.clock [] (take (length (log_view log).committed) no_claims) (values_view c.in_ok-values.values) (values_view c.in_ok-values.values) refl (none_taken (length (log_view log).committed)) refl
             (subst (λ (d : Monitors). AreMeasured (funs_view d.funs.value) (monitors_view d) (run_of s s.clock []) (values_view c.in_ok-values.values)) c.deref.ensures c.in_ok-values.ensures.started);
         made_now = subst (λ (l : PlainLog). AllByRecursion (λ (claim : PlainClaim). claim.time ≡ s.clock) l.claims) (sym is) tt;
-        draw = λ none_yet. c.new-3.ensures;
+        draw = λ none_yet. c.new-2.ensures;
       };
       all_committed = stands.all_committed;
       none_owed = stands.none_owed;

@@ -1,5 +1,5 @@
 -- The next alternative is accepted, or refused with all.
-use Rattle.std.proofs.Common.{◌≡◌, ◌∙◌, ◌+◌, ◌∷◌, [], ◌++◌, length, map, drop, option_map, ap, sym, arith}
+use Rattle.std.proofs.Common.{◌≡◌, ◌∙◌, ◌+◌, ◌∷◌, [], ◌++◌, length, map, drop, option_map, ap, sym, arith, refl}
 use Rattle.std.proofs.lemmas.List.{map-append, length-append}
 use Rattle.cpn_core.specs.Colours.{shape_view}
 use Rattle.cpn_trees.specs.DeclTrees.{alternative_view}
@@ -10,6 +10,7 @@ use Rattle.cpn_declared.specs.Answers.{refusal_of}
 use Rattle.cpn_declared.specs.DeclsViews.{decls_view, constructor_view}
 use Rattle.cpn_colour_sets.proofs.AlternativeLists.{with_front, next_refused, next_accepted, constructor_added, alternatives_done, alternative_left, none_left, constructors_long}
 use Rattle.cpn_typing.proofs.Answered.{answers_on, refuses_through}
+use Rattle.cpn_colour_sets.proofs.GrownDeclared.{grows_same, grows_names, grows_on}
 use Rattle.cpn_colour_sets.proofs.colour_sets.add_alternatives.Goals as goal
 
 pub returns-in_err-shape-clause-exact : goal.returns-in_err-shape-clause-exact
@@ -56,3 +57,27 @@ returns-clause-exact c =
     sym c.loop-position.invariant.left
     ∙ ap (λ left. with_front ss cs (alternatives_of ds left (all_before (map (λ c. c.name) cs) (other_names ds)))) (none_left c.args.alternatives.now c.loop-position.position (omega arith))
     ∙ alternatives_done ss cs
+
+pub returns-in_err-shapes-clause-grown : goal.returns-in_err-shapes-clause-grown
+returns-in_err-shapes-clause-grown c = grows_same (decls_view c.args.decls.now) (decls_view c.args.decls.now) refl
+
+pub returns-in_err-constructors-clause-grown : goal.returns-in_err-constructors-clause-grown
+returns-in_err-constructors-clause-grown c = grows_same (decls_view c.args.decls.now) (decls_view c.args.decls.now) refl
+
+pub returns-in_err-shape-clause-grown : goal.returns-in_err-shape-clause-grown
+returns-in_err-shape-clause-grown c = grows_names (decls_view c.args.decls.now) (decls_view c.add_alternative.new.decls) _ (c.in_err-shape.ensures.unchanged ∙ c.loop-position.invariant.added)
+
+pub returns-in_err-push-clause-grown : goal.returns-in_err-push-clause-grown
+returns-in_err-push-clause-grown c =
+    grows_on (decls_view c.args.decls.now) (decls_view c.loop-position.decls) (decls_view c.add_alternative.new.decls)
+    (grows_names (decls_view c.args.decls.now) (decls_view c.loop-position.decls) _ c.loop-position.invariant.added)
+    (grows_names (decls_view c.loop-position.decls) (decls_view c.add_alternative.new.decls) _ c.in_ok-shape.ensures.added)
+
+pub returns-in_err-push-2-clause-grown : goal.returns-in_err-push-2-clause-grown
+returns-in_err-push-2-clause-grown c =
+    grows_on (decls_view c.args.decls.now) (decls_view c.loop-position.decls) (decls_view c.add_alternative.new.decls)
+    (grows_names (decls_view c.args.decls.now) (decls_view c.loop-position.decls) _ c.loop-position.invariant.added)
+    (grows_names (decls_view c.loop-position.decls) (decls_view c.add_alternative.new.decls) _ c.in_ok-shape.ensures.added)
+
+pub returns-clause-grown : goal.returns-clause-grown
+returns-clause-grown c = grows_names (decls_view c.args.decls.now) (decls_view c.loop-position.decls) _ c.loop-position.invariant.added

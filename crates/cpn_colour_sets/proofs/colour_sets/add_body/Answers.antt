@@ -7,6 +7,7 @@ use Rattle.cpn_typing.specs.ColourSets.{component, components}
 use Rattle.cpn_declared.specs.DeclsViews.{decls_view}
 use Rattle.cpn_colour_sets.proofs.Bodies.{alone, shape_unit, shape_bool, shape_text, shape_int, product_accepted, list_accepted, named_accepted, range_accepted, le_same}
 use Rattle.cpn_core.proofs.ShapeLevels.{shape_list, shape_tuple}
+use Rattle.cpn_colour_sets.proofs.GrownDeclared.{grows_same}
 use Rattle.cpn_colour_sets.proofs.colour_sets.add_body.Goals as goal
 
 pub returns-in-Unit-clause-exact : goal.returns-in-Unit-clause-exact
@@ -44,3 +45,45 @@ returns-in_ok-shape-in-Named-clause-exact c =
     alone (decls_view c.args.decls.now) c.args.name.now c.args.body.now (bodies.Named c.in-Named.other) _ _ c.in-Named.is
     (named_accepted (decls_view c.args.decls.now) c.args.name.now (string_bytes c.in-Named.other) (shape_view c.in_ok-shape-in-Named.shape) (ap (component (decls_view c.args.decls.now)) (sym c.as_str-in-Named.ensures.value) ∙ c.in_ok-shape-in-Named.ensures.exact))
     refl
+
+pub returns-in_err-from_str-in-IntRange-clause-grown : goal.returns-in_err-from_str-in-IntRange-clause-grown
+returns-in_err-from_str-in-IntRange-clause-grown c = grows_same (decls_view c.args.decls.now) (decls_view c.args.decls.now) refl
+
+pub returns-in_err-shapes-in-Product-clause-grown : goal.returns-in_err-shapes-in-Product-clause-grown
+returns-in_err-shapes-in-Product-clause-grown c = grows_same (decls_view c.args.decls.now) (decls_view c.args.decls.now) refl
+
+pub returns-in_err-shape-in-List-clause-grown : goal.returns-in_err-shape-in-List-clause-grown
+returns-in_err-shape-in-List-clause-grown c = grows_same (decls_view c.args.decls.now) (decls_view c.args.decls.now) refl
+
+pub returns-in_err-new-in-List-clause-grown : goal.returns-in_err-new-in-List-clause-grown
+returns-in_err-new-in-List-clause-grown c = grows_same (decls_view c.args.decls.now) (decls_view c.args.decls.now) refl
+
+pub returns-in_err-shape-in-Named-clause-grown : goal.returns-in_err-shape-in-Named-clause-grown
+returns-in_err-shape-in-Named-clause-grown c = grows_same (decls_view c.args.decls.now) (decls_view c.args.decls.now) refl
+
+pub returns-in-Unit-clause-grown : goal.returns-in-Unit-clause-grown
+returns-in-Unit-clause-grown c = grows_same (decls_view c.args.decls.now) (decls_view c.args.decls.now) refl
+
+pub returns-in-Bool-clause-grown : goal.returns-in-Bool-clause-grown
+returns-in-Bool-clause-grown c = grows_same (decls_view c.args.decls.now) (decls_view c.args.decls.now) refl
+
+pub returns-in-Int-clause-grown : goal.returns-in-Int-clause-grown
+returns-in-Int-clause-grown c = grows_same (decls_view c.args.decls.now) (decls_view c.args.decls.now) refl
+
+pub returns-then-low-high-clause-grown : goal.returns-then-low-high-clause-grown
+returns-then-low-high-clause-grown c = grows_same (decls_view c.args.decls.now) (decls_view c.args.decls.now) refl
+
+pub returns-in_ok-from_str-in-IntRange-clause-grown : goal.returns-in_ok-from_str-in-IntRange-clause-grown
+returns-in_ok-from_str-in-IntRange-clause-grown c = grows_same (decls_view c.args.decls.now) (decls_view c.args.decls.now) refl
+
+pub returns-in-String-clause-grown : goal.returns-in-String-clause-grown
+returns-in-String-clause-grown c = grows_same (decls_view c.args.decls.now) (decls_view c.args.decls.now) refl
+
+pub returns-in_ok-shapes-in-Product-clause-grown : goal.returns-in_ok-shapes-in-Product-clause-grown
+returns-in_ok-shapes-in-Product-clause-grown c = grows_same (decls_view c.args.decls.now) (decls_view c.args.decls.now) refl
+
+pub returns-in_ok-new-in-List-clause-grown : goal.returns-in_ok-new-in-List-clause-grown
+returns-in_ok-new-in-List-clause-grown c = grows_same (decls_view c.args.decls.now) (decls_view c.args.decls.now) refl
+
+pub returns-in_ok-shape-in-Named-clause-grown : goal.returns-in_ok-shape-in-Named-clause-grown
+returns-in_ok-shape-in-Named-clause-grown c = grows_same (decls_view c.args.decls.now) (decls_view c.args.decls.now) refl

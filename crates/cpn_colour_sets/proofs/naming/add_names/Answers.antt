@@ -7,6 +7,7 @@ use Rattle.cpn_declared.specs.DeclsViews.{decls_view}
 use Rattle.cpn_colour_sets.specs.Kinds.{kind_view}
 use Rattle.cpn_typing.proofs.Answered.{answers_on, refuses_through}
 use Rattle.cpn_colour_sets.proofs.NameLists.{new_behind, names_with_more, next_is_new, next_is_old, named_next, added_next}
+use Rattle.cpn_colour_sets.proofs.GrownDeclared.{grows_names}
 use Rattle.cpn_colour_sets.proofs.naming.add_names.Goals as goal
 
 pub returns-in_err-add_name-clause-exact : goal.returns-in_err-add_name-clause-exact
@@ -35,3 +36,12 @@ loop-position-preserved c =
           c.in_ok-add_name.ensures.added c.loop-position.invariant.added c.as_str.ensures.value c.in_ok-meaning.ensures.exact (named_next c.args.names.now c.loop-position.position c.index-names-position.result c.loop-position-test.true c.index-names-position.is (kind_view c.args.kind.now));
       left = next_is_new c.args.names.now c.loop-position.position c.index-names-position.result c.loop-position-test.true c.index-names-position.is n c.as_str.ensures.value (other_names ds) now same _ c.in_ok-add_name.ensures.exact ∙ c.loop-position.invariant.left;
     }
+
+pub returns-in_err-meaning-clause-grown : goal.returns-in_err-meaning-clause-grown
+returns-in_err-meaning-clause-grown c = grows_names (decls_view c.args.decls.now) (decls_view c.loop-position.decls) _ c.loop-position.invariant.added
+
+pub returns-in_err-add_name-clause-grown : goal.returns-in_err-add_name-clause-grown
+returns-in_err-add_name-clause-grown c = grows_names (decls_view c.args.decls.now) (decls_view c.add_name.new.self) _ (c.in_err-add_name.ensures.unchanged ∙ c.loop-position.invariant.added)
+
+pub returns-clause-grown : goal.returns-clause-grown
+returns-clause-grown c = grows_names (decls_view c.args.decls.now) (decls_view c.loop-position.decls) _ c.loop-position.invariant.added

@@ -1,8 +1,8 @@
 -- Each item is the next one of the list, and is read or refused with it.
-use Rattle.std.proofs.Common.{arith}
+use Rattle.std.proofs.Common.{arith, refl}
 use Rattle.std.proofs.lemmas.Result.{err_from_is_err_and}
 use Rattle.serde_json.specs.View.{view}
-use Rattle.cpn_document.specs.Document.{arc_in}
+use Rattle.cpn_document.specs.Document.{arc_in, each_arc}
 use Rattle.cpn_document.specs.Views.{arc_view}
 use Rattle.cpn_document.specs.Answers.{refusal_of}
 use Rattle.cpn_document.proofs.ReadLists.{values_more, values_done}
@@ -15,10 +15,24 @@ returns-in_err-arc_of c = record {
       rw (p.1, p.2) (item_broken view c.args.list.now c.loop-number.number c.index-list-number.result c.loop-number-test.true c.index-list-number.is _ _ (refusal_of c.in_err-arc_of.field-0.0) c.loop-number.invariant.rest c.in_err-arc_of.ensures.gives));
 }
 
+pub loop-number-init : goal.loop-number-init
+unfolding each_arc
+loop-number-init c = record {
+  values = rw c.in_ok-arcs.ensures.items refl;
+  rest = refl;
+  len = c.in_ok-arcs.ensures.len;
+  room = c.in_ok-arcs.ensures.capacity;
+}
+
+pub push_reserved-requires : goal.push_reserved-requires
+push_reserved-requires c = omega (arith, c.loop-number.invariant.len, c.loop-number.invariant.room, c.loop-number-test.true)
+
 pub loop-number-preserved : goal.loop-number-preserved
 loop-number-preserved c = record {
-  values = rw c.in_ok-push.ensures.items (values_more view c.args.list.now c.loop-number.number c.index-list-number.result c.loop-number-test.true c.index-list-number.is arc_in arc_view c.loop-number.arcs.items c.in_ok-arc_of.field-0 _ c.in_ok-arc_of.ensures.gives.0 c.loop-number.invariant.values);
+  values = rw c.push_reserved.ensures.items (values_more view c.args.list.now c.loop-number.number c.index-list-number.result c.loop-number-test.true c.index-list-number.is arc_in arc_view c.loop-number.arcs.items c.in_ok-arc_of.field-0 _ c.in_ok-arc_of.ensures.gives.0 c.loop-number.invariant.values);
   rest = item_kept view c.args.list.now c.loop-number.number c.index-list-number.result c.loop-number-test.true c.index-list-number.is _ _ c.in_ok-arc_of.ensures.gives.1 c.loop-number.invariant.rest;
+  len = omega (arith, c.push_reserved.ensures.len, c.loop-number.invariant.len);
+  room = rw c.push_reserved.ensures.capacity c.loop-number.invariant.room;
 }
 
 pub returns : goal.returns

@@ -2,6 +2,7 @@
 use Rattle.std.proofs.Common.{arith, refl, ◌∙◌, string_bytes}
 use Rattle.std.proofs.lemmas.Result.{err_from_is_err_and}
 use Rattle.serde_json.specs.View.{view}
+use Rattle.cpn_document.specs.Document.{each_declaration}
 use Rattle.cpn_document.specs.Parts.{text_in}
 use Rattle.cpn_document.specs.Answers.{refusal_of}
 use Rattle.cpn_document.proofs.ReadLists.{values_more, values_done}
@@ -14,10 +15,24 @@ returns-in_err-text c = record {
       rw p.1 (item_broken view c.args.list.now c.loop-number.number c.index-list-number.result c.loop-number-test.true c.index-list-number.is _ _ (refusal_of p.0) c.loop-number.invariant.rest (rw (p.2, c.in_err-text.ensures.finds) refl)));
 }
 
+pub loop-number-init : goal.loop-number-init
+unfolding each_declaration
+loop-number-init c = record {
+  values = rw c.in_ok-texts.ensures.items refl;
+  rest = refl;
+  len = c.in_ok-texts.ensures.len;
+  room = c.in_ok-texts.ensures.capacity;
+}
+
+pub push_reserved-requires : goal.push_reserved-requires
+push_reserved-requires c = omega (arith, c.loop-number.invariant.len, c.loop-number.invariant.room, c.loop-number-test.true)
+
 pub loop-number-preserved : goal.loop-number-preserved
 loop-number-preserved c = record {
-  values = rw c.in_ok-push.ensures.items (values_more view c.args.list.now c.loop-number.number c.index-list-number.result c.loop-number-test.true c.index-list-number.is text_in string_bytes c.loop-number.texts.items c.in_ok-copied.field-0 _ (c.in_ok-copied.ensures.text ∙ c.in_ok-text.ensures.finds.0) c.loop-number.invariant.values);
+  values = rw c.push_reserved.ensures.items (values_more view c.args.list.now c.loop-number.number c.index-list-number.result c.loop-number-test.true c.index-list-number.is text_in string_bytes c.loop-number.texts.items c.in_ok-copied.field-0 _ (c.in_ok-copied.ensures.text ∙ c.in_ok-text.ensures.finds.0) c.loop-number.invariant.values);
   rest = item_kept view c.args.list.now c.loop-number.number c.index-list-number.result c.loop-number-test.true c.index-list-number.is _ _ c.in_ok-text.ensures.finds.1 c.loop-number.invariant.rest;
+  len = omega (arith, c.push_reserved.ensures.len, c.loop-number.invariant.len);
+  room = rw c.push_reserved.ensures.capacity c.loop-number.invariant.room;
 }
 
 pub returns : goal.returns

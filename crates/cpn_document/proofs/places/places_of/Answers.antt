@@ -1,5 +1,5 @@
 -- Each item is the next one of the list, and is read or refused with it.
-use Rattle.std.proofs.Common.{arith}
+use Rattle.std.proofs.Common.{arith, refl}
 use Rattle.std.proofs.lemmas.Result.{err_from_is_err_and}
 use Rattle.serde_json.specs.View.{view}
 use Rattle.cpn_document.specs.Document.{place_in}
@@ -14,10 +14,23 @@ returns-in_err-place_of c = record {
       rw (p.1, p.2) (named_broken view c.args.list.now c.loop-number.number c.index-list-number.result c.loop-number-test.true c.index-list-number.is _ c.loop-number.names _ (refusal_of c.in_err-place_of.field-0.0) c.loop-number.invariant.rest c.in_err-place_of.ensures.gives));
 }
 
+pub loop-number-init : goal.loop-number-init
+loop-number-init c = record {
+  values = rw c.in_ok-places.ensures.items refl;
+  rest = refl;
+  len = c.in_ok-places.ensures.len;
+  room = c.in_ok-places.ensures.capacity;
+}
+
+pub push_reserved-requires : goal.push_reserved-requires
+push_reserved-requires c = omega (arith, c.loop-number.invariant.len, c.loop-number.invariant.room, c.loop-number-test.true)
+
 pub loop-number-preserved : goal.loop-number-preserved
 loop-number-preserved c = record {
-  values = rw c.in_ok-push.ensures.items (values_more view c.args.list.now c.loop-number.number c.index-list-number.result c.loop-number-test.true c.index-list-number.is place_in place_view c.loop-number.places.items c.in_ok-place_of.field-0 _ c.in_ok-place_of.ensures.gives.0 c.loop-number.invariant.values);
+  values = rw c.push_reserved.ensures.items (values_more view c.args.list.now c.loop-number.number c.index-list-number.result c.loop-number-test.true c.index-list-number.is place_in place_view c.loop-number.places.items c.in_ok-place_of.field-0 _ c.in_ok-place_of.ensures.gives.0 c.loop-number.invariant.values);
   rest = named_more view c.args.list.now c.loop-number.number c.index-list-number.result c.loop-number-test.true c.index-list-number.is _ c.loop-number.names c.place_of.new.names _ c.in_ok-place_of.ensures.names c.in_ok-place_of.ensures.gives.1 c.loop-number.invariant.rest;
+  len = omega (arith, c.push_reserved.ensures.len, c.loop-number.invariant.len);
+  room = rw c.push_reserved.ensures.capacity c.loop-number.invariant.room;
 }
 
 pub returns : goal.returns

@@ -11,7 +11,7 @@ use Rattle.cpn_accepted.specs.Views.{module_net_view, accepted_view}
 use Rattle.cpn_accepted.specs.declared.nets.ModuleNet.{ModuleNet}
 use Rattle.cpn_fuse.specs.Instances.{PlainInstance}
 use Rattle.cpn_readings.specs.Relations.{RefusesBy}
-use Rattle.cpn_flat.specs.Answers.{refusal_of as flat_refusal_of, GivesBy}
+use Rattle.cpn_flat.specs.Answers.{refusal_of as flat_refusal_of}
 use Rattle.cpn_flat.specs.Flat.{all_written, flat_in}
 use Rattle.cpn_flat.specs.FlatNet.{all_places}
 use Rattle.cpn_flat.specs.InitialMarking.{all_initials, AreAllMeant, started}
@@ -20,7 +20,7 @@ use Rattle.cpn_flat.specs.Parts.{AreItsParts}
 use Rattle.cpn_flat.specs.Placed.{AreOfModules}
 use Rattle.cpn_flat.specs.Refusals.{read}
 use Rattle.cpn_flat.specs.WellLoaded.{IsWellLoaded}
-use Rattle.cpn_flat.proofs.FlatConditions.{one_meaning, behind, of_modules, named_in, items, small, places_many, initials_many, places_each, places_few, net_meant, flat_well}
+use Rattle.cpn_flat.proofs.FlatConditions.{one_meaning, behind, of_modules, named_in, items, places_many, initials_many, places_each, places_few, net_meant, flat_well}
 use Rattle.cpn_flat.proofs.FlatMeanings.{net_is, not_flat, not_started, is_flat}
 use Rattle.cpn_flat.proofs.flattening.start_of.Goals as goal
 

@@ -1,5 +1,5 @@
 -- The list of its class has one more.
-use Rattle.std.proofs.Common.{◌∙◌, [], ◌∷◌, ◌++◌, ap, map}
+use Rattle.std.proofs.Common.{◌∙◌, [], ◌∷◌, ◌++◌, ap}
 use Rattle.std.proofs.lemmas.List.{map-append}
 use Rattle.cpn_flat.specs.WrittenViews.{referred_view, written_view}
 use Rattle.cpn_flat.proofs.WrittenLists.{pushed_at}

@@ -1,5 +1,5 @@
 -- One place instance more.
-use Rattle.std.proofs.Common.{◌≡◌, ◌∙◌, ◌++◌, [], option_map, slice_index_or, sym, ap, ap₂, arith}
+use Rattle.std.proofs.Common.{◌∙◌, ◌++◌, option_map, sym, ap₂, arith}
 use Rattle.std.proofs.lemmas.List.{take_all}
 use Rattle.cpn_flat.specs.InitialMarking.{added, written_in}
 use Rattle.cpn_flat.specs.WrittenViews.{referred_view, optional_view}

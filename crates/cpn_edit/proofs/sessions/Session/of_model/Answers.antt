@@ -21,11 +21,11 @@ returns c =
           valid = model_valid (record { seed = c.args.seed; steps = limits.steps; until = limits.until; seats = limits.seats }) (loaded_view c.args.model.loaded) (model_view c.args.model) c.requires.reads c.requires.ready c.requires.few_steps c.requires.in_time
               c.requires.some_seat c.requires.few_seats;
           declared = refl;
-          net = ap net_view c.in_ok-new.ensures.ok;
+          net = ap net_view c.in_ok-net.ensures.net;
           initial = refl;
-          functions = ap (λ m. funs_view m.funs.value) c.in_ok-new-2.ensures.ok ∙ c.requires.fit.functions_are;
-          monitors = ap monitors_view c.in_ok-new-2.ensures.ok;
-          phases = c.in_ok-phases_run.ensures.run;
+          functions = ap (λ m. funs_view m.funs.value) c.in_ok-net.ensures.monitors ∙ c.requires.fit.functions_are;
+          monitors = ap monitors_view c.in_ok-net.ensures.monitors;
+          phases = c.in_ok-net.ensures.phases;
           steps = omega arith;
           until = refl;
           seats = refl;
