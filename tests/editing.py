@@ -4,7 +4,8 @@ ones, and what is seen of them.
 import collections
 import re
 
-from measures import FAULTS, Fault
+import scripts  # by which the package is found
+from nockmango.model.faults import FAULTS, Fault
 from writing import VARIABLES, Writer, first_unknown, later, literal, marked, stamp, stamped, variables_in
 
 MOST_TOKENS = 60

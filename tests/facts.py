@@ -1,7 +1,7 @@
 """The facts of docs/GALLERY.md: what theory says of the nets of nets/, each with its sentence. tests/gallery checks them.
 
 A group is a net with its facts, and how many occurrences a run may have. A fact is a function whose docstring is its sentence: one of
-a marking gets the state after an occurrence (tests/replay.py), one of a run the run when it has ended, and one of all runs their list.
+a marking gets the state after an occurrence (nockmango.model), one of a run the run when it has ended, and one of all runs their list.
 The documents of a group may be changed from seed to seed. Numbers that are compared were worked out by hand in docs/GALLERY.md.
 """
 import collections
@@ -517,7 +517,7 @@ def four_items(state):
 @printer.run
 def printed_as_joined(run):
     """jobs are printed in the order in which they joined"""
-    joined = tuple(it["job"] for _, it in run.of("join"))
+    joined = [it["job"] for _, it in run.of("join")]
     return run.end == "dead" and len(joined) == 3 and run.last.one("Printer/Printed") == joined
 
 
@@ -808,17 +808,70 @@ def messages_arrive_in_order(run):
 @requests.run
 def each_request_is_answered(run):
     """the answers are 1 and 2, twice missing, and done for the three others"""
-    answers = collections.Counter((it.name, it.given) for it in run.last.counted("Server/Answers").elements())
+    answers = collections.Counter((it.constructor, it.argument) for it in run.last.counted("Server/Answers").elements())
     return answers == {("value", 1): 1, ("value", 2): 1, ("missing", None): 2, ("done", None): 3}
 
 
 @stack.run
 def six_by_nothing(run):
     """the run ends by the fault of 6 div (3 + ~3)"""
-    return run.end.startswith("fault 2 divide_by_zero") and run.last.one("Machine/Stack") == (0, 6)
+    return run.end.startswith("fault 2 divide_by_zero") and run.last.one("Machine/Stack") == [0, 6]
 
 
 @colours.run
 def each_kind_is_taken(run):
     """the one occurrence takes a token of each kind of colour set"""
     return len(run.occurrences) == 1 and run.last.counted("Top/Here") == count(7) and run.last.number("Top/R") == 0
+
+
+# ---- an office that is measured
+
+measured_office = Group("measured_office")
+WORKS = dict(zip(range(1, 11), [2] * 5 + [4] * 3 + [9] * 2))  # how long a service takes, by the tenth
+
+
+@measured_office.marking
+def the_line_is_counted(state):
+    """the tokens beside the list are as many as the customers in it, and the list is one token"""
+    return state.number("Office/Line") == 1 and state.number("Office/In Line") == len(state.one("Office/Line"))
+
+
+@measured_office.marking
+def one_is_served(state):
+    """the clerk is free or serves one customer"""
+    return state.number("Office/Free") + state.number("Office/In Service") == 1
+
+
+@measured_office.run
+def served_in_their_order(run):
+    """customers begin in the order in which they come, each once"""
+    begun = [it["n"] for _, it in run.of("begin")]
+    return begun == [*range(1, len(begun) + 1)]
+
+
+@measured_office.run
+def both_windows_take_500(run):
+    """both runs take 500, and in both the list counts as one token"""
+    lists = [part.monitors["list"] for part in run.parts]
+    ends = [("stop window", 500), ("stop window", 1000)]
+    is_one = all((it.least, it.greatest, it.last, it.area) == (1, 1, 1, 500) for it in lists)
+    return is_one and [(part.end, part.clock) for part in run.parts] == ends
+
+
+@measured_office.run
+def the_squares_are_added_up(run):
+    """the waiting times, their squares, and the numbers of long ones and of those who wait add up to what the bindings add up to"""
+    waits = [it["waited"] for _, it in run.of("finish")]
+    values = [[part.monitors[name] for part in run.parts] for name in ("waiting", "waiting squared", "long waits")]
+    sums = [sum(it.sum for it in found) for found in values]
+    waiting = sum(part.monitors["of those who wait"].count for part in run.parts)
+    wanted = [sum(waits), sum(it * it for it in waits), sum(it > 5 for it in waits)]
+    return sums == wanted and waiting == sum(it > 0 for it in waits)
+
+
+@measured_office.all
+def the_clerk_works_4_of_6(runs):
+    """customers come 6 apart and are served for 4 on average, within five standard deviations"""
+    gaps = [it["gap"] for run in runs for _, it in run.of("arrive")]
+    works = [WORKS[it["tenth"]] for run in runs for _, it in run.of("begin")]
+    return is_near(sum(gaps), 6 * len(gaps), 2 * len(gaps)) and is_near(sum(works), 4 * len(works), 7 * len(works))

@@ -32,9 +32,11 @@ with # is a comment. In declarations, texts and answers \\xNN stands for a byte,
 import json
 import re
 
+import scripts  # by which the package is found
+from nockmango.model.faults import FAULTS
+
 NET = "nets/every_colour.json"
 ROW = re.compile(r"(\w+(?: \w+)?): (.*) ==> (.*)")
-FAULTS = "overflow divide_by_zero empty_list no_case not_in_colour bad_coefficient bad_delay too_large".split()
 TOKENS = {
     "x": "7",
     "y": "~2",

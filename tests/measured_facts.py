@@ -2,7 +2,9 @@
 import itertools
 import re
 
+import scripts  # by which the package is found
 from facts import Group, place_of, set_value
+from nockmango import Count, Size, StopCount, Value
 
 # ---- what monitors measure
 
@@ -26,7 +28,7 @@ any_batch = Group("production_cell", "production_cell, its batch drawn", change=
 @desk.run
 def the_queue_is_as_by_hand(run):
     """the queue sums up to 12 and the clerk's work to 20 of 25, and five customers wait 12"""
-    wanted = ["size 0 2 0 12 queue", "size 0 1 0 20 busy", "value 5 12 0 6 0 waiting", "count 5 served"]
+    wanted = {"queue": Size(0, 2, 0, 12), "busy": Size(0, 1, 0, 20), "waiting": Value(5, 12, 0, 6, 0), "served": Count(5)}
     return run.end == "dead" and run.clock == 25 and run.monitors == wanted
 
 
@@ -43,10 +45,10 @@ def waits(document):
 @any_desk.run
 def the_queue_is_what_is_waited(run):
     """the queue sums up over the time to what the customers wait, and the clerk's work to their services"""
-    (service, found, free), lines = waits(run.document), [it.split() for it in run.monitors]
-    queue, busy, waiting, served = [[int(number) for number in it[1:-1]] for it in lines]
-    values = [len(found), sum(found), min(found), max(found), 0]
-    return (queue[3], busy[3], waiting, served, run.clock) == (sum(found), service * len(found), values, [len(found)], free)
+    (service, found, free), of = waits(run.document), run.monitors
+    values = Value(len(found), sum(found), min(found), max(found), 0)
+    measured = of["queue"].area, of["busy"].area, of["waiting"], of["served"], run.clock
+    return measured == (sum(found), service * len(found), values, Count(len(found)), free)
 
 
 STATIONS = {"Press": ("load", "press"), "Drill": ("transfer", "drill")}
@@ -68,7 +70,8 @@ def the_robot_holds_one_part(state):
 @cell.run
 def the_cell_is_as_by_hand(run):
     """the third part is delivered at 36; the robot is idle for 16 of that, the press works for 22, and the drill for 12"""
-    wanted = ["stop_count 3 three parts", "count 4 loaded", "size 0 1 1 16 robot idle", "size 0 1 1 22 press", "size 0 1 0 12 drill"]
+    sizes = {"robot idle": Size(0, 1, 1, 16), "press": Size(0, 1, 1, 22), "drill": Size(0, 1, 0, 12)}
+    wanted = {"three parts": StopCount(3), "loaded": Count(4), **sizes}
     return run.end == "stop three parts" and run.clock == 36 and run.monitors == wanted
 
 
@@ -76,7 +79,7 @@ def the_cell_is_as_by_hand(run):
 def each_part_takes_10(run):
     """a batch of k parts is delivered at 6 + 10k"""
     batch = run.document["monitors"][0]["n"]
-    return run.end == "stop three parts" and run.clock == 6 + 10 * batch and run.monitors[0] == f"stop_count {batch} three parts"
+    return run.end == "stop three parts" and run.clock == 6 + 10 * batch and run.monitors["three parts"] == StopCount(batch)
 
 
 # ---- several runs
@@ -122,16 +125,16 @@ def machines_are_free_or_work(state):
 @packing.run
 def the_line_is_as_by_hand(run):
     """with 2 jars the line seals 15 in the first 80 and then 16, each on the line for 10; with 4 jars it seals 16, each there for 20"""
-    lines = [part.monitors[1] for part in run.parts]
-    there = ["value 15 148 8 10 0 lead time", "value 16 160 10 10 0 lead time", "value 16 320 20 20 0 lead time"]
-    return [*lines[:2], lines[3]] == there and [(part.end, part.clock) for part in run.parts] == [("stop window", 80 * k) for k in (1, 2, 3, 4)]
+    times = [part.monitors["lead time"] for part in run.parts]
+    there = [Value(15, 148, 8, 10, 0), Value(16, 160, 10, 10, 0), Value(16, 320, 20, 20, 0)]
+    return [*times[:2], times[3]] == there and [(part.end, part.clock) for part in run.parts] == [("stop window", 80 * k) for k in (1, 2, 3, 4)]
 
 
 @any_packing.run
 def a_jar_leaves_each_5(run):
     """with n jars one leaves each 5, after 5n"""
     n = int(run.document["phases"][2]["edits"][0]["text"].split()[-1])
-    return run.parts[3].monitors[1] == f"value 16 {16 * 5 * n} {5 * n} {5 * n} 0 lead time"
+    return run.parts[3].monitors["lead time"] == Value(16, 16 * 5 * n, 5 * n, 5 * n, 0)
 
 
 def begins(times, machines):
@@ -146,8 +149,8 @@ def begins(times, machines):
 @dispatching.run
 def the_jobs_wait_as_by_hand(run):
     """the jobs wait 29 in the order of the list and 11 with the shortest first, and 3 on two machines, where all is done at 9"""
-    wanted = [("dead", 14, ["value 4 29 0 13 0 waiting"]), ("dead", 14, ["value 4 11 0 7 0 waiting"]), ("dead", 9, ["value 4 3 0 2 0 waiting"])]
-    return run.parts == wanted
+    waiting = Value(4, 29, 0, 13, 0), Value(4, 11, 0, 7, 0), Value(4, 3, 0, 2, 0)
+    return run.parts == [("dead", clock, {"waiting": it}) for clock, it in zip((14, 14, 9), waiting)]
 
 
 @dispatching.run
@@ -161,4 +164,4 @@ def no_order_waits_less(run):
     """the jobs wait as the list orders them, and then least of all orders, on one machine and on two"""
     times = [int(it) for it in re.findall(r", (\d+)\)", place_of(run.document, "Queue")["initial"])]
     least = [min(sum(begins(it, machines)[0]) for it in itertools.permutations(times)) for machines in (1, 2)]
-    return [int(part.monitors[0].split()[2]) for part in run.parts] == [sum(begins(times, 1)[0]), *least]
+    return [part.monitors["waiting"].sum for part in run.parts] == [sum(begins(times, 1)[0]), *least]

@@ -7,7 +7,7 @@
 Each block goes up to a blank line. OPTIONS are those of `words_of`, such as --seats 3; --beside NAME is the net of that name, a file of nets/ or
 tests/nets/. NET is such a name, with edits, as in tests/run. The calls of the rows are the schedule, and the rows are what has to be printed;
 blanks round a | do not count. A cell `"` is that of the row above, and one alone behind the answer stands for all five. After an answer
-`end ..` stands the report, or, after `end for want of memory`, some lines of one. A line that begins with # is a comment.
+`end ..` stand the lines of the run as a report has them, or, after `end for want of memory`, some of them. A line that begins with # is a comment.
 
 Where the last line is `= LINE`, the lines above it are the schedule as it stands, and LINE says why it has no table: the program refuses it with that
 line and status 1, or it does not make one of the calls, which is then `error schedule line NUMBER: WHY`. Comments and blank lines are no calls.

@@ -1,10 +1,11 @@
-"""The scripts of the repository, which have no ending, as modules."""
+"""The scripts of the repository, which have no ending, as modules. It also lets the package nockmango of python/ be found."""
 import importlib.machinery
 import importlib.util
 import os
 import sys
 
 TOP = os.path.dirname(os.path.dirname(os.path.abspath(__file__)))
+sys.path.insert(1, f"{TOP}/python")
 
 
 def loaded(path):

@@ -1,10 +1,11 @@
-"""The flat net of a document of several modules, read as plainly as can be, for tests/random_hierarchies: its instances, its compound
-places, and the document of one module that it is.
+"""The flat net of a document of several modules, for tests/random_hierarchies: the document of one module that it is, and what has to be
+printed of it. Its instances and its compound places are those of nockmango.model.unfolding.
 """
-import collections
 import re
 
+import scripts  # by which the package is found
 from measures import Made
+from nockmango.model.unfolding import compound, instances, named
 
 # What is declared: of each colour set the declaration, what its values are, and whether it is timed. Two of them agree where
 # the last two are equal.
@@ -24,76 +25,6 @@ COLOURS = {
 VALUES = {"int": (0, 1, 2, 3), "0..1": (0, 1), "0..2": (0, 1, 2), "bool": (False, True)}
 DECLARATIONS = [f"colset {name} = {body};" for name, (body, *_) in COLOURS.items()]
 DECLARATIONS += ["var x, y : INT;", "var u : THREE;", "var b, c : BOOL;", "var z : NUMBER;"]
-
-
-def named(items, name):
-    """Returns the one of this name, or None."""
-    return next((it for it in items if it["name"] == name), None)
-
-
-def module_named(doc, name):
-    return named(doc["modules"], name)
-
-
-# ---- the flat net
-
-LIMITS = {"instances": 4096, "places": 16384, "transitions": 16384}
-
-
-def counted(doc, name, known=None):
-    """Returns how many instances, places and transitions a module unfolds to. `known` has those of some modules."""
-    known = {} if known is None else known
-    if name not in known:
-        module = module_named(doc, name)
-        of_parts = [counted(doc, sub["module"], known) for sub in module["subs"]]
-        own = {"instances": 1, "places": len(module["places"]), "transitions": len(module["transitions"])}
-        known[name] = {key: count + sum(it[key] for it in of_parts) for key, count in own.items()}
-    return known[name]
-
-
-def passed_limit(doc):
-    """Returns the refusal of the first limit that the flat net passes, or None."""
-    counts = counted(doc, doc["top"])
-    for number, (key, most) in enumerate(LIMITS.items(), 1):
-        if counts[key] > most:
-            return f"error net flat {number} {key}"
-    return None
-
-
-def instances(doc, name, path):
-    """Yields the instances in preorder, from one of the module of this name on: each one's name, and its module."""
-    module = module_named(doc, name)
-    yield path, module
-    for sub in module["subs"]:
-        yield from instances(doc, sub["module"], f"{path}/{sub['name']}")
-
-
-def joined(doc, found):
-    """Yields the pairs of place instances that are joined, each as the name of the instance and the place."""
-    for path, module in found:
-        for sub in module["subs"]:
-            for it in sub["assign"]:
-                yield (f"{path}/{sub['name']}", it["port"]), (path, it["socket"])
-    for fusion in doc["fusions"]:
-        fused = [(path, it["place"]) for it in fusion["members"] for path, module in found if module["name"] == it["module"]]
-        for one in fused:
-            for other in fused:
-                yield one, other
-
-
-def compound(doc, found):
-    """Returns the compound places, in order: the members of each, in order."""
-    places = [(path, place["name"]) for path, module in found for place in module["places"]]
-    first = {place: number for number, place in enumerate(places)}
-    pairs, before = [*joined(doc, found)], None
-    while first != before:
-        before = dict(first)
-        for one, other in pairs:
-            first[one] = first[other] = min(first[one], first[other])
-    groups = collections.defaultdict(list)
-    for place in places:
-        groups[first[place]].append(place)
-    return [groups[number] for number in sorted(groups)]
 
 
 class Flat:

@@ -6,7 +6,8 @@ import collections
 import itertools
 import re
 
-from measures import Fault
+import scripts  # by which the package is found
+from nockmango.model.faults import Fault
 
 LATEST = 2**62
 

@@ -12,7 +12,7 @@ use Rattle.cpn_log.specs.Kept.{IsKept}
 use Rattle.cpn_log.specs.Logs.{head_of, claims_made, opened}
 use Rattle.cpn_log.specs.LogViews.{log_view, jobs_in}
 use Rattle.cpn_definitions.proofs.RisingLists.{each_appended}
-use Rattle.cpn_monitor.specs.Views.{values_view}
+use Rattle.cpn_monitor.specs.Views.{measuring_view}
 use Rattle.cpn_runs.specs.Commits.{marked_from, stop_at_last}
 use Rattle.cpn_runs.proofs.Cuts.{owes_none}
 use Rattle.cpn_runs.specs.HoleRun.{PlainClaim}
@@ -61,7 +61,7 @@ pub record HasClaimed (setup : PlainSetup) (old new : Standing) (seat : ℕ) : T
   pub clock : new.clock ≡ old.clock
   pub cut : new.cut ≡ old.cut
   pub occurrences : new.occurrences ≡ old.occurrences
-  pub values : new.values ≡ old.values
+  pub measuring : new.measuring ≡ old.measuring
   pub claims : (log_view new.log).claims ≡ (log_view old.log).claims ++ opened seat drawn.element old.clock needs ∷ []
   pub committed : (log_view new.log).committed ≡ (log_view old.log).committed
   pub settled : (log_view new.log).settled ≡ (log_view old.log).settled
@@ -146,9 +146,9 @@ module _ (setup : PlainSetup) (old new : Standing) (seat : ℕ) (is : IsAt setup
           ∙ ap (numbered 0) (sym (take-append-le (length (log_view old.log).committed) is.at.state.claims (made ∷ []) first_few))
           ∙ ap (λ hs. numbered 0 (take (length hs) (is.at.state.claims ++ made ∷ []))) (sym did.committed);
       measured =
-          measured_alike setup old.clock new.clock (committed_of is.at.state old) (committed_of after new) (values_view old.values) (values_view new.values) did.clock
+          measured_alike setup old.clock new.clock (committed_of is.at.state old) (committed_of after new) (measuring_view old.measuring) (measuring_view new.measuring) did.clock
           (ap (λ hs. take (length hs) (is.at.state.claims ++ made ∷ [])) did.committed ∙ take-append-le (length (log_view old.log).committed) is.at.state.claims (made ∷ []) first_few)
-          (ap values_view did.values) is.at.measured;
+          (ap measuring_view did.measuring) is.at.measured;
       made_now =
           subst (WereMadeAt new.clock) (sym claims_are)
           (made_at_same old.clock new.clock ((log_view old.log).claims ++ made ∷ []) did.clock

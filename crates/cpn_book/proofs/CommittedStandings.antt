@@ -10,11 +10,11 @@ use Rattle.cpn_jobs.specs.Views.{job_view}
 use Rattle.cpn_log.specs.Kept.{IsKept}
 use Rattle.cpn_log.specs.Logs.{PlainLog, head_of, with_committed}
 use Rattle.cpn_log.specs.LogViews.{log_view, jobs_in}
-use Rattle.cpn_monitor.specs.Fitting.{AreMeasured}
+use Rattle.cpn_monitor.specs.Kept.{AreKept, KeepsNext, FindsStop, values_until}
 use Rattle.cpn_monitor.specs.MonitorValues.{values_of}
 use Rattle.cpn_monitor.specs.MeasuredRuns.{MarkedOccurrence, MeasuredRun, with_occurrence}
 use Rattle.cpn_monitor.specs.Stops.{stop_after}
-use Rattle.cpn_monitor.specs.Views.{values_view}
+use Rattle.cpn_monitor.specs.Views.{measuring_view}
 use Rattle.cpn_runs.specs.HoleRun.{PlainClaim, Status, open_claim, done_with, faulted_with, is_done, is_open}
 use Rattle.cpn_runs.specs.MeasuredStates.{run_of, values_in}
 use Rattle.cpn_runs.specs.Playable.{IsPlayable}
@@ -87,7 +87,7 @@ still_through setup old mid new first second = record {
 
 module _ (setup : PlainSetup) (old new : Standing) (claim : PlainClaim) (rest : List PlainClaim) (first : (log_view old.log).claims ≡ claim ∷ rest) (done : is_done claim.status ≡ true)
     (log_is : log_view new.log ≡ with_committed (log_view old.log) claim rest) (kept : IsKept (log_view new.log)) (jobs_left : jobs_in new.log ≡ drop 1 (jobs_in old.log))
-    (others : new ≡ record old { log = new.log; occurrences = new.occurrences; values = new.values })
+    (others : new ≡ record old { log = new.log; occurrences = new.occurrences; measuring = new.measuring })
     (occurrences : occurrences_in new ≡ occurrences_in old ++ record { number = length (log_view old.log).committed; time = claim.time; element = claim.element } ∷ []) where
   module _ (at : IsToldAt setup old) (goes_on : NoneStops setup at.state (log_view old.log)) where
     pub told : IsTold setup (events_in new) at.state (log_view new.log) new.held.items
@@ -131,8 +131,8 @@ module _ (setup : PlainSetup) (old new : Standing) (claim : PlainClaim) (rest : 
       occurrences = occurrences;
     }
 
-    module _ (marked : MarkedOccurrence) (marked_so : marked ≡ marked_claim (log_view old.log).settled claim)
-        (noted : (run : MeasuredRun) → AreMeasured setup.functions setup.monitors run (values_view old.values) → run.last_clock ≤ marked.occurrence.time → AreMeasured setup.functions setup.monitors (with_occurrence marked run) (values_view new.values)) where
+    module _ (playable : IsPlayable setup) (marked : MarkedOccurrence) (marked_so : marked ≡ marked_claim (log_view old.log).settled claim)
+        (noted : KeepsNext setup.net setup.functions setup.monitors marked (measuring_view old.measuring) (measuring_view new.measuring)) where
       -- where monitors have noted it, the run is told there still
       abbrev pub committed_told : IsToldAt setup new
       committed_told = record {
@@ -145,8 +145,8 @@ module _ (setup : PlainSetup) (old new : Standing) (claim : PlainClaim) (rest : 
             ∙ ap (λ cs. drop 1 (map (job_for setup.net) (map head_of cs))) first ∙ ap (λ (l : PlainLog). map (job_for setup.net) (map head_of l.claims)) (sym log_is);
         occurrences = occurrences_more;
         measured =
-            measured_alike setup old.clock new.clock (front ++ claim ∷ []) (committed_of at.state new) (values_view new.values) (values_view new.values) (ap (λ (s : Standing). s.clock) others) one_more refl
-            (noted_measured setup old at claim rest first marked (values_view new.values) marked_so noted);
+            measured_alike setup old.clock new.clock (front ++ claim ∷ []) (committed_of at.state new) (measuring_view new.measuring) (measuring_view new.measuring) (ap (λ (s : Standing). s.clock) others) one_more refl
+            (noted_measured setup old at claim rest first playable marked (measuring_view new.measuring) marked_so noted);
         made_now =
             subst (λ (l : PlainLog). AllByRecursion (λ (k : PlainClaim). k.time ≡ new.clock) l.claims) (sym log_is)
             (made_at_same old.clock new.clock rest (ap (λ (s : Standing). s.clock) others) (now setup old at claim rest first).1);
@@ -156,9 +156,9 @@ module _ (setup : PlainSetup) (old new : Standing) (claim : PlainClaim) (rest : 
       -- the monitor that stops the run after it, if one does, is the one that they tell
       pub stop_is
           : (stop : Option ℕ)
-          → ((run : MeasuredRun) → AreMeasured setup.functions setup.monitors run (values_view old.values) → run.last_clock ≤ marked.occurrence.time → stop ≡ stop_after setup.monitors (run.occurrences ++ marked ∷ []) (length run.occurrences))
+          → (FindsStop setup.net setup.functions setup.monitors marked (measuring_view old.measuring) stop)
           → stop ≡ stop_behind setup at.state (log_view new.log)
-      stop_is stop is = stop_noted setup old at claim rest first marked marked_so stop is ∙ ap (λ cs. stop_at_last setup.monitors (marked_from setup.start cs)) (sym one_more)
+      stop_is stop is = stop_noted setup old at claim rest first playable marked marked_so stop is ∙ ap (λ cs. stop_at_last setup.monitors (marked_from setup.start cs)) (sym one_more)
 
 -- ---- nothing more can be committed
 
@@ -217,8 +217,8 @@ module _ (setup : PlainSetup) (old : Standing) (cut : PlainCut) (may : IsDueAt s
           ∙ ap (map (job_for setup.net)) (take-map head_of place (log_view old.log).claims ∙ ap (map head_of) (sym log_cut));
       occurrences = ap occurrences_in rest ∙ may.told.occurrences ∙ ap (numbered 0) (sym committed_same);
       measured =
-          measured_alike setup old.clock new.clock (committed_of state old) (committed_of (left_after state cut) new) (values_view old.values) (values_view new.values) (ap (λ (s : Standing). s.clock) rest) committed_same
-          (ap (λ (s : Standing). values_view s.values) rest) may.told.measured;
+          measured_alike setup old.clock new.clock (committed_of state old) (committed_of (left_after state cut) new) (measuring_view old.measuring) (measuring_view new.measuring) (ap (λ (s : Standing). s.clock) rest) committed_same
+          (ap (λ (s : Standing). measuring_view s.measuring) rest) may.told.measured;
       made_now =
           subst (AllByRecursion (λ (k : PlainClaim). k.time ≡ new.clock)) (sym log_cut)
           (made_at_same old.clock new.clock (take place (log_view old.log).claims) (ap (λ (s : Standing). s.clock) rest)
@@ -230,7 +230,7 @@ module _ (setup : PlainSetup) (old : Standing) (cut : PlainCut) (may : IsDueAt s
   }
 
 -- the values are those of the state
-pub values_are_in : (setup : PlainSetup) (s : Standing) (is : IsAt setup s) → IsPlayable setup → values_view s.values ≡ values_in setup is.at.state
+pub values_are_in : (setup : PlainSetup) (s : Standing) (is : IsAt setup s) → IsPlayable setup → values_until s.clock (measuring_view s.measuring).values ≡ values_in setup is.at.state
 values_are_in setup s is playable =
     is.at.measured.values_are
     ∙ ap (λ funs. values_of funs setup.monitors (run_of setup s.clock (committed_of is.at.state s))) playable.monitors.functions_are
@@ -250,7 +250,7 @@ told_but_journal setup old new at same items = record {
   cut = ap (λ (s : Standing). option_map cut_view s.cut) same ∙ at.cut;
   jobs = (let P : Standing → Type 0 = λ s. map job_view (jobs_in s.log) ≡ map (job_for setup.net) (map head_of (log_view s.log).claims) in subst P (sym same) at.jobs);
   occurrences = (let P : Standing → Type 0 = λ s. occurrences_in s ≡ numbered 0 (take (length (log_view s.log).committed) at.state.claims) in subst P (sym same) at.occurrences);
-  measured = (let P : Standing → Type 0 = λ s. AreMeasured setup.functions setup.monitors (run_of setup s.clock (committed_of at.state s)) (values_view s.values) in subst P (sym same) at.measured);
+  measured = (let P : Standing → Type 0 = λ s. AreKept setup.net setup.functions setup.monitors (run_of setup s.clock (committed_of at.state s)) (measuring_view s.measuring) in subst P (sym same) at.measured);
   made_now = (let P : Standing → Type 0 = λ s. AllByRecursion (λ (k : PlainClaim). k.time ≡ s.clock) (log_view s.log).claims in subst P (sym same) at.made_now);
   draw = λ none. ap (λ (s : Standing). s.draw) same ∙ at.draw none;
 }

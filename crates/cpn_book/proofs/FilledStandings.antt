@@ -15,7 +15,7 @@ use Rattle.cpn_jobs.specs.OutputsByWork.{work_makes}
 use Rattle.cpn_log.specs.Kept.{IsKept}
 use Rattle.cpn_log.specs.Logs.{head_of, with_status, changed_to}
 use Rattle.cpn_log.specs.LogViews.{log_view, job_in, jobs_in}
-use Rattle.cpn_monitor.specs.Views.{values_view}
+use Rattle.cpn_monitor.specs.Views.{measuring_view}
 use Rattle.cpn_runs.specs.Commits.{marked_from, stop_at_last}
 use Rattle.cpn_runs.specs.HoleRun.{PlainClaim}
 use Rattle.cpn_runs.specs.Playable.{IsPlayable}
@@ -128,9 +128,9 @@ module _ (setup : PlainSetup) (old : Standing) (is : IsAt setup old) (seat numbe
           ∙ ap (numbered 0) (sym (same_ahead is.at.state.claims done_claim number (length (log_view old.log).committed) behind))
           ∙ ap (λ hs. numbered 0 (take (length hs) (slice_set is.at.state.claims number done_claim))) (sym heads_same);
       measured =
-          measured_alike setup old.clock new.clock (committed_of is.at.state old) (committed_of after new) (values_view old.values) (values_view new.values) (ap (λ (s : Standing). s.clock) rest)
+          measured_alike setup old.clock new.clock (committed_of is.at.state old) (committed_of after new) (measuring_view old.measuring) (measuring_view new.measuring) (ap (λ (s : Standing). s.clock) rest)
           (ap (λ hs. take (length hs) (slice_set is.at.state.claims number done_claim)) heads_same ∙ same_ahead is.at.state.claims done_claim number (length (log_view old.log).committed) behind)
-          (ap (λ (s : Standing). values_view s.values) rest) is.at.measured;
+          (ap (λ (s : Standing). measuring_view s.measuring) rest) is.at.measured;
       made_now =
           subst (WereMadeAt new.clock) (sym log_done)
           (made_at_same old.clock new.clock (with_status (status_by result) (number - length (log_view old.log).committed) (log_view old.log).claims) (ap (λ (s : Standing). s.clock) rest)

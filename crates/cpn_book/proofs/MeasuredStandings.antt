@@ -10,11 +10,11 @@ use Rattle.cpn_definitions.specs.Occurrence.{PlainElement}
 use Rattle.cpn_log.proofs.LeftMarkings.{leaves}
 use Rattle.cpn_log.specs.LogViews.{log_view}
 use Rattle.cpn_log.specs.Logs.{with_status, changed_to}
-use Rattle.cpn_monitor.specs.Fitting.{AreMeasured, IsNext, MayNote}
-use Rattle.cpn_monitor.specs.MeasuredRuns.{MarkedOccurrence, MeasuredRun, with_occurrence}
-use Rattle.cpn_monitor.specs.MonitorValues.{PlainMonitorValue}
+use Rattle.cpn_monitor.specs.Fitting.{IsNext}
+use Rattle.cpn_monitor.specs.Kept.{PlainMeasuring, AreKept, MayNote, KeepsNext, FindsStop}
+use Rattle.cpn_monitor.specs.MeasuredRuns.{MarkedOccurrence, with_occurrence}
 use Rattle.cpn_monitor.specs.Stops.{stop_after}
-use Rattle.cpn_monitor.specs.Views.{values_view, marked_view}
+use Rattle.cpn_monitor.specs.Views.{measuring_view, marked_view}
 use Rattle.cpn_runs.specs.HoleRun.{PlainClaim, Status, after_claim, marking_left}
 use Rattle.cpn_runs.specs.MeasuredStates.{run_of}
 use Rattle.cpn_runs.specs.Playable.{IsPlayable}
@@ -28,15 +28,15 @@ use Rattle.cpn_book.proofs.CountedClaims.{first_are}
 
 -- the same values, of the same claims, by the same clock
 pub measured_alike
-    : (setup : PlainSetup) (clock clock' : ℕ) (claims claims' : List PlainClaim) (values values' : List PlainMonitorValue)
+    : (setup : PlainSetup) (clock clock' : ℕ) (claims claims' : List PlainClaim) (kept kept' : PlainMeasuring)
     → clock' ≡ clock
     → claims' ≡ claims
-    → values' ≡ values
-    → AreMeasured setup.functions setup.monitors (run_of setup clock claims) values
-    → AreMeasured setup.functions setup.monitors (run_of setup clock' claims') values'
-measured_alike setup clock clock' claims claims' values values' clocks same values_same are =
-    subst (AreMeasured setup.functions setup.monitors (run_of setup clock' claims')) (sym values_same)
-    (subst (λ run. AreMeasured setup.functions setup.monitors run values) (ap₂ (λ t cs. run_of setup t cs) (sym clocks) (sym same)) are)
+    → kept' ≡ kept
+    → AreKept setup.net setup.functions setup.monitors (run_of setup clock claims) kept
+    → AreKept setup.net setup.functions setup.monitors (run_of setup clock' claims') kept'
+measured_alike setup clock clock' claims claims' kept kept' clocks same kept_same are =
+    subst (AreKept setup.net setup.functions setup.monitors (run_of setup clock' claims')) (sym kept_same)
+    (subst (λ run. AreKept setup.net setup.functions setup.monitors run kept) (ap₂ (λ t cs. run_of setup t cs) (sym clocks) (sym same)) are)
 
 -- ---- claims that were made at the clock
 
@@ -91,8 +91,8 @@ module _ (setup : PlainSetup) (s : Standing) (at : IsToldAt setup s) (claim : Pl
   pub now : WereMadeAt s.clock (claim ∷ rest)
   now = subst (WereMadeAt s.clock) first at.made_now
 
-  measured_there : AreMeasured setup.functions setup.monitors (run_of setup at.state.clock front) (values_view s.values)
-  measured_there = measured_alike setup s.clock at.state.clock (committed_of at.state s) front (values_view s.values) (values_view s.values) (sym at.clock) (sym (first_are setup.start at.state.claims (log_view s.log) at.told.has)) refl at.measured
+  measured_there : AreKept setup.net setup.functions setup.monitors (run_of setup at.state.clock front) (measuring_view s.measuring)
+  measured_there = measured_alike setup s.clock at.state.clock (committed_of at.state s) front (measuring_view s.measuring) (measuring_view s.measuring) (sym at.clock) (sym (first_are setup.start at.state.claims (log_view s.log) at.told.has)) refl at.measured
 
   next : IsNextToTell setup at.state front claim (log_view s.log).settled
   next = record {
@@ -103,42 +103,42 @@ module _ (setup : PlainSetup) (s : Standing) (at : IsToldAt setup s) (claim : Pl
     covers = (left_parts (log_view s.log).settled claim rest (log_view s.log).unclaimed (ap (marking_left (log_view s.log).settled) (sym first) ∙ leaves (log_view s.log) at.told.kept)).0;
   }
 
-  -- monitors may note the next claim
-  pub may_note : IsPlayable setup → (marked : MarkedOccurrence) → marked ≡ marked_claim (log_view s.log).settled claim → MayNote setup.functions setup.monitors (values_view s.values) marked
+  -- monitors may be told of it
+  next_to_tell : IsPlayable setup → (marked : MarkedOccurrence) → marked ≡ marked_claim (log_view s.log).settled claim → IsNext setup.net (run_of setup at.state.clock front) marked
+  next_to_tell playable marked is = subst (λ o. IsNext setup.net (run_of setup at.state.clock front) o) (sym is) (may_be_told setup (events_in s) at.state playable at.told.reached front claim (log_view s.log).settled next)
+
+  -- so they may note it
+  pub may_note : IsPlayable setup → (marked : MarkedOccurrence) → marked ≡ marked_claim (log_view s.log).settled claim → MayNote setup.functions setup.monitors (measuring_view s.measuring) marked
   may_note playable marked is = record {
     net = setup.net;
     run = run_of setup at.state.clock front;
     fit = playable.monitors;
-    measured = measured_there;
-    next = subst (λ o. IsNext setup.net (run_of setup at.state.clock front) o) (sym is) (may_be_told setup (events_in s) at.state playable at.told.reached front claim (log_view s.log).settled next);
+    is_kept = measured_there;
+    next = next_to_tell playable marked is;
   }
 
   -- what they then measure
   pub noted_measured
-      : (marked : MarkedOccurrence) (values : List PlainMonitorValue)
+      : IsPlayable setup
+      → (marked : MarkedOccurrence) (kept : PlainMeasuring)
       → marked ≡ marked_claim (log_view s.log).settled claim
-      → ((run : MeasuredRun) → AreMeasured setup.functions setup.monitors run (values_view s.values) → run.last_clock ≤ marked.occurrence.time → AreMeasured setup.functions setup.monitors (with_occurrence marked run) values)
-      → AreMeasured setup.functions setup.monitors (run_of setup s.clock (front ++ claim ∷ [])) values
-  noted_measured marked values is noted =
-      let time : marked.occurrence.time ≡ claim.time = ap (λ (o : MarkedOccurrence). o.occurrence.time) is in
-      let made = now.0 in
-      let clock = at.clock in
-      subst (λ t. AreMeasured setup.functions setup.monitors (run_of setup t (front ++ claim ∷ [])) values) made
-      (subst (λ run. AreMeasured setup.functions setup.monitors run values) (sym (run_more setup at.state.clock front claim (log_view s.log).settled at.told.has.left))
-      (subst (λ o. AreMeasured setup.functions setup.monitors (with_occurrence o (run_of setup at.state.clock front)) values) is (noted (run_of setup at.state.clock front) measured_there (omega (arith, time, made, clock)))))
+      → KeepsNext setup.net setup.functions setup.monitors marked (measuring_view s.measuring) kept
+      → AreKept setup.net setup.functions setup.monitors (run_of setup s.clock (front ++ claim ∷ [])) kept
+  noted_measured playable marked kept is noted =
+      subst (λ t. AreKept setup.net setup.functions setup.monitors (run_of setup t (front ++ claim ∷ [])) kept) now.0
+      (subst (λ run. AreKept setup.net setup.functions setup.monitors run kept) (sym (run_more setup at.state.clock front claim (log_view s.log).settled at.told.has.left))
+      (subst (λ o. AreKept setup.net setup.functions setup.monitors (with_occurrence o (run_of setup at.state.clock front)) kept) is (noted (run_of setup at.state.clock front) measured_there (next_to_tell playable marked is))))
 
   -- which monitor then stops the run
   pub stop_noted
-      : (marked : MarkedOccurrence)
+      : IsPlayable setup
+      → (marked : MarkedOccurrence)
       → marked ≡ marked_claim (log_view s.log).settled claim
       → (stop : Option ℕ)
-      → ((run : MeasuredRun) → AreMeasured setup.functions setup.monitors run (values_view s.values) → run.last_clock ≤ marked.occurrence.time → stop ≡ stop_after setup.monitors (run.occurrences ++ marked ∷ []) (length run.occurrences))
+      → FindsStop setup.net setup.functions setup.monitors marked (measuring_view s.measuring) stop
       → stop ≡ stop_at_last setup.monitors (marked_from setup.start (front ++ claim ∷ []))
-  stop_noted marked is stop tells =
-      let time : marked.occurrence.time ≡ claim.time = ap (λ (o : MarkedOccurrence). o.occurrence.time) is in
-      let made = now.0 in
-      let clock = at.clock in
-      tells (run_of setup at.state.clock front) measured_there (omega (arith, time, made, clock))
+  stop_noted playable marked is stop tells =
+      tells (run_of setup at.state.clock front) measured_there (next_to_tell playable marked is)
       ∙ stop_at_end setup (marked_from setup.start front) marked
       ∙ ap (λ o. stop_at_last setup.monitors (marked_from setup.start front ++ o ∷ [])) is
       ∙ ap (stop_at_last setup.monitors) (sym (marked_more setup.start front claim (log_view s.log).settled at.told.has.left))

@@ -9,8 +9,9 @@ use Rattle.cpn_index.specs.Index.{kept_in, clock_in, listed_in, IsIndexOf}
 use Rattle.cpn_index.specs.declared.index.Index.{Index}
 use Rattle.cpn_log.specs.Logs.{claims_made}
 use Rattle.cpn_log.specs.LogViews.{log_view}
-use Rattle.cpn_monitor.specs.Fitting.{AreMeasured, MayClose}
-use Rattle.cpn_monitor.specs.Views.{values_view}
+use Rattle.cpn_monitor.proofs.ToldRuns.{kept_at_clock}
+use Rattle.cpn_monitor.specs.Kept.{MayClose}
+use Rattle.cpn_monitor.specs.Views.{measuring_view}
 use Rattle.cpn_runs.specs.HoleRun.{PlainClaim}
 use Rattle.cpn_runs.specs.MeasuredStates.{run_of}
 use Rattle.cpn_runs.specs.Playable.{IsPlayable}
@@ -48,20 +49,21 @@ claims_below setup s is playable not_all =
     let same = counted setup s is.at in
     omega (arith, few, same, not_all)
 
+-- monitors may count until its clock
+pub may_close : (book : Book) → IsBook book → IsRunning book → MayClose (measuring_view book.standing.measuring) book.standing.clock
+may_close book is running = record {
+  up_to = running.at.at.measured.up_to;
+  in_time =
+      (let bounds = (every_state_has_bounds (setup_in book) (journal_in book) running.at.at.state is.playable running.at.at.told.reached).clock in
+      let until = is.playable.until in
+      let clock = running.at.at.clock in omega (arith, bounds, until, clock));
+}
+
 -- ---- the move
 
 -- the next time is not before the clock
 pub next_not_before : (book : Book) (time : ℕ) → IsRunning book → next_time (index_in book) ≡ Some time → book.standing.clock ≤ time
 next_not_before book time running next = (next_is_least (setup_in book).net (log_view book.standing.log).unclaimed book.standing.clock time (index_in book) (enabled_now book running) next).not_before
-
--- monitors may count until the next time
-pub may_close : (book : Book) (time : ℕ) → IsBook book → IsRunning book → next_time (index_in book) ≡ Some time → time ≤ book.setup.limits.until → MayClose (setup_in book).functions (setup_in book).monitors (values_view book.standing.values) time
-may_close book time is running next in_time = record {
-  run = run_of (setup_in book) book.standing.clock (committed_of running.at.at.state book.standing);
-  measured = running.at.at.measured;
-  not_before = next_not_before book time running next;
-  in_time = (let until = is.playable.until in omega (arith, until, in_time));
-}
 
 module _ (book : Book) (time : ℕ) (running : IsRunning book) (none_ready : length (ready book.standing.clock (index_in book)) ≡ 0) (none_open : count_by is_some book.standing.held.items ≡ 0)
     (uncut : book.standing.cut ≡ None) (below : claims_made (log_view book.standing.log) < book.setup.limits.steps) (next : next_time (index_in book) ≡ Some time) (in_time : time ≤ book.setup.limits.until) where
@@ -99,10 +101,9 @@ module _ (book : Book) (time : ℕ) (running : IsRunning book) (none_ready : len
     pub moved_ready : 0 < length (ready time (listed_in index))
     moved_ready = subst (λ (es : List PlainEntry). 0 < length (ready time es)) (sym listed_now) (some_are_ready (setup_in book).net (log_view book.standing.log).unclaimed running.at.at.state.clock time (index_in book) enabled next)
 
-  module _ (s : Standing) (events : events_in s ≡ journal_in book ++ clock_moved time ∷ [])
-      (closed : AreMeasured (setup_in book).functions (setup_in book).monitors (run_of (setup_in book) time (committed_of running.at.at.state book.standing)) (values_view s.values)) where
+  module _ (s : Standing) (events : events_in s ≡ journal_in book ++ clock_moved time ∷ []) where
     abbrev pub moved_standing : Standing
-    moved_standing = record book.standing { clock = time; journal = s.journal; values = s.values }
+    moved_standing = record book.standing { clock = time; journal = s.journal }
 
     moved_at : IsAt (setup_in book) moved_standing
     moved_at =
@@ -115,7 +116,9 @@ module _ (book : Book) (time : ℕ) (running : IsRunning book) (none_ready : len
             cut = running.at.at.cut;
             jobs = running.at.at.jobs;
             occurrences = running.at.at.occurrences;
-            measured = closed;
+            measured =
+                kept_at_clock (setup_in book).net (setup_in book).functions (setup_in book).monitors (run_of (setup_in book) book.standing.clock (committed_of running.at.at.state book.standing)) time (measuring_view book.standing.measuring)
+                running.at.at.measured (next_not_before book time running next);
             made_now = subst (AllByRecursion (λ (claim : PlainClaim). claim.time ≡ time)) (sym all_in) tt;
             draw = running.at.at.draw;
           };

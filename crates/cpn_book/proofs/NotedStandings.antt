@@ -12,10 +12,9 @@ use Rattle.cpn_log.specs.Kept.{IsKept}
 use Rattle.cpn_log.specs.Logs.{PlainLog, begin_done, stands_done, head_of, claims_made, next_committed, with_committed}
 use Rattle.cpn_log.specs.LogViews.{log_view, jobs_in}
 use Rattle.cpn_log.specs.declared.logs.Log.{Log}
-use Rattle.cpn_monitor.specs.Fitting.{AreMeasured, MayNote}
-use Rattle.cpn_monitor.specs.MeasuredRuns.{MarkedOccurrence, MeasuredRun, with_occurrence}
-use Rattle.cpn_monitor.specs.Stops.{stop_after}
-use Rattle.cpn_monitor.specs.Views.{values_view, marked_view}
+use Rattle.cpn_monitor.specs.Kept.{MayNote, KeepsNext, FindsStop}
+use Rattle.cpn_monitor.specs.MeasuredRuns.{MarkedOccurrence}
+use Rattle.cpn_monitor.specs.Views.{measuring_view, marked_view}
 use Rattle.cpn_runs.specs.Commits.{marked_claim}
 use Rattle.cpn_runs.specs.HoleRun.{PlainClaim, after_claim}
 use Rattle.cpn_runs.specs.Playable.{IsPlayable}
@@ -51,16 +50,16 @@ module _ (setup : PlainSetup) (old : Standing) (may : MayCommit setup old) (next
   marked_so = marked_is occurrence (log_view log).settled next.claim (log_view old.log).settled is.element is.time settled_is
 
   -- monitors may note it
-  pub next_may_be_noted : IsPlayable setup → MayNote setup.functions setup.monitors (values_view old.values) (marked_view occurrence (log_view log).settled)
+  pub next_may_be_noted : IsPlayable setup → MayNote setup.functions setup.monitors (measuring_view old.measuring) (marked_view occurrence (log_view log).settled)
   next_may_be_noted playable = may_note setup old may.told next.claim next.rest next.first playable marked marked_so
 
   module _ (new : Standing) (occurrences : Vec Occurrence Global) (same : occurrences.items ≡ old.occurrences.items) (noted_items : new.occurrences.items ≡ occurrences.items ++ occurrence ∷ [])
-      (others : new ≡ record (record old { log = log; occurrences = occurrences }) { occurrences = new.occurrences; values = new.values }) where
+      (others : new ≡ record (record old { log = log; occurrences = occurrences }) { occurrences = new.occurrences; measuring = new.measuring }) where
     log_same : log_view new.log ≡ log_view log
     log_same = ap (λ (s : Standing). log_view s.log) others
 
-    others_so : new ≡ record old { log = new.log; occurrences = new.occurrences; values = new.values }
-    others_so = others ∙ ap (λ (l : Log). record old { log = l; occurrences = new.occurrences; values = new.values }) (sym (ap (λ (s : Standing). s.log) others))
+    others_so : new ≡ record old { log = new.log; occurrences = new.occurrences; measuring = new.measuring }
+    others_so = others ∙ ap (λ (l : Log). record old { log = l; occurrences = new.occurrences; measuring = new.measuring }) (sym (ap (λ (s : Standing). s.log) others))
 
     view_is : ◌≡◌ {A = PlainOccurrence} (occurrence_view occurrence) (record { number = length (log_view old.log).committed; time = next.claim.time; element = next.claim.element })
     view_is =
@@ -85,14 +84,14 @@ module _ (setup : PlainSetup) (old : Standing) (may : MayCommit setup old) (next
     pub next_still : StillCommitted setup old new
     next_still = committed_still setup old new next.claim next.rest next.first (is_done_next (log_view old.log) next) log_is kept_so jobs_so others_so occurrences_so may.told may.goes_on
 
-    module _ (stop : Option ℕ)
-        (measured : (run : MeasuredRun) → AreMeasured setup.functions setup.monitors run (values_view old.values) → run.last_clock ≤ marked.occurrence.time → AreMeasured setup.functions setup.monitors (with_occurrence marked run) (values_view new.values))
-        (tells : (run : MeasuredRun) → AreMeasured setup.functions setup.monitors run (values_view old.values) → run.last_clock ≤ marked.occurrence.time → stop ≡ stop_after setup.monitors (run.occurrences ++ marked ∷ []) (length run.occurrences)) where
+    module _ (playable : IsPlayable setup) (stop : Option ℕ)
+        (measured : KeepsNext setup.net setup.functions setup.monitors marked (measuring_view old.measuring) (measuring_view new.measuring))
+        (tells : FindsStop setup.net setup.functions setup.monitors marked (measuring_view old.measuring) stop) where
       abbrev told_so : IsToldAt setup new
-      told_so = committed_told setup old new next.claim next.rest next.first (is_done_next (log_view old.log) next) log_is kept_so jobs_so others_so occurrences_so may.told may.goes_on marked marked_so measured
+      told_so = committed_told setup old new next.claim next.rest next.first (is_done_next (log_view old.log) next) log_is kept_so jobs_so others_so occurrences_so may.told may.goes_on playable marked marked_so measured
 
       stop_so : stop ≡ stop_behind setup may.told.state (log_view new.log)
-      stop_so = stop_is setup old new next.claim next.rest next.first (is_done_next (log_view old.log) next) log_is kept_so jobs_so others_so occurrences_so may.told may.goes_on marked marked_so measured stop tells
+      stop_so = stop_is setup old new next.claim next.rest next.first (is_done_next (log_view old.log) next) log_is kept_so jobs_so others_so occurrences_so may.told may.goes_on playable marked marked_so measured stop tells
 
       -- where none of the monitors stops the run, what is next may be committed
       pub next_goes_on : stop ≡ None → MayCommit setup new

@@ -18,11 +18,12 @@ use Rattle.cpn_log.specs.Kept.{IsKept}
 use Rattle.cpn_log.proofs.LeftMarkings.{leaves}
 use Rattle.cpn_log.specs.Logs.{PlainLog, head_of, begin_done, claims_made, made_and_done, with_occurred}
 use Rattle.cpn_log.specs.LogViews.{log_view, jobs_in}
-use Rattle.cpn_monitor.specs.Fitting.{AreMeasured, IsNext, MayNote}
+use Rattle.cpn_monitor.specs.Fitting.{IsNext}
+use Rattle.cpn_monitor.specs.Kept.{PlainMeasuring, AreKept, MayNote, KeepsNext, FindsStop}
 use Rattle.cpn_monitor.specs.MeasuredRuns.{MarkedOccurrence, MeasuredRun, with_occurrence}
 use Rattle.cpn_monitor.specs.MonitorValues.{PlainMonitorValue}
 use Rattle.cpn_monitor.specs.Stops.{stop_after}
-use Rattle.cpn_monitor.specs.Views.{values_view, marked_view}
+use Rattle.cpn_monitor.specs.Views.{measuring_view, marked_view}
 use Rattle.cpn_runs.specs.HoleRun.{PlainClaim, done_with, marking_left}
 use Rattle.cpn_runs.specs.MeasuredStates.{run_of}
 use Rattle.cpn_runs.specs.Playable.{IsPlayable}
@@ -56,7 +57,7 @@ pub record HasOccurred (old new : Standing) (number : ℕ) (job : Job) (needs : 
   pub kept : IsKept (log_view new.log)
   pub occurrences : occurrences_in new ≡ occurrences_in old ++ record { number = number; time = job.time; element = element_view job.element.value } ∷ []
   pub events : events_in new ≡ events_in old ++ claim_made 0 number ∷ claim_completed 0 number ∷ []
-  pub others : new ≡ record old { log = new.log; journal = new.journal; occurrences = new.occurrences; values = new.values }
+  pub others : new ≡ record old { log = new.log; journal = new.journal; occurrences = new.occurrences; measuring = new.measuring }
 
 module _ (setup : PlainSetup) (old : Standing) (number : ℕ) (job : Job) (needs : List Needed) (due : IsDrawnClaim setup old number (job_view job) needs) (playable : IsPlayable setup) (none_open : count_by is_some old.held.items ≡ 0) where
   free : (s : ℕ) → s < setup.limits.seats → slice_get old.held.items s ≡ Some None
@@ -143,35 +144,39 @@ module _ (setup : PlainSetup) (old : Standing) (number : ℕ) (job : Job) (needs
     front_is : due.at.at.state.claims ≡ front
     front_is = due.at.at.told.has.claims_are ∙ ap (λ cs. front ++ cs) all_in ∙ append-nil front
 
-    measured_there : AreMeasured setup.functions setup.monitors (run_of setup due.at.at.state.clock front) (values_view old.values)
+    measured_there : AreKept setup.net setup.functions setup.monitors (run_of setup due.at.at.state.clock front) (measuring_view old.measuring)
     measured_there =
-        measured_alike setup old.clock due.at.at.state.clock (committed_of due.at.at.state (undrawn setup old)) front (values_view old.values) (values_view old.values) (sym clock_is)
+        measured_alike setup old.clock due.at.at.state.clock (committed_of due.at.at.state (undrawn setup old)) front (measuring_view old.measuring) (measuring_view old.measuring) (sym clock_is)
         (sym (first_are setup.start due.at.at.state.claims (log_view old.log) due.at.at.told.has)) refl due.at.at.measured
 
-    -- monitors may note it
-    pub may_note : IsKept (with_occurred (log_view old.log) done) → (marked : MarkedOccurrence) → marked ≡ marked_claim (log_view old.log).settled done → MayNote setup.functions setup.monitors (values_view old.values) marked
+    -- monitors may be told of it
+    next_to_tell : IsKept (with_occurred (log_view old.log) done) → (marked : MarkedOccurrence) → marked ≡ marked_claim (log_view old.log).settled done → IsNext setup.net (run_of setup due.at.at.state.clock front) marked
+    next_to_tell kept marked is =
+        subst (λ o. IsNext setup.net (run_of setup due.at.at.state.clock front) o) (sym is)
+        (may_be_told setup _ after playable (told_with_it kept).reached front done (log_view old.log).settled
+        (record { rest = []; claims_are = ap (λ cs. cs ++ done ∷ []) front_is; made_now = refl; left = due.at.at.told.has.left; covers = covers }))
+
+    -- so they may note it
+    pub may_note : IsKept (with_occurred (log_view old.log) done) → (marked : MarkedOccurrence) → marked ≡ marked_claim (log_view old.log).settled done → MayNote setup.functions setup.monitors (measuring_view old.measuring) marked
     may_note kept marked is = record {
       net = setup.net;
       run = run_of setup due.at.at.state.clock front;
       fit = playable.monitors;
-      measured = measured_there;
-      next =
-          subst (λ o. IsNext setup.net (run_of setup due.at.at.state.clock front) o) (sym is)
-          (may_be_told setup _ after playable (told_with_it kept).reached front done (log_view old.log).settled
-          (record { rest = []; claims_are = ap (λ cs. cs ++ done ∷ []) front_is; made_now = refl; left = due.at.at.told.has.left; covers = covers }));
+      is_kept = measured_there;
+      next = next_to_tell kept marked is;
     }
 
     -- what they then measure
     measured_with_it
-        : (marked : MarkedOccurrence) (values : List PlainMonitorValue)
+        : IsKept (with_occurred (log_view old.log) done)
+        → (marked : MarkedOccurrence) (values : PlainMeasuring)
         → marked ≡ marked_claim (log_view old.log).settled done
-        → ((run : MeasuredRun) → AreMeasured setup.functions setup.monitors run (values_view old.values) → run.last_clock ≤ marked.occurrence.time → AreMeasured setup.functions setup.monitors (with_occurrence marked run) values)
-        → AreMeasured setup.functions setup.monitors (run_of setup due.at.at.state.clock (due.at.at.state.claims ++ done ∷ [])) values
-    measured_with_it marked values is noted =
-        let time : marked.occurrence.time ≡ due.at.at.state.clock = ap (λ (o : MarkedOccurrence). o.occurrence.time) is in
-        subst (λ cs. AreMeasured setup.functions setup.monitors (run_of setup due.at.at.state.clock (cs ++ done ∷ [])) values) (sym front_is)
-        (subst (λ run. AreMeasured setup.functions setup.monitors run values) (sym (run_more setup due.at.at.state.clock front done (log_view old.log).settled due.at.at.told.has.left))
-        (subst (λ o. AreMeasured setup.functions setup.monitors (with_occurrence o (run_of setup due.at.at.state.clock front)) values) is (noted (run_of setup due.at.at.state.clock front) measured_there (omega (arith, time)))))
+        → KeepsNext setup.net setup.functions setup.monitors marked (measuring_view old.measuring) values
+        → AreKept setup.net setup.functions setup.monitors (run_of setup due.at.at.state.clock (due.at.at.state.claims ++ done ∷ [])) values
+    measured_with_it kept marked values is noted =
+        subst (λ cs. AreKept setup.net setup.functions setup.monitors (run_of setup due.at.at.state.clock (cs ++ done ∷ [])) values) (sym front_is)
+        (subst (λ run. AreKept setup.net setup.functions setup.monitors run values) (sym (run_more setup due.at.at.state.clock front done (log_view old.log).settled due.at.at.told.has.left))
+        (subst (λ o. AreKept setup.net setup.functions setup.monitors (with_occurrence o (run_of setup due.at.at.state.clock front)) values) is (noted (run_of setup due.at.at.state.clock front) measured_there (next_to_tell kept marked is))))
 
     -- the log when it has joined the committed claims, and its occurrence in the program
     module _ (log : Log) (joined : log_view log ≡ with_occurred (log_view old.log) (made_and_done 0 (element_view job.element.value) job.time needs outputs)) (kept : IsKept (log_view log))
@@ -184,11 +189,11 @@ module _ (setup : PlainSetup) (old : Standing) (number : ℕ) (job : Job) (needs
           marked_is occurrence (log_view log).settled done (log_view old.log).settled
           (element_is ∙ ap (λ (c : PlainClaim). c.element) done_is) (time_is ∙ ap (λ (c : PlainClaim). c.time) done_is) (ap (λ (l : PlainLog). l.settled) joined_so)
 
-      pub may_note_now : MayNote setup.functions setup.monitors (values_view old.values) (marked_view occurrence (log_view log).settled)
+      pub may_note_now : MayNote setup.functions setup.monitors (measuring_view old.measuring) (marked_view occurrence (log_view log).settled)
       may_note_now = may_note (subst IsKept joined_so kept) (marked_view occurrence (log_view log).settled) marked_now
 
     module _ (new : Standing) (did : HasOccurred old new number job needs outputs) (marked : MarkedOccurrence) (marked_so : marked ≡ marked_claim (log_view old.log).settled done)
-        (noted : (run : MeasuredRun) → AreMeasured setup.functions setup.monitors run (values_view old.values) → run.last_clock ≤ marked.occurrence.time → AreMeasured setup.functions setup.monitors (with_occurrence marked run) (values_view new.values)) where
+        (noted : KeepsNext setup.net setup.functions setup.monitors marked (measuring_view old.measuring) (measuring_view new.measuring)) where
       log_is : log_view new.log ≡ with_occurred (log_view old.log) done
       log_is = did.log ∙ ap (with_occurred (log_view old.log)) done_is
 
@@ -238,8 +243,8 @@ module _ (setup : PlainSetup) (old : Standing) (number : ℕ) (job : Job) (needs
             ∙ sym (numbered_more 0 due.at.at.state.claims done)
             ∙ ap (numbered 0) (sym taken);
         measured =
-            measured_alike setup due.at.at.state.clock new.clock (due.at.at.state.claims ++ done ∷ []) (committed_of after new) (values_view new.values) (values_view new.values)
-            (ap (λ (s : Standing). s.clock) did.others ∙ clock_is) taken refl (measured_with_it marked (values_view new.values) marked_so noted);
+            measured_alike setup due.at.at.state.clock new.clock (due.at.at.state.claims ++ done ∷ []) (committed_of after new) (measuring_view new.measuring) (measuring_view new.measuring)
+            (ap (λ (s : Standing). s.clock) did.others ∙ clock_is) taken refl (measured_with_it (subst IsKept log_is did.kept) marked (measuring_view new.measuring) marked_so noted);
         made_now = subst (λ (l : PlainLog). AllByRecursion (λ (claim : PlainClaim). claim.time ≡ new.clock) l.claims) (sym log_is) tt;
         draw = λ uncut. ap (λ (s : Standing). s.draw) did.others ∙ due.next_word ∙ ap (generator setup.seed) (let n = number_is in let more = length-append due.at.at.state.claims (done ∷ []) in omega (arith, n, more));
       }
@@ -247,16 +252,13 @@ module _ (setup : PlainSetup) (old : Standing) (number : ℕ) (job : Job) (needs
       -- no more can be committed then
       pub commits_no_more
           : (stop : Option ℕ)
-          → ((run : MeasuredRun) → AreMeasured setup.functions setup.monitors run (values_view old.values) → run.last_clock ≤ marked.occurrence.time → stop ≡ stop_after setup.monitors (run.occurrences ++ marked ∷ []) (length run.occurrences))
+          → (FindsStop setup.net setup.functions setup.monitors marked (measuring_view old.measuring) stop)
           → CommitsNoMore setup new stop
       commits_no_more stop tells = by stop stop_is
         where
-          time : marked.occurrence.time ≡ due.at.at.state.clock
-          time = ap (λ (o : MarkedOccurrence). o.occurrence.time) marked_so
-
           stop_is : stop ≡ stop_behind setup after (log_view new.log)
           stop_is =
-              tells (run_of setup due.at.at.state.clock front) measured_there (let t = time in omega (arith, t))
+              tells (run_of setup due.at.at.state.clock front) measured_there (next_to_tell (subst IsKept log_is did.kept) marked marked_so)
               ∙ stop_at_end setup (marked_from setup.start front) marked
               ∙ ap (λ o. stop_at_last setup.monitors (marked_from setup.start front ++ o ∷ [])) marked_so
               ∙ ap (stop_at_last setup.monitors) (sym (marked_more setup.start front done (log_view old.log).settled due.at.at.told.has.left))

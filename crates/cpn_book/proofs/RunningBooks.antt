@@ -14,7 +14,8 @@ use Rattle.cpn_jobs.specs.Work.{PlainWork}
 use Rattle.cpn_runs.specs.HoleRun.{is_open, marking_left}
 use Rattle.cpn_runs.specs.Playable.{IsPlayable}
 use Rattle.cpn_monitor.specs.MonitorValues.{PlainMonitorValue}
-use Rattle.cpn_monitor.specs.Views.{values_view}
+use Rattle.cpn_monitor.specs.Kept.{values_until}
+use Rattle.cpn_monitor.specs.Views.{measuring_view}
 use Rattle.cpn_runs.specs.MeasuredStates.{values_in}
 use Rattle.cpn_runs.specs.Run.{Outlook, HasOutlook, PlainFinished, IsRun}
 use Rattle.cpn_runs.specs.State.{committed_occurrences, PlainSetup, PlainState, PlainEvent, PlainCut, PlainEnd, dead, steps_made, until_passed, fault_end, stopped_by, wants_memory, IsState, EndsBy, HasCause, unclaimed_in, settled_in}
@@ -195,8 +196,8 @@ module _ (book : Book) (is : IsBook book) (running : IsRunning book) (none_held 
       let closing : HasOutlook (setup_in book) (log_view book.standing.log).unclaimed running.at.at.state.clock (outlook_at running.at.at.state.clock (index_in book)) = record { entries = index_in book; enabled = enabled_in book running; ready_count_is = refl; next_is = refl } in
       let run = run_is (setup_in book) (journal_in book) running.at.at.state (log_view book.standing.log) book.standing.held.items (stands_at (setup_in book) book.standing running.at) free start cause (outlook_view book.opening) (outlook_at running.at.at.state.clock (index_in book)) ends_so is.opening closing in
       let shown_at : List PlainOccurrence → ℕ → ℕ → List PlainMonitorValue → PlainFinished = λ os t u vs. record { opening = outlook_view book.opening; journal = journal_in book; occurrences = os; marking = (log_view book.standing.log).unclaimed; clock = t; cause = cause; closing = outlook_at u (index_in book); values = vs } in
-      let values : values_view book.standing.values ≡ values_in (setup_in book) running.at.at.state = values_are_in (setup_in book) book.standing running.at is.playable in
-      subst (λ u. IsRun (setup_in book) (shown_at (committed_in book) book.standing.clock u (values_view book.standing.values))) (sym (running.clock ∙ running.at.at.clock))
-      (subst (λ t. IsRun (setup_in book) (shown_at (committed_in book) t running.at.at.state.clock (values_view book.standing.values))) (sym running.at.at.clock)
-      (subst (λ os. IsRun (setup_in book) (shown_at os running.at.at.state.clock running.at.at.state.clock (values_view book.standing.values))) (sym (committed_are (setup_in book) book.standing running.at))
+      let values : values_until book.standing.clock (measuring_view book.standing.measuring).values ≡ values_in (setup_in book) running.at.at.state = values_are_in (setup_in book) book.standing running.at is.playable in
+      subst (λ u. IsRun (setup_in book) (shown_at (committed_in book) book.standing.clock u (values_until book.standing.clock (measuring_view book.standing.measuring).values))) (sym (running.clock ∙ running.at.at.clock))
+      (subst (λ t. IsRun (setup_in book) (shown_at (committed_in book) t running.at.at.state.clock (values_until book.standing.clock (measuring_view book.standing.measuring).values))) (sym running.at.at.clock)
+      (subst (λ os. IsRun (setup_in book) (shown_at os running.at.at.state.clock running.at.at.state.clock (values_until book.standing.clock (measuring_view book.standing.measuring).values))) (sym (committed_are (setup_in book) book.standing running.at))
       (subst (λ vs. IsRun (setup_in book) (shown_at (committed_occurrences (setup_in book) running.at.at.state) running.at.at.state.clock running.at.at.state.clock vs)) (sym values) run)))

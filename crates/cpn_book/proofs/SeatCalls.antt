@@ -38,7 +38,23 @@ sees_call numbers seat seen old new own c m = record {
   at_is = c.journal;
   setup = m.setup ∙ c.setup;
   journal = m.journal;
+  state = m.is_book.state;
+  reached = m.is_book.reached;
   spent = λ e. m.spent (c.spent e);
+}
+
+-- who rests and waits for none sees what was seen
+pub looks_itself : (numbers : List ℕ) (book : Book) → IsBook book → SeesCall numbers [] (seen_in book) (seen_in book)
+looks_itself numbers book is = record {
+  others = [];
+  apart = λ n among. refl;
+  at = journal_in book;
+  at_is = sym (append-nil (journal_in book));
+  setup = refl;
+  journal = sym (append-nil (journal_in book));
+  state = is.state;
+  reached = is.reached;
+  spent = λ e. e;
 }
 
 pub is_later : (numbers : List ℕ) (old new : Seen) (own : List PlainEvent) → SeesCall numbers own old new → IsLater old new

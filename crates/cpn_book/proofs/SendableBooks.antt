@@ -40,10 +40,10 @@ pub draw_sync : IsSync draw.the_row
 draw_sync = search sendable depth 20
 
 pub standing_send : IsSend standing.the_row
-standing_send = declared_send standing.the_type (search sendable depth 20, (logs.log_send, (std.Vec-send _ runs.event_send, (std.Vec-send _ nets.occurrence_send, (monitors.values_send, (draw_send, (search (std.crosses, sendable) depth 20, (search (cut_send, sendable) depth 20, tt))))))))
+standing_send = declared_send standing.the_type (search sendable depth 20, (logs.log_send, (std.Vec-send _ runs.event_send, (std.Vec-send _ nets.occurrence_send, (monitors.measuring_send, (draw_send, (search (std.crosses, sendable) depth 20, (search (cut_send, sendable) depth 20, tt))))))))
 
 pub standing_sync : IsSync standing.the_row
-standing_sync = declared_sync standing.the_type (search sendable depth 20, (logs.log_sync, (std.Vec-sync _ runs.event_sync, (std.Vec-sync _ nets.occurrence_sync, (monitors.values_sync, (draw_sync, (search (std.crosses, sendable) depth 20, (search (cut_sync, sendable) depth 20, tt))))))))
+standing_sync = declared_sync standing.the_type (search sendable depth 20, (logs.log_sync, (std.Vec-sync _ runs.event_sync, (std.Vec-sync _ nets.occurrence_sync, (monitors.measuring_sync, (draw_sync, (search (std.crosses, sendable) depth 20, (search (cut_sync, sendable) depth 20, tt))))))))
 
 pub book_send : IsSend book.the_row
 book_send = declared_send book.the_type (std.send, (runs.setup_send, (std.Vec-send _ (std.Arc-send _ jobs.work_send jobs.work_sync), (standing_send, (runs.outlook_send, (indexes.index_send, (search sendable depth 20, (search sendable depth 20, tt))))))))

@@ -5,7 +5,8 @@ use Rattle.cpn_index.specs.Index.{clock_in, listed_in, IsIndexOf}
 use Rattle.cpn_jobs.specs.Views.{work_view}
 use Rattle.cpn_jobs.specs.Work.{PlainWork}
 use Rattle.cpn_log.specs.LogViews.{log_view}
-use Rattle.cpn_monitor.specs.Views.{values_view}
+use Rattle.cpn_monitor.specs.Kept.{values_until}
+use Rattle.cpn_monitor.specs.Views.{measuring_view}
 use Rattle.cpn_runs.specs.Playable.{IsPlayable}
 use Rattle.cpn_runs.specs.Run.{HasOutlook, PlainFinished}
 use Rattle.cpn_definitions.specs.Legal.{PlainOccurrence}
@@ -78,5 +79,5 @@ shown book cause = record {
   clock = book.standing.clock;
   cause = cause;
   closing = outlook_at (clock_in book.index) (index_in book);
-  values = values_view book.standing.values;
+  values = values_until book.standing.clock (measuring_view book.standing.measuring).values;
 }

@@ -1,7 +1,11 @@
 -- What the commits of a run lead to, and which cut is owed then. Source: own choice.
 use Rattle.std.specs.Prelude.{◌≡◌, ℕ, ◌+◌, false, [], ◌∷◌, ◌++◌, length, Option, Some, None}
+use Rattle.cpn_core.specs.declared.occurrences.Occurrence.{Occurrence}
 use Rattle.cpn_log.specs.Logs.{begin_done}
 use Rattle.cpn_log.specs.LogViews.{log_view}
+use Rattle.cpn_monitor.specs.Kept.{MayNote, KeepsNext, FindsStop}
+use Rattle.cpn_monitor.specs.MeasuredRuns.{MarkedOccurrence}
+use Rattle.cpn_monitor.specs.Views.{measuring_view, marked_view}
 use Rattle.cpn_runs.specs.State.{PlainSetup, PlainState, PlainCut, IsDue, IsState, claim_completed, committed, owed_cut}
 use Rattle.cpn_runs.specs.Views.{end_view}
 use Rattle.cpn_runs.specs.declared.events.End.{End}
@@ -11,6 +15,21 @@ use Rattle.cpn_book.specs.States.{cut_events}
 use Rattle.cpn_book.specs.declared.committing.Commit.{Commit}
 use Rattle.cpn_book.specs.declared.committing.Commit.TheVariants as commits
 use Rattle.cpn_book.specs.declared.standings.Standing.{Standing}
+
+-- the occurrence of the claim that was committed last, with the marking after it
+abbrev pub last_marked : Standing → Occurrence → MarkedOccurrence
+last_marked s o = marked_view o (log_view s.log).settled
+
+-- the monitors may note it; what they keep is then kept of the run with it; and the first of them that stops the run after it is found
+abbrev pub MayNoteLast : PlainSetup → Standing → Occurrence → Type 0
+MayNoteLast setup s o = MayNote setup.functions setup.monitors (measuring_view s.measuring) (last_marked s o)
+
+abbrev pub KeepsLast : PlainSetup → Standing → Occurrence → Standing → Type 0
+KeepsLast setup old o new =
+    KeepsNext setup.net setup.functions setup.monitors (last_marked old o) (measuring_view old.measuring) (measuring_view new.measuring)
+
+abbrev pub FindsLastStop : PlainSetup → Standing → Occurrence → Option ℕ → Type 0
+FindsLastStop setup old o = FindsStop setup.net setup.functions setup.monitors (last_marked old o) (measuring_view old.measuring)
 
 -- The next claim may be committed, if it is done: no monitor stops the run after the last committed one.
 pub record MayCommit (setup : PlainSetup) (s : Standing) : Type 0 where

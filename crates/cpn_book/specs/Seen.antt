@@ -40,7 +40,7 @@ abbrev pub Later : Option Seen → Option Seen → Type 0
 Later old new = IfSeen old new IsLater
 
 -- A call of a seat with these numbers: first came claims and completions of others, with moves of the clock and cuts, up to the journal at
--- which the call was made; the last events are the call's own.
+-- which the call was made; the last events are the call's own. What is then seen leads to a state.
 pub record SeesCall (numbers : List ℕ) (own : List PlainEvent) (old new : Seen) : Type 0 where
   pub others : List PlainEvent
   pub apart : NoneBy numbers others
@@ -48,6 +48,8 @@ pub record SeesCall (numbers : List ℕ) (own : List PlainEvent) (old new : Seen
   pub at_is : at ≡ old.journal ++ others
   pub setup : new.setup ≡ old.setup
   pub journal : new.journal ≡ at ++ own
+  pub state : PlainState
+  pub reached : IsState new.setup new.journal state
   pub spent : old.spent ≡ true → new.spent ≡ true
 
 -- A claim: the answer is that of the state of the journal at which it was made. Its book was not spent, and is not.

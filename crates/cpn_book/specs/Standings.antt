@@ -9,8 +9,8 @@ use Rattle.cpn_jobs.specs.Views.{job_view}
 use Rattle.cpn_jobs.specs.Work.{PlainJob, work_of}
 use Rattle.cpn_log.specs.Logs.{PlainHead, head_of}
 use Rattle.cpn_log.specs.LogViews.{log_view, jobs_in}
-use Rattle.cpn_monitor.specs.Fitting.{AreMeasured}
-use Rattle.cpn_monitor.specs.Views.{values_view}
+use Rattle.cpn_monitor.specs.Kept.{AreKept}
+use Rattle.cpn_monitor.specs.Views.{measuring_view}
 use Rattle.cpn_runs.specs.HoleRun.{PlainClaim, is_done, marking_left}
 use Rattle.cpn_definitions.specs.Legal.{PlainOccurrence}
 use Rattle.cpn_runs.specs.MeasuredStates.{run_of}
@@ -54,7 +54,7 @@ pub record IsToldAt (setup : PlainSetup) (s : Standing) : Type 0 where
   pub cut : option_map cut_view s.cut ≡ state.cut
   pub jobs : map job_view (jobs_in s.log) ≡ map (job_for setup.net) (map head_of (log_view s.log).claims)
   pub occurrences : occurrences_in s ≡ numbered 0 (committed_of state s)
-  pub measured : AreMeasured setup.functions setup.monitors (run_of setup s.clock (committed_of state s)) (values_view s.values)
+  pub measured : AreKept setup.net setup.functions setup.monitors (run_of setup s.clock (committed_of state s)) (measuring_view s.measuring)
   pub made_now : AllByRecursion (λ claim. claim.time ≡ s.clock) (log_view s.log).claims
   pub draw : state.cut ≡ None → s.draw ≡ generator setup.seed (length state.claims)
 

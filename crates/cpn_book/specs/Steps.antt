@@ -21,10 +21,10 @@ pub record Follows (old new : Book) : Type 0 where
   pub events : journal_in new ≡ journal_in old ++ more
   pub committed : StillCommitted (setup_in old) old.standing new.standing
 
--- A book like another but for its clock and its journal, and what its monitors measure.
+-- A book like another but for its clock, its index and its journal.
 pub record IsMovedFrom (old new : Book) : Type 0 where
   pub book : new ≡ record old { standing = new.standing; index = new.index }
-  pub standing : new.standing ≡ record old.standing { clock = new.standing.clock; journal = new.standing.journal; values = new.standing.values }
+  pub standing : new.standing ≡ record old.standing { clock = new.standing.clock; journal = new.standing.journal }
 
 -- A book like another, but that it is spent, and for its index and its journal.
 pub record IsSpentFrom (old new : Book) : Type 0 where

@@ -6,6 +6,8 @@ ghost use Rattle.std.specs.Option.{is_some};
 ghost use Rattle.cpn_definitions.specs.Enabled.{ready};
 ghost use Rattle.cpn_log.specs.Logs.{claims_made};
 ghost use Rattle.cpn_log.specs.LogViews.{log_view};
+ghost use Rattle.cpn_monitor.specs.Kept.{MayClose};
+ghost use Rattle.cpn_monitor.specs.Views.{measuring_view};
 ghost use Rattle.cpn_runs.specs.GivingBack.{IsCutForMemory};
 ghost use Rattle.cpn_runs.specs.Playable.{IsPlayable};
 ghost use Rattle.cpn_runs.specs.Run.{IsRun};
@@ -68,6 +70,7 @@ impl Book {
         ensures setup { OnOk result (setup_in self.new ≡ setup_in self.old) }
         ensures end { IfOk result (λ cause. IsRun (setup_in self.new) (shown self.new (end_view cause))) }
         ensures goes_on { OnOk result (GoesOnAloneTo (setup_in self.old) (journal_in self.old) (journal_in self.new)) }
+        ensures closes { OnOk result (MayClose (measuring_view self.new.standing.measuring) self.new.standing.clock) }
     {
         if self.spent {
             return Err(Memory);

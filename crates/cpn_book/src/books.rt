@@ -334,7 +334,7 @@ impl Book {
         Advanced::Moved(time)
     }
 
-    /// Moves the clock to the next time, where nothing is ready and no claim is open; the monitors measure up to it.
+    /// Moves the clock to the next time, where nothing is ready and no claim is open.
     pub(crate) fn move_to(&mut self, time: u64)
         requires kept { IsBook self.old }
         requires running { IsRunning self.old }
@@ -350,7 +350,6 @@ impl Book {
         ensures same { IsMovedFrom self.old self.new }
     {
         self.standing.journal.push_reserved(Event::Move { time });
-        self.setup.monitors.close(&mut self.standing.values, time);
         self.standing.clock = time;
         self.index.advance_to(time);
     }

@@ -3,13 +3,9 @@
 ghost use Rattle.std.specs.Prelude.{◌≡◌, ◌+◌, ◌<◌, ◌≤◌, [], ◌∷◌, ◌++◌, length, IfOk, OnOk, vec_len, vec_capacity};
 ghost use Rattle.cpn_log.specs.Logs.{claims_made};
 ghost use Rattle.cpn_log.specs.LogViews.{log_view};
-ghost use Rattle.cpn_monitor.specs.Fitting.{AreMeasured, MayNote};
-ghost use Rattle.cpn_monitor.specs.MeasuredRuns.{MeasuredRun, with_occurrence};
-ghost use Rattle.cpn_monitor.specs.Stops.{stop_after};
-ghost use Rattle.cpn_monitor.specs.Views.{values_view, marked_view};
 ghost use Rattle.cpn_runs.specs.FinishedViews.{setup_view};
 ghost use Rattle.cpn_runs.specs.Playable.{IsPlayable};
-ghost use Rattle.cpn_book.specs.Committing.{MayCommit, CommitsNoMore, CommitLeads};
+ghost use Rattle.cpn_book.specs.Committing.{MayCommit, CommitsNoMore, CommitLeads, MayNoteLast, KeepsLast, FindsLastStop};
 ghost use Rattle.cpn_book.specs.Standings.{StillCommitted};
 
 use crate::standings::Standing;
@@ -99,18 +95,16 @@ pub(crate) fn note_last(
     standing: &mut Standing,
     occurrence: Occurrence,
 ) -> Result<Option<u64>, Memory>
-    requires may { MayNote (setup_view setup.now).functions (setup_view setup.now).monitors (values_view standing.old.values) (marked_view occurrence (log_view standing.old.log).settled) }
+    requires may { MayNoteLast (setup_view setup.now) standing.old occurrence }
     requires room { vec_len standing.old.occurrences < vec_capacity standing.old.occurrences }
-    ensures measured { OnOk result ((run : MeasuredRun) → AreMeasured (setup_view setup.now).functions (setup_view setup.now).monitors run (values_view standing.old.values) → run.last_clock ≤ occurrence.time
-        → AreMeasured (setup_view setup.now).functions (setup_view setup.now).monitors (with_occurrence (marked_view occurrence (log_view standing.old.log).settled) run) (values_view standing.new.values)) }
-    ensures stop { IfOk result (λ stop. (run : MeasuredRun) → AreMeasured (setup_view setup.now).functions (setup_view setup.now).monitors run (values_view standing.old.values) → run.last_clock ≤ occurrence.time
-        → stop ≡ stop_after (setup_view setup.now).monitors (run.occurrences ++ marked_view occurrence (log_view standing.old.log).settled ∷ []) (length run.occurrences)) }
+    ensures measured { OnOk result (KeepsLast (setup_view setup.now) standing.old occurrence standing.new) }
+    ensures stop { IfOk result (FindsLastStop (setup_view setup.now) standing.old occurrence) }
     ensures occurrences { standing.new.occurrences.items ≡ standing.old.occurrences.items ++ occurrence ∷ [] }
-    ensures others { standing.new ≡ record standing.old { occurrences = standing.new.occurrences; values = standing.new.values } }
+    ensures others { standing.new ≡ record standing.old { occurrences = standing.new.occurrences; measuring = standing.new.measuring } }
 {
     let noted = setup.monitors.note(
         alloc,
-        &mut standing.values,
+        &mut standing.measuring,
         &occurrence,
         standing.log.settled(),
     );

@@ -3,6 +3,8 @@
 ghost use Rattle.std.specs.Prelude.{◌≡◌, ◌<◌, Some, None, MatchOption};
 ghost use Rattle.std.specs.List.{count_by};
 ghost use Rattle.std.specs.Option.{is_some};
+ghost use Rattle.cpn_monitor.specs.Kept.{MayClose};
+ghost use Rattle.cpn_monitor.specs.Views.{measuring_view};
 ghost use Rattle.cpn_runs.specs.Run.{IsRun};
 ghost use Rattle.cpn_runs.specs.State.{PlainEnd, EndsBy};
 ghost use Rattle.cpn_runs.specs.Views.{end_view};
@@ -26,6 +28,7 @@ impl Book {
         ensures goes_on { result ≡ None → MayGoOn self.old }
         ensures setup { setup_in self.new ≡ setup_in self.old }
         ensures journal { journal_in self.new ≡ journal_in self.old }
+        ensures closes { MayClose (measuring_view self.new.standing.measuring) self.new.standing.clock }
     {
         if let Some(cut) = self.standing.cut.take() {
             return Some(cut.cause);
@@ -57,6 +60,7 @@ impl Book {
 
     /// What the run shows that has ended by a cause.
     pub(crate) fn ended(self, cause: End) -> Finished
+        requires closes { MayClose (measuring_view self.standing.measuring) self.standing.clock }
         ensures shown { finished_view result ≡ shown self (end_view cause) }
         ensures setup { setup_view result.setup ≡ setup_in self }
     {
@@ -72,9 +76,10 @@ impl Book {
             log,
             journal,
             occurrences,
-            values,
+            measuring,
             ..
         } = standing;
+        let values = setup.monitors.close(measuring, clock);
         Finished {
             setup,
             opening,

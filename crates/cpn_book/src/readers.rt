@@ -5,7 +5,6 @@ ghost use Rattle.std.specs.Option.{is_some};
 ghost use Rattle.cpn_definitions.specs.Bounds.{IsBounded};
 ghost use Rattle.cpn_definitions.specs.Legal.{Legal, timed};
 ghost use Rattle.cpn_definitions.specs.Sound.{IsMarking};
-ghost use Rattle.cpn_monitor.specs.Views.{values_view};
 ghost use Rattle.cpn_runs.specs.MeasuredStates.{values_in};
 ghost use Rattle.cpn_runs.specs.Bounds.{HasGrown};
 ghost use Rattle.cpn_runs.specs.FinishedViews.{setup_view};
@@ -15,7 +14,6 @@ ghost use Rattle.cpn_book.specs.Books.{setup_in, journal_in, is_spent_in, InStat
 ghost use Rattle.cpn_book.specs.States.{AreReady, IsNextTime, open_claims};
 
 use crate::books::Book;
-use cpn_monitor::Values14;
 use cpn_runs::{Event, Setup};
 use cpn_tmset::Marking;
 
@@ -63,15 +61,6 @@ impl Book {
         ensures in_time { result ≤ (setup_in self.now).limits.until }
     {
         self.standing.clock
-    }
-
-    /// What the monitors measure of the committed occurrences, up to the clock. It is asked of a book that is not spent.
-    pub fn values(&self) -> &Values14
-        requires kept { IsBook self.now }
-        requires unspent { is_spent_in self.now ≡ false }
-        ensures { InState self.now (λ state. values_view result.now ≡ values_in (setup_in self.now) state) }
-    {
-        &self.standing.values
     }
 
     /// Whether a cut stands. It is asked of a book that is not spent.

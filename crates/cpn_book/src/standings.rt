@@ -14,7 +14,7 @@ use cpn_core::{Memory, Occurrence};
 use cpn_draw::Draw;
 use cpn_jobs::Job;
 use cpn_log::{ClaimState, Log};
-use cpn_monitor::Values14;
+use cpn_monitor::Measuring;
 use cpn_runs::{End, Event, Setup};
 use std::alloc::Global;
 use std::sync::Arc;
@@ -37,8 +37,8 @@ pub(crate) struct Standing {
     pub(crate) journal: Vec<Event>,
     /// The occurrences of the committed claims.
     pub(crate) occurrences: Vec<Occurrence>,
-    /// What the monitors measure of these, up to the clock.
-    pub(crate) values: Values14,
+    /// What the monitors have measured of these.
+    pub(crate) measuring: Measuring,
     /// The words of the claims that are to come.
     pub(crate) draw: Draw,
     /// Of each seat the number of its open claim, where it has one.
@@ -58,14 +58,16 @@ pub(crate) fn at_start(alloc: Global, setup: &Setup) -> Result<Standing, Memory>
 {
     let journal = Vec::with_capacity(alloc, 1)?;
     let held = none_held(alloc, setup.limits.seats)?;
-    let values = setup.monitors.start(alloc, &setup.start, setup.clock)?;
+    let measuring = setup
+        .monitors
+        .start(alloc, &setup.net, &setup.start, setup.clock)?;
     let log = Log::start(alloc, setup.start.copy()?)?;
     Ok(Standing {
         clock: setup.clock,
         log,
         journal,
         occurrences: Vec::new(alloc),
-        values,
+        measuring,
         draw: Draw::new(setup.seed),
         held,
         cut: None,

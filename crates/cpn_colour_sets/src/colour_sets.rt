@@ -21,6 +21,7 @@ use cpn_core::{Colour, Memory, Shape};
 use cpn_declared::{Constructor, Decls, Meaning, Ty, TypeError, number_of};
 use cpn_trees::{Alternative, Body};
 use std::alloc::Global;
+use std::sync::Arc;
 
 fn copies_of(alloc: Global, names: &[String]) -> Result<Vec<String>, Memory>
     ensures same { IfOk result (λ copies. map string_bytes copies.items ≡ map string_bytes names.now) }
@@ -209,8 +210,9 @@ fn add_union(
         shapes,
         constructors,
     } = found;
+    let arguments = Arc::new(alloc, shapes)?;
     decls.add_union(constructors)?;
-    Ok(Shape::Union(number, shapes))
+    Ok(Shape::Union(number, arguments))
 }
 
 // Adds an enumeration, and gives its shape.
@@ -256,12 +258,13 @@ fn add_body(alloc: Global, decls: &mut Decls, name: &str, body: &Body) -> Result
         Body::String => Ok(Shape::Text),
         Body::Enumeration(constants) => add_enumeration(alloc, decls, name, constants.as_slice()),
         Body::Product(names) => {
-            let shapes = components(alloc, decls, names.as_slice())?;
+            let items = components(alloc, decls, names.as_slice())?;
+            let shapes = Arc::new(alloc, items)?;
             Ok(Shape::Tuple(shapes))
         }
         Body::List(item) => {
             let shape = component(alloc, decls, item.as_str())?;
-            Ok(Shape::List(Box::new(alloc, shape)?))
+            Ok(Shape::List(Arc::new(alloc, shape)?))
         }
         Body::Union(alternatives) => add_union(alloc, decls, name, alternatives.as_slice()),
         Body::Named(other) => {

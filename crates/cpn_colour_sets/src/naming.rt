@@ -110,15 +110,12 @@ pub fn type_named(alloc: Global, decls: &Decls, name: &str) -> Result<Ty, TypeEr
     }
 }
 
-/// The shape of a component: a copy of that of the colour set of the name.
+/// The shape of a component: that of the colour set of the name, which is shared.
 pub(crate) fn component(alloc: Global, decls: &Decls, name: &str) -> Result<Shape, TypeError>
     ensures exact { Answers shape_view result (component_of_rules (decls_view decls.now) name.now) }
 {
     match colour_named(alloc, decls, name) {
-        Ok(colour) => {
-            let copied = colour.copy()?;
-            Ok(copied.shape)
-        }
+        Ok(colour) => Ok(colour.shape.share()?),
         Err(error) => Err(error),
     }
 }

@@ -1,5 +1,6 @@
 -- The rows of a tuple's shapes and the values of a union's constructors, one shape or constructor at a time.
-use Rattle.std.proofs.Common.{◌≡◌, ℕ, zero, suc, ◌+◌, ◌*◌, ◌<◌, ◌≤◌, List, [], ◌∷◌, ◌++◌, map, length, get_or, drop, Option, Some, None, refl, sym, ap, ◌∙◌, arith, add-one, drop-cons, append_assoc, subst, Box, Global}
+use Rattle.std.proofs.Common.{◌≡◌, ℕ, zero, suc, ◌+◌, ◌*◌, ◌<◌, ◌≤◌, List, [], ◌∷◌, ◌++◌, map, length, get_or, drop, Option, Some, None, refl, sym, ap, ◌∙◌, arith, add-one, drop-cons, append_assoc, subst, Global}
+use Rattle.std.specs.declared.sync.Arc.{Arc}
 use Rattle.std.proofs.Math.Nat.{mul-suc, suc-mul}
 use Rattle.std.proofs.lemmas.List.{append-nil, drop_all, nil_from_length}
 use Rattle.cpn_definitions.specs.Value.{PlainValue, bare, applied, list, none}
@@ -91,7 +92,7 @@ all_constructed cs k listed all past so_far = sym (ap (λ (left : List (Option S
 -- ---- lists
 
 -- the empty list alone, where there are a few lists
-pub alone : (shape : Shape) (b : Box Shape Global) → shape ≡ views.List b → count_of (shape_view shape) ≤ 256 → list none ∷ [] ≡ values_in (shape_view shape)
+pub alone : (shape : Shape) (b : Arc Shape Global) → shape ≡ views.List b → count_of (shape_view shape) ≤ 256 → list none ∷ [] ≡ values_in (shape_view shape)
 alone shape b is few =
     let whole : shape_view shape ≡ list_shape (shape_view b.value) = ap shape_view is ∙ shape_list b in
     let few_lists : count_of (list_shape (shape_view b.value)) ≤ 256 = subst (λ p. count_of p ≤ 256) whole few in

@@ -37,10 +37,10 @@ pub text_sync : IsSync text.the_row
 text_sync = search (std.crosses, sendable) depth 20
 
 pub colour_send : IsSend colour.the_row
-colour_send = search (std.crosses, shapes.crosses, sendable) depth 60 fits 20000
+colour_send = search (std.crosses, shapes.crosses_both, sendable) depth 60 fits 20000
 
 pub colour_sync : IsSync colour.the_row
-colour_sync = search (std.crosses, shapes.crosses, sendable) depth 60 fits 20000
+colour_sync = search (std.crosses, shapes.crosses_both, sendable) depth 60 fits 20000
 
 pub element_send : IsSend element.the_row
 element_send = search (text_send, std.crosses, values.crosses, sendable) depth 60 fits 20000
@@ -103,10 +103,10 @@ pub transition_sync : IsSync transition.the_row
 transition_sync = declared_sync transition.the_type (search (std.crosses, sendable) depth 20, (std.Arc-sync _ guard_send guard_sync, (search (ops.the_field_send, ops.the_field_sync, text_send, text_sync, std.crosses, exprs.crosses, patterns.crosses, values.crosses, sendable) depth 60 fits 20000, (std.Vec-sync _ place_arc_sync, (std.Vec-sync _ place_arc_sync, (search (std.crosses, sendable) depth 20, tt))))))
 
 pub net_send : IsSend net.the_row
-net_send = declared_send net.the_type (search (std.crosses, shapes.crosses, sendable) depth 60 fits 20000, (std.Vec-send _ transition_send, (search (std.crosses, shapes.crosses, sendable) depth 60 fits 20000, (search (std.crosses, sendable) depth 20, (search (std.crosses, sendable) depth 20, (std.Arc-send _ funs_send funs_sync, tt))))))
+net_send = declared_send net.the_type (search (std.crosses, shapes.crosses_both, sendable) depth 60 fits 20000, (std.Vec-send _ transition_send, (search (std.crosses, shapes.crosses_both, sendable) depth 60 fits 20000, (search (std.crosses, sendable) depth 20, (search (std.crosses, sendable) depth 20, (std.Arc-send _ funs_send funs_sync, tt))))))
 
 pub net_sync : IsSync net.the_row
-net_sync = declared_sync net.the_type (search (std.crosses, shapes.crosses, sendable) depth 60 fits 20000, (std.Vec-sync _ transition_sync, (search (std.crosses, shapes.crosses, sendable) depth 60 fits 20000, (search (std.crosses, sendable) depth 20, (search (std.crosses, sendable) depth 20, (std.Arc-sync _ funs_send funs_sync, tt))))))
+net_sync = declared_sync net.the_type (search (std.crosses, shapes.crosses_both, sendable) depth 60 fits 20000, (std.Vec-sync _ transition_sync, (search (std.crosses, shapes.crosses_both, sendable) depth 60 fits 20000, (search (std.crosses, sendable) depth 20, (search (std.crosses, sendable) depth 20, (std.Arc-sync _ funs_send funs_sync, tt))))))
 
 -- what a `search` needs for a field that has values
 pub ruleset of_values = (text_send, text_sync, values.crosses)

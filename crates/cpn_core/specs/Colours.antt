@@ -23,8 +23,8 @@ shape_step Shape-F.Bool = boolean_shape
 shape_step (Shape-F.Int low high) = int_shape low high
 shape_step Shape-F.Text = text_shape
 shape_step (Shape-F.Enum number count) = constant_shape number count
-shape_step (Shape-F.Tuple ss) = tuple_shape (shapes_of ss.items)
-shape_step (Shape-F.Union number cs) = union_shape number (constructors_of cs.items)
+shape_step (Shape-F.Tuple ss) = tuple_shape (shapes_of ss.value.items)
+shape_step (Shape-F.Union number cs) = union_shape number (constructors_of cs.value.items)
 shape_step (Shape-F.List s) = list_shape s.value
 
 abbrev pub shape_view : Shape → PlainShape

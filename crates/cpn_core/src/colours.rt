@@ -7,9 +7,11 @@ ghost use Rattle.cpn_core.specs.Colours.{shape_view, shapes_view, constructors_v
 
 use crate::values::{Value, Values};
 use cpn_memory::Memory;
+use std::sync::Arc;
 
-/// The shape of the values of a colour set. Source: the colour sets of CPN ML, Jensen and Kristensen,
-/// chapter 3.
+/// The shape of the values of a colour set. The shapes that it is made of may be shared.
+///
+/// Source: the colour sets of CPN ML, Jensen and Kristensen, chapter 3.
 #[derive(Drop)]
 pub enum Shape {
     /// The unit colour set.
@@ -23,12 +25,12 @@ pub enum Shape {
     /// An enumeration, by its number in the net, and how many constants it has.
     Enum(u32, u32),
     /// The tuples of items of these shapes, one for one.
-    Tuple(Vec<Shape>),
+    Tuple(Arc<Vec<Shape>>),
     /// A union, by its number in the net, and its constructors, each without or with an argument of a
     /// shape.
-    Union(u32, Vec<Option<Shape>>),
+    Union(u32, Arc<Vec<Option<Shape>>>),
     /// The lists of items of one shape.
-    List(Box<Shape>),
+    List(Arc<Shape>),
 }
 
 /// A colour set: the shape of its values, and whether its tokens carry time stamps.
@@ -48,15 +50,37 @@ impl Colour {
         has_shape(value, &self.shape)
     }
 
-    /// A colour set of its own with the same shape.
+    /// The same colour set. It shares its shape.
     pub fn copy(&self) -> Result<Colour, Memory>
         ensures same { IfOk result (λ colour. colour_view colour ≡ colour_view self.now) }
     {
-        let shape = copy_shape(&self.shape)?;
+        let shape = self.shape.share()?;
         Ok(Colour {
             shape,
             timed: self.timed,
         })
+    }
+}
+
+impl Shape {
+    /// The same shape. It shares the shapes that it is made of.
+    #[tactic(auto, using(crate::proofs::ShapeLevels::shape_list, crate::proofs::ShapeLevels::shape_tuple, crate::proofs::ShapeLevels::shape_union))]
+    pub fn share(&self) -> Result<Shape, Memory>
+        ensures same { IfOk result (λ shape. shape_view shape ≡ shape_view self.now) }
+    {
+        match self {
+            Shape::Unit => Ok(Shape::Unit),
+            Shape::Bool => Ok(Shape::Bool),
+            Shape::Int { low, high } => Ok(Shape::Int {
+                low: *low,
+                high: *high,
+            }),
+            Shape::Text => Ok(Shape::Text),
+            Shape::Enum(number, count) => Ok(Shape::Enum(*number, *count)),
+            Shape::Tuple(shapes) => Ok(Shape::Tuple(shapes.clone()?)),
+            Shape::Union(number, constructors) => Ok(Shape::Union(*number, constructors.clone()?)),
+            Shape::List(item) => Ok(Shape::List(item.clone()?)),
+        }
     }
 }
 
@@ -167,55 +191,4 @@ fn are_printable(bytes: &[u8]) -> bool
         }
     }
     true
-}
-
-#[cycle(copy)]
-#[tactic(auto, using(crate::proofs::ShapeLevels::shape_list, crate::proofs::ShapeLevels::shape_union))]
-fn copy_shape(shape: &Shape) -> Result<Shape, Memory>
-    ensures same { IfOk result (λ copied. shape_view copied ≡ shape_view shape.now) }
-{
-    match shape {
-        Shape::Unit => Ok(Shape::Unit),
-        Shape::Bool => Ok(Shape::Bool),
-        Shape::Int { low, high } => Ok(Shape::Int {
-            low: *low,
-            high: *high,
-        }),
-        Shape::Text => Ok(Shape::Text),
-        Shape::Enum(number, count) => Ok(Shape::Enum(*number, *count)),
-        Shape::Tuple(shapes) => Ok(Shape::Tuple(copy_shapes(shapes)?)),
-        Shape::Union(number, constructors) => Ok(Shape::Union(
-            *number,
-            copy_constructors(constructors)?,
-        )),
-        Shape::List(item) => {
-            let copied = copy_shape(item)?;
-            Ok(Shape::List(Box::new(*Box::allocator(item), copied)?))
-        }
-    }
-}
-
-#[cycle(copy)]
-fn copy_shapes(shapes: &Vec<Shape>) -> Result<Vec<Shape>, Memory>
-    ensures same { IfOk result (λ copies. shapes_view copies.items ≡ shapes_view shapes.now.items) }
-{
-    let mut copies = Vec::with_capacity(*shapes.allocator(), shapes.len())?;
-    for shape in shapes {
-        copies.push(copy_shape(shape)?)?;
-    }
-    Ok(copies)
-}
-
-#[cycle(copy)]
-fn copy_constructors(constructors: &Vec<Option<Shape>>) -> Result<Vec<Option<Shape>>, Memory>
-    ensures same { IfOk result (λ copies. constructors_view copies.items ≡ constructors_view constructors.now.items) }
-{
-    let mut copies = Vec::with_capacity(*constructors.allocator(), constructors.len())?;
-    for constructor in constructors {
-        match constructor {
-            None => copies.push(None)?,
-            Some(shape) => copies.push(Some(copy_shape(shape)?))?,
-        }
-    }
-    Ok(copies)
 }

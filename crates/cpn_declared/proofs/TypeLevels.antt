@@ -1,15 +1,19 @@
 -- Types of the program, one level or one item at a time.
-use Rattle.std.proofs.Common.{◌≡◌, ℕ, zero, suc, ◌+◌, ◌<◌, min, ◌&&◌, nat_eq, List, [], ◌∷◌, length, map, get_or, drop, refl, sym, ap, ◌∙◌, arith, add-one, drop-cons, Box, Global, rules}
+use Rattle.std.proofs.Common.{◌≡◌, ℕ, zero, suc, ◌+◌, ◌<◌, min, ◌&&◌, nat_eq, List, [], ◌∷◌, length, map, get_or, drop, refl, sym, ap, ◌∙◌, arith, add-one, drop-cons, Global, Vec, rules}
+use Rattle.std.specs.declared.sync.Arc.{Arc}
 use Rattle.std.proofs.lemmas.Bool.Decides.{nat_tests}
 use Rattle.cpn_core.specs.Colours.{shape_view, shapes_view}
 use Rattle.cpn_core.specs.declared.colours.Shape.{Shape}
-use Rattle.cpn_typing.specs.Types.{lists, more_types, same_type, same_types, types_from, type_of_shape, types_of_shapes}
+use Rattle.cpn_typing.specs.Types.{lists, tuples, more_types, same_type, same_types, types_from, type_of_shape, types_of_shapes}
 use Rattle.cpn_declared.specs.TypeViews.{ty_view, tys_view}
 use Rattle.cpn_declared.specs.declared.types.Ty.{Ty, the_lemmas}
 use Rattle.cpn_declared.specs.declared.types.Ty.TheViews as views
 
-pub view_list : (b : Box Ty Global) → ty_view (views.List b) ≡ lists (ty_view b.value)
+pub view_list : (b : Arc Ty Global) → ty_view (views.List b) ≡ lists (ty_view b.value)
 view_list b = search (rules, the_lemmas)
+
+pub view_tuple : (ts : Arc (Vec Ty Global) Global) → ty_view (views.Tuple ts) ≡ tuples (tys_view ts.value.items)
+view_tuple ts = search (rules, the_lemmas)
 
 -- from an index on the types are the same where those there are and those after them are
 pub same_more : (ts us : List Ty) (i : ℕ) (t u : Ty) → i < length ts → i < length us → t ≡ get_or ts i t → u ≡ get_or us i u

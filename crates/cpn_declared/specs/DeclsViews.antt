@@ -1,6 +1,5 @@
 -- What the declarations of the program stand for.
-use Rattle.std.specs.Prelude.{List, map, string_bytes, String, option_map}
-use Rattle.std.specs.declared.alloc.Global.{Global}
+use Rattle.std.specs.Prelude.{List, map, string_bytes, option_map}
 use Rattle.cpn_core.specs.declared.colours.Colour.{Colour}
 use Rattle.cpn_core.specs.Colours.{colour_view}
 use Rattle.cpn_core.specs.Nets.{variable_view}
@@ -18,19 +17,19 @@ meaning_view (kinds.Constant enumeration position) = a_constant enumeration posi
 meaning_view (kinds.Constructor union position argument) = a_constructor union position (option_map ty_view argument)
 meaning_view (kinds.Function number parameters result) = a_function number (tys_view parameters.items) (ty_view result)
 
-abbrev pub colour_entry : String Global × Colour → NamedColour
-colour_entry e = record { name = string_bytes e.0; colour = colour_view e.1 }
+abbrev pub colour_entry : Name × Colour → NamedColour
+colour_entry e = record { name = e.0; colour = colour_view e.1 }
 
-abbrev pub meaning_entry : String Global × Meaning → NamedMeaning
-meaning_entry e = record { name = string_bytes e.0; meant = meaning_view e.1 }
+abbrev pub meaning_entry : Name × Meaning → NamedMeaning
+meaning_entry e = record { name = e.0; meant = meaning_view e.1 }
 
 abbrev pub constructor_view : Constructor → NamedConstructor
 constructor_view c = record { name = string_bytes c.name; argument = option_map ty_view c.argument }
 
 abbrev pub decls_view : Decls → Declared
 decls_view d = record {
-  colours = map colour_entry d.colours.entries;
-  names = map meaning_entry d.names.entries;
+  colours = map colour_entry d.colours;
+  names = map meaning_entry d.names;
   variables = map variable_view d.variables.items;
   enumerations = map (λ constants. map string_bytes constants.items) d.enumerations.items;
   unions = map (λ constructors. map constructor_view constructors.items) d.unions.items;

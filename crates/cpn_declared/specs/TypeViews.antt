@@ -11,7 +11,7 @@ ty_step Ty-F.Bool = bool_type
 ty_step Ty-F.Int = int_type
 ty_step Ty-F.Text = text_type
 ty_step (Ty-F.Enum number) = enumeration number
-ty_step (Ty-F.Tuple ts) = tuples (types_from ts.items)
+ty_step (Ty-F.Tuple ts) = tuples (types_from ts.value.items)
 ty_step (Ty-F.Union number) = union number
 ty_step (Ty-F.List t) = lists t.value
 

@@ -60,14 +60,14 @@ impl Decls {
     pub fn is_new_colour(&self, name: &str) -> bool
         ensures exact { result ≡ may_be_declared name.now (colour_names (decls_view self.now)) }
     {
-        !is_predeclared(name) && !self.colours.contains_key(name)
+        !is_predeclared(name) && !self.colours.has(name)
     }
 
     /// Whether anything but a colour set may be declared under the name.
     pub fn is_new_name(&self, name: &str) -> bool
         ensures exact { result ≡ may_be_declared name.now (other_names (decls_view self.now)) }
     {
-        !is_predeclared(name) && !self.names.contains_key(name)
+        !is_predeclared(name) && !self.names.has(name)
     }
 
     /// Adds a name with what it means, unless the name is not new.
@@ -81,11 +81,10 @@ impl Decls {
         ensures added { OnOk result (decls_view self.new ≡ with_names (decls_view self.old) (record { name = name.now; meant = meaning_view meaning } ∷ [])) }
         ensures unchanged { OnErr result (decls_view self.new ≡ decls_view self.old) }
     {
-        let key = String::from_str(alloc, name)?;
         if !self.is_new_name(name) {
-            return Err(TypeError::Duplicate(key));
+            return Err(TypeError::Duplicate(String::from_str(alloc, name)?));
         }
-        self.names.insert(key, meaning)?;
+        self.names.push(alloc, name, meaning)?;
         Ok(())
     }
 
@@ -99,8 +98,7 @@ impl Decls {
         ensures added { OnOk result (decls_view self.new ≡ with_one_colour (decls_view self.old) name.now (colour_view colour)) }
         ensures unchanged { OnErr result (decls_view self.new ≡ decls_view self.old) }
     {
-        let key = String::from_str(alloc, name)?;
-        self.colours.insert(key, colour)?;
+        self.colours.push(alloc, name, colour)?;
         Ok(())
     }
 

@@ -10,7 +10,7 @@ ghost use Rattle.cpn_declared.specs.DeclsViews.{decls_view, meaning_view};
 use crate::meanings::Meaning;
 use crate::types::Ty;
 use cpn_core::{Colour, Funs, Variable};
-use indexmap::IndexMap;
+use cpn_names::Named;
 use std::alloc::Global;
 
 /// A constructor of a union.
@@ -28,8 +28,8 @@ pub struct Constructor {
 /// Colour sets have names of their own; all others share one space of names.
 #[derive(Drop)]
 pub struct Decls {
-    pub(crate) colours: IndexMap<String, Colour>,
-    pub(crate) names: IndexMap<String, Meaning>,
+    pub(crate) colours: Named<Colour>,
+    pub(crate) names: Named<Meaning>,
     pub(crate) variables: Vec<Variable>,
     pub(crate) enumerations: Vec<Vec<String>>,
     pub(crate) unions: Vec<Vec<Constructor>>,
@@ -43,8 +43,8 @@ impl Decls {
         ensures consistent { IsConsistent (decls_view result) }
     {
         Decls {
-            colours: IndexMap::new(alloc),
-            names: IndexMap::new(alloc),
+            colours: Named::new(alloc),
+            names: Named::new(alloc),
             variables: Vec::new(alloc),
             enumerations: Vec::new(alloc),
             unions: Vec::new(alloc),

@@ -7,11 +7,14 @@ ghost use Rattle.cpn_declared.specs.TypeViews.{ty_view, tys_view};
 
 use cpn_core::{Memory, Shape};
 use std::alloc::Global;
+use std::sync::Arc;
 
 /// Several types, from left to right.
 pub type Tys = Vec<Ty>;
 
-/// The type of an inscription. Source: the simple types of CPN ML.
+/// The type of an inscription. The types that it is made of may be shared.
+///
+/// Source: the simple types of CPN ML.
 #[derive(Drop)]
 pub enum Ty {
     /// The type of `()`.
@@ -25,23 +28,33 @@ pub enum Ty {
     /// An enumeration, by its number.
     Enum(u32),
     /// Tuples, by the types of their parts.
-    Tuple(Tys),
+    Tuple(Arc<Tys>),
     /// A union, by its number.
     Union(u32),
     /// Lists of items of one type.
-    List(Box<Ty>),
+    List(Arc<Ty>),
 }
 
 impl Ty {
-    /// A type of its own that is the same.
+    /// The same type. It shares the types that it is made of.
     ///
     /// # Errors
     ///
     /// Memory is wanted.
+    #[tactic(auto, using(crate::proofs::TypeLevels::view_list, crate::proofs::TypeLevels::view_tuple))]
     pub fn copy(&self) -> Result<Ty, Memory>
         ensures same { IfOk result (λ copied. ty_view copied ≡ ty_view self.now) }
     {
-        copy_type(self)
+        match self {
+            Ty::Unit => Ok(Ty::Unit),
+            Ty::Bool => Ok(Ty::Bool),
+            Ty::Int => Ok(Ty::Int),
+            Ty::Text => Ok(Ty::Text),
+            Ty::Enum(number) => Ok(Ty::Enum(*number)),
+            Ty::Tuple(parts) => Ok(Ty::Tuple(parts.clone()?)),
+            Ty::Union(number) => Ok(Ty::Union(*number)),
+            Ty::List(item) => Ok(Ty::List(item.clone()?)),
+        }
     }
 
     /// Whether the two types are one.
@@ -68,37 +81,6 @@ pub fn are_same(left: &Tys, right: &Tys) -> bool
     ensures exact { result ≡ one_by_one (tys_view left.now.items) (tys_view right.now.items) }
 {
     same_types(left, right)
-}
-
-#[cycle(copy)]
-#[tactic(auto, using(crate::proofs::TypeLevels::view_list))]
-fn copy_type(ty: &Ty) -> Result<Ty, Memory>
-    ensures same { IfOk result (λ copied. ty_view copied ≡ ty_view ty.now) }
-{
-    match ty {
-        Ty::Unit => Ok(Ty::Unit),
-        Ty::Bool => Ok(Ty::Bool),
-        Ty::Int => Ok(Ty::Int),
-        Ty::Text => Ok(Ty::Text),
-        Ty::Enum(number) => Ok(Ty::Enum(*number)),
-        Ty::Tuple(parts) => Ok(Ty::Tuple(copy_types(parts)?)),
-        Ty::Union(number) => Ok(Ty::Union(*number)),
-        Ty::List(item) => {
-            let copied = copy_type(item)?;
-            Ok(Ty::List(Box::new(*Box::allocator(item), copied)?))
-        }
-    }
-}
-
-#[cycle(copy)]
-fn copy_types(types: &Tys) -> Result<Tys, Memory>
-    ensures same { IfOk result (λ copies. tys_view copies.items ≡ tys_view types.now.items) }
-{
-    let mut copies = Vec::with_capacity(*types.allocator(), types.len())?;
-    for ty in types {
-        copies.push(copy_type(ty)?)?;
-    }
-    Ok(copies)
 }
 
 #[cycle(same)]
@@ -168,11 +150,14 @@ fn shape_type(alloc: Global, shape: &Shape) -> Result<Ty, Memory>
         Shape::Int { low: _, high: _ } => Ok(Ty::Int),
         Shape::Text => Ok(Ty::Text),
         Shape::Enum(number, _) => Ok(Ty::Enum(*number)),
-        Shape::Tuple(shapes) => Ok(Ty::Tuple(shapes_types(alloc, shapes.as_slice())?)),
+        Shape::Tuple(shapes) => {
+            let types = shapes_types(alloc, shapes.as_slice())?;
+            Ok(Ty::Tuple(Arc::new(alloc, types)?))
+        }
         Shape::Union(number, _) => Ok(Ty::Union(*number)),
         Shape::List(item) => {
             let of_item = shape_type(alloc, item)?;
-            Ok(Ty::List(Box::new(alloc, of_item)?))
+            Ok(Ty::List(Arc::new(alloc, of_item)?))
         }
     }
 }

@@ -4,13 +4,15 @@ ghost use Rattle.std.specs.Prelude.{◌≡◌, ℕ, List, [], ◌∷◌, map, co
 ghost use Rattle.serde_json.specs.View.{view};
 ghost use Rattle.cpn_document.specs.Names.{texts_of as bytes_of};
 ghost use Rattle.cpn_document.specs.Parts.{items_at};
-ghost use Rattle.cpn_document.specs.Document.{at_arc as part_of_arc, each_arc, way_of as way_of_word, arc_in, arc_keys as keys_of_arc, arc_rules, arcs_rules};
+ghost use Rattle.cpn_document.specs.Document.{at_arc as part_of_arc, RawArc, way_of as way_of_word, arc_in, arc_keys as keys_of_arc, arc_rules, arcs_rules};
 ghost use Rattle.cpn_document.specs.Views.{arc_view};
 ghost use Rattle.cpn_document.specs.Rules.{first_broken};
 ghost use Rattle.cpn_document.specs.Answers.{Gives, refused_view};
 
 use crate::arc_counts::have_few_arcs;
 use crate::document::{Arc, Way};
+use crate::lists::{Item, items_of};
+use crate::modules::InModule;
 use crate::names::Names;
 use crate::parts::{
     keys_refusal, list_or_empty, list_refusal, name_refusal, optional_text, optional_text_refusal,
@@ -79,42 +81,33 @@ fn copied_arc(alloc: Global, value: &Value) -> Result<Arc, AllocError>
     })
 }
 
-/// The arc of a number.
-fn arc_of(
-    alloc: Global,
-    version: u64,
-    in_module: usize,
-    number: usize,
-    value: &Value,
-) -> Result<Arc, DocError>
-    ensures gives { Gives arc_view result (arc_in (view value.now)) (arc_rules version in_module number (view value.now)) }
-{
-    if let Some(refused) = arc_refusal(version, in_module, number, value) {
-        return Err(DocError::from(refused));
-    }
-    let arc = copied_arc(alloc, value)?;
-    Ok(arc)
-}
+impl Item for Arc {
+    type Within = InModule;
 
-/// The arcs of a list, in order.
-#[tactic(auto, unfolding(crate::specs::Document::each_arc))]
-fn arcs_of(
-    alloc: Global,
-    version: u64,
-    in_module: usize,
-    list: &[Value],
-) -> Result<Vec<Arc>, DocError>
-    ensures gives { Gives (λ arcs. map arc_view arcs.items) result (map arc_in (map view list.now)) (each_arc version in_module (map view list.now)) }
-{
-    let mut arcs = Vec::with_capacity(alloc, list.len())?;
-    for (number, value) in list.iter().enumerate() {
-        arcs.push_reserved(arc_of(alloc, version, in_module, number, value)?);
+    ghost Raw = { RawArc };
+
+    ghost seen = { arc_view };
+
+    ghost value_in = { arc_in };
+
+    ghost rules = { λ within. arc_rules within.version within.in_module };
+
+    fn read(
+        alloc: Global,
+        within: InModule,
+        number: usize,
+        value: &Value,
+    ) -> Result<Arc, DocError> {
+        if let Some(refused) = arc_refusal(within.version, within.in_module, number, value) {
+            return Err(DocError::from(refused));
+        }
+        let arc = copied_arc(alloc, value)?;
+        Ok(arc)
     }
-    Ok(arcs)
 }
 
 /// The arcs of a module, not too many at any of the transitions of these names.
-#[tactic(auto, using(crate::proofs::BrokenRules::in_groups), unfolding(crate::specs::Document::arcs_rules))]
+#[tactic(auto, using(crate::proofs::BrokenRules::in_groups), unfolding(crate::specs::Document::arcs_rules, crate::specs::Document::each_arc))]
 pub(crate) fn arcs_in(
     alloc: Global,
     version: u64,
@@ -129,7 +122,8 @@ pub(crate) fn arcs_in(
     if let Some(refused) = list_refusal(value, "arcs", whole, here) {
         return Err(DocError::from(refused));
     }
-    let arcs = arcs_of(alloc, version, in_module, list_or_empty(value, "arcs"))?;
+    let within = InModule { version, in_module };
+    let arcs = items_of(alloc, within, list_or_empty(value, "arcs"))?;
     if have_few_arcs(alloc, transitions, arcs.as_slice())? {
         Ok(arcs)
     } else {

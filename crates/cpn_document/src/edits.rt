@@ -3,12 +3,13 @@
 ghost use Rattle.std.specs.Prelude.{◌≡◌, Some, map, option_map, IfOk};
 ghost use Rattle.serde_json.specs.View.{view};
 ghost use Rattle.cpn_document.specs.Names.{texts_of as bytes_of};
-ghost use Rattle.cpn_document.specs.Phases.{form_of as form_of_word, form_in as form_told, edit_keys as keys_of_edit, at_edit as part_of_edit, change_in, form_rules, change_rules, edit_in, edit_rules, each_edit};
+ghost use Rattle.cpn_document.specs.Phases.{form_of as form_of_word, form_in as form_told, edit_keys as keys_of_edit, at_edit as part_of_edit, change_in, form_rules, change_rules, edit_in, edit_rules, RawEdit};
 ghost use Rattle.cpn_document.specs.Views.{edit_view};
 ghost use Rattle.cpn_document.specs.Rules.{first_broken};
 ghost use Rattle.cpn_document.specs.Answers.{Finds, Gives, refused_view};
 
 use crate::document::Edit;
+use crate::lists::Item;
 use crate::parts::{flat_name_refusal, keys_refusal, text_or_empty, text_refusal};
 use crate::pointers::{EditPart, PhasePart, Pointer};
 use crate::refusals::{DocError, Refused};
@@ -116,42 +117,46 @@ fn copied_edit(alloc: Global, form: EditForm, value: &Value) -> Result<Edit, All
     }
 }
 
-/// The edit of a number.
-#[tactic(auto, using(crate::proofs::BrokenRules::in_groups), unfolding(crate::specs::Phases::edit_rules))]
-fn edit_of(
-    alloc: Global,
-    version: u64,
-    in_phase: usize,
-    number: usize,
-    value: &Value,
-) -> Result<Edit, DocError>
-    ensures gives { Gives edit_view result (edit_in (view value.now)) (edit_rules version in_phase number (view value.now)) }
-{
-    let whole = at_edit(in_phase, number, EditPart::Whole);
-    if let Some(refused) = keys_refusal(value, edit_keys(version, form_in(value)), whole) {
-        return Err(DocError::from(refused));
-    }
-    let form = form_at_key(in_phase, number, value)?;
-    if let Some(refused) = change_refusal(in_phase, number, form, value) {
-        return Err(DocError::from(refused));
-    }
-    let edit = copied_edit(alloc, form, value)?;
-    Ok(edit)
+/// Where the edits of a phase stand: in a document of a version, by the number of the phase.
+#[derive(Clone, Copy)]
+pub(crate) struct InPhase {
+    /// The version of the document.
+    pub(crate) version: u64,
+    /// The number of the phase.
+    pub(crate) in_phase: usize,
 }
 
-/// The edits of a list, in order.
-#[tactic(auto, unfolding(crate::specs::Phases::each_edit))]
-pub(crate) fn edits_of(
-    alloc: Global,
-    version: u64,
-    in_phase: usize,
-    list: &[Value],
-) -> Result<Vec<Edit>, DocError>
-    ensures gives { Gives (λ edits. map edit_view edits.items) result (map edit_in (map view list.now)) (each_edit version in_phase (map view list.now)) }
-{
-    let mut edits = Vec::with_capacity(alloc, list.len())?;
-    for (number, value) in list.iter().enumerate() {
-        edits.push_reserved(edit_of(alloc, version, in_phase, number, value)?);
+impl Item for Edit {
+    type Within = InPhase;
+
+    ghost Raw = { RawEdit };
+
+    ghost seen = { edit_view };
+
+    ghost value_in = { edit_in };
+
+    ghost rules = { λ within. edit_rules within.version within.in_phase };
+
+    #[tactic(auto, using(crate::proofs::BrokenRules::in_groups), unfolding(crate::specs::Phases::edit_rules))]
+    fn read(
+        alloc: Global,
+        within: InPhase,
+        number: usize,
+        value: &Value,
+    ) -> Result<Edit, DocError> {
+        let whole = at_edit(within.in_phase, number, EditPart::Whole);
+        if let Some(refused) = keys_refusal(
+            value,
+            edit_keys(within.version, form_in(value)),
+            whole,
+        ) {
+            return Err(DocError::from(refused));
+        }
+        let form = form_at_key(within.in_phase, number, value)?;
+        if let Some(refused) = change_refusal(within.in_phase, number, form, value) {
+            return Err(DocError::from(refused));
+        }
+        let edit = copied_edit(alloc, form, value)?;
+        Ok(edit)
     }
-    Ok(edits)
 }

@@ -1,16 +1,18 @@
 //! The document that a JSON value is.
 
-ghost use Rattle.std.specs.Prelude.{◌≡◌, true, map, string_bytes, codes, option_map};
+ghost use Rattle.std.specs.Prelude.{◌≡◌, true, ℕ, List, map, string_bytes, codes, option_map};
 ghost use Rattle.serde_json.specs.View.{view};
 ghost use Rattle.cpn_document.specs.Names.{texts_of as bytes_of};
-ghost use Rattle.cpn_document.specs.Parts.{text_in, items_at};
-ghost use Rattle.cpn_document.specs.Document.{each_declaration, version_in as version_stated, version_rules, declarations_rules, document_in, document_keys as keys_of_document, document_rules};
+ghost use Rattle.cpn_document.specs.Parts.{text_in, text_in_rules, items_at};
+ghost use Rattle.cpn_document.specs.Document.{version_in as version_stated, version_rules, declarations_rules, document_in, document_keys as keys_of_document, document_rules};
 ghost use Rattle.cpn_document.specs.Views.{document_view};
 ghost use Rattle.cpn_document.specs.Rules.{first_broken};
 ghost use Rattle.cpn_document.specs.Answers.{Gives, refused_view};
+ghost use Rattle.cpn_document.specs.declared.pointers.Pointer.TheVariants as at;
 
 use crate::document::Document;
 use crate::fusions::fusions_in;
+use crate::lists::{Item, items_of};
 use crate::modules::modules_in;
 use crate::monitors::monitors_in;
 use crate::parts::{
@@ -75,17 +77,22 @@ fn version_refusal(value: &Value, stated: u64) -> Option<Refused>
     }
 }
 
-/// The texts of a list, in order.
-#[tactic(auto, unfolding(crate::specs::Document::each_declaration))]
-fn declarations_of(alloc: Global, list: &[Value]) -> Result<Vec<String>, DocError>
-    ensures gives { Gives (λ texts. map string_bytes texts.items) result (map text_in (map view list.now)) (each_declaration (map view list.now)) }
-{
-    let mut texts = Vec::with_capacity(alloc, list.len())?;
-    for (number, value) in list.iter().enumerate() {
+impl Item for String {
+    type Within = ();
+
+    ghost Raw = { List ℕ };
+
+    ghost seen = { string_bytes };
+
+    ghost value_in = { text_in };
+
+    ghost rules = { λ _ i. text_in_rules (at.Declaration i) };
+
+    fn read(alloc: Global, _within: (), number: usize, value: &Value) -> Result<String, DocError> {
         let text = text_of(value, Pointer::Declaration(number))?;
-        texts.push_reserved(copied(alloc, text)?);
+        let text = copied(alloc, text)?;
+        Ok(text)
     }
-    Ok(texts)
 }
 
 /// The declarations of a document.
@@ -98,7 +105,7 @@ fn declarations_in(alloc: Global, value: &Value) -> Result<Vec<String>, DocError
     if let Some(refused) = texts.or(few) {
         return Err(DocError::from(refused));
     }
-    declarations_of(alloc, list)
+    items_of(alloc, (), list)
 }
 
 /// The document that a JSON value is, where it keeps the rules of documents; else the refusal of the first that it breaks.

@@ -3,13 +3,14 @@
 ghost use Rattle.std.specs.Prelude.{◌≡◌, [], ◌∷◌, ◌++◌, map, codes, OnOk, option_map, IfOk};
 ghost use Rattle.serde_json.specs.View.{view};
 ghost use Rattle.cpn_document.specs.Names.{texts_of as bytes_of};
-ghost use Rattle.cpn_document.specs.Parts.{each_named, text_at, items_at};
-ghost use Rattle.cpn_document.specs.Document.{at_member as part_of_member, each_member, member_in, member_rules, fusion_in, fusion_rules, fusions_rules, member_keys as keys_of_member, fusion_keys as keys_of_fusion};
+ghost use Rattle.cpn_document.specs.Parts.{items_at};
+ghost use Rattle.cpn_document.specs.Document.{at_member as part_of_member, RawMember, RawFusion, member_in, member_rules, fusion_in, fusion_rules, fusions_rules, member_keys as keys_of_member, fusion_keys as keys_of_fusion};
 ghost use Rattle.cpn_document.specs.Views.{member_view, fusion_view};
 ghost use Rattle.cpn_document.specs.Rules.{first_broken};
 ghost use Rattle.cpn_document.specs.Answers.{Gives, refused_view};
 
 use crate::document::{Fusion, Member};
+use crate::lists::{Item, Named, items_of, named_of};
 use crate::names::{Names, add_named};
 use crate::parts::{
     keys_refusal, list_or_empty, list_refusal, name_refusal, optional_list_refusal, text_or_empty,
@@ -57,38 +58,36 @@ fn copied_member(alloc: Global, value: &Value) -> Result<Member, AllocError>
     })
 }
 
-/// The member of a number.
-fn member_of(
-    alloc: Global,
+/// Where the members of a fusion set stand: in a document of a version, by the number of the fusion set.
+#[derive(Clone, Copy)]
+pub(crate) struct InFusion {
     version: u64,
     in_fusion: usize,
-    number: usize,
-    value: &Value,
-) -> Result<Member, DocError>
-    ensures gives { Gives member_view result (member_in (view value.now)) (member_rules version in_fusion number (view value.now)) }
-{
-    if let Some(refused) = member_refusal(version, in_fusion, number, value) {
-        return Err(DocError::from(refused));
-    }
-    let member = copied_member(alloc, value)?;
-    Ok(member)
 }
 
-/// The members of a list, in order.
-#[tactic(auto, unfolding(crate::specs::Document::each_member))]
-fn members_of(
-    alloc: Global,
-    version: u64,
-    in_fusion: usize,
-    list: &[Value],
-) -> Result<Vec<Member>, DocError>
-    ensures gives { Gives (λ members. map member_view members.items) result (map member_in (map view list.now)) (each_member version in_fusion (map view list.now)) }
-{
-    let mut members = Vec::with_capacity(alloc, list.len())?;
-    for (number, value) in list.iter().enumerate() {
-        members.push_reserved(member_of(alloc, version, in_fusion, number, value)?);
+impl Item for Member {
+    type Within = InFusion;
+
+    ghost Raw = { RawMember };
+
+    ghost seen = { member_view };
+
+    ghost value_in = { member_in };
+
+    ghost rules = { λ within. member_rules within.version within.in_fusion };
+
+    fn read(
+        alloc: Global,
+        within: InFusion,
+        number: usize,
+        value: &Value,
+    ) -> Result<Member, DocError> {
+        if let Some(refused) = member_refusal(within.version, within.in_fusion, number, value) {
+            return Err(DocError::from(refused));
+        }
+        let member = copied_member(alloc, value)?;
+        Ok(member)
     }
-    Ok(members)
 }
 
 /// The keys of a fusion set, in a document of this version.
@@ -98,46 +97,41 @@ fn fusion_keys(_version: u64) -> [&'static str; 2]
     ["name", "members"]
 }
 
-/// The fusion set of a number.
-fn fusion_of<'v>(
-    alloc: Global,
-    version: u64,
-    number: usize,
-    names: &mut Names<'v>,
-    value: &'v Value,
-) -> Result<Fusion, DocError>
-    ensures gives { Gives fusion_view result (fusion_in (view value.now)) (fusion_rules version number names.old (view value.now)) }
-    ensures names { OnOk result (names.new ≡ names.old ++ text_at (codes "name") (view value.now) ∷ []) }
-{
-    let whole = Pointer::Fusion(number, FusionPart::Whole);
-    let at_name = Pointer::Fusion(number, FusionPart::Name);
-    add_named(value, names, &fusion_keys(version), whole, at_name)?;
-    let at_members = Pointer::Fusion(number, FusionPart::Members);
-    if let Some(refused) = list_refusal(value, "members", whole, at_members) {
-        return Err(DocError::from(refused));
-    }
-    let members = members_of(alloc, version, number, list_or_empty(value, "members"))?;
-    Ok(Fusion {
-        name: copied(alloc, text_or_empty(value, "name"))?,
-        members,
-    })
-}
+impl Named for Fusion {
+    type Within = u64;
 
-/// The fusion sets of a list, in order. Their names are added to the names.
-fn fusions_of<'v>(
-    alloc: Global,
-    version: u64,
-    names: &mut Names<'v>,
-    list: &'v [Value],
-) -> Result<Vec<Fusion>, DocError>
-    ensures gives { Gives (λ fusions. map fusion_view fusions.items) result (map fusion_in (map view list.now))
-        (each_named (fusion_rules version) 0 names.old (map view list.now)) }
-{
-    let mut fusions = Vec::with_capacity(alloc, list.len())?;
-    for (number, value) in list.iter().enumerate() {
-        fusions.push_reserved(fusion_of(alloc, version, number, names, value)?);
+    ghost Raw = { RawFusion };
+
+    ghost seen = { fusion_view };
+
+    ghost value_in = { fusion_in };
+
+    ghost rules = { fusion_rules };
+
+    fn read<'v>(
+        alloc: Global,
+        version: u64,
+        number: usize,
+        names: &mut Names<'v>,
+        value: &'v Value,
+    ) -> Result<Fusion, DocError> {
+        let whole = Pointer::Fusion(number, FusionPart::Whole);
+        let at_name = Pointer::Fusion(number, FusionPart::Name);
+        add_named(value, names, &fusion_keys(version), whole, at_name)?;
+        let at_members = Pointer::Fusion(number, FusionPart::Members);
+        if let Some(refused) = list_refusal(value, "members", whole, at_members) {
+            return Err(DocError::from(refused));
+        }
+        let within = InFusion {
+            version,
+            in_fusion: number,
+        };
+        let members = items_of(alloc, within, list_or_empty(value, "members"))?;
+        Ok(Fusion {
+            name: copied(alloc, text_or_empty(value, "name"))?,
+            members,
+        })
     }
-    Ok(fusions)
 }
 
 /// The fusion sets of a document.
@@ -154,5 +148,5 @@ pub(crate) fn fusions_in(
         return Err(DocError::from(refused));
     }
     let mut names = Names::new(alloc);
-    fusions_of(alloc, version, &mut names, list_or_empty(value, "fusions"))
+    named_of(alloc, version, &mut names, list_or_empty(value, "fusions"))
 }

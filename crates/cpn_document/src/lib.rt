@@ -13,6 +13,7 @@ mod edits;
 mod form;
 mod fusions;
 mod json;
+mod lists;
 mod modules;
 mod monitors;
 mod names;

@@ -3,13 +3,14 @@
 ghost use Rattle.std.specs.Prelude.{◌≡◌, [], ◌∷◌, ◌++◌, map, codes, OnOk};
 ghost use Rattle.serde_json.specs.View.{view};
 ghost use Rattle.cpn_document.specs.Names.{texts_of as bytes_of};
-ghost use Rattle.cpn_document.specs.Parts.{each_named, text_at, items_at, names_in};
-ghost use Rattle.cpn_document.specs.Document.{transitions_rules, arcs_rules, subs_rules, module_in, module_rules, modules_rules, module_keys as keys_of_module};
+ghost use Rattle.cpn_document.specs.Parts.{items_at, names_in};
+ghost use Rattle.cpn_document.specs.Document.{transitions_rules, arcs_rules, subs_rules, RawModule, module_in, module_rules, modules_rules, module_keys as keys_of_module};
 ghost use Rattle.cpn_document.specs.Views.{place_view, module_view};
 ghost use Rattle.cpn_document.specs.Answers.{Gives};
 
 use crate::arcs::arcs_in;
 use crate::document::{Module, Place};
+use crate::lists::{Named, named_of};
 use crate::names::{Names, add_named};
 use crate::parts::{limit_refusal, list_or_empty, list_refusal, text_or_empty};
 use crate::places::places_in;
@@ -23,6 +24,15 @@ use std::alloc::Global;
 
 /// The most modules of a document.
 const MOST_MODULES: usize = 256;
+
+/// Where a list of a module stands: in a document of a version, by the number of the module.
+#[derive(Clone, Copy)]
+pub(crate) struct InModule {
+    /// The version of the document.
+    pub(crate) version: u64,
+    /// The number of the module.
+    pub(crate) in_module: usize,
+}
 
 /// The keys of a module, in a document of this version.
 fn module_keys(_version: u64) -> [&'static str; 5]
@@ -59,40 +69,31 @@ fn module_with<'v>(
     })
 }
 
-/// The module of a number.
-fn module_of<'v>(
-    alloc: Global,
-    version: u64,
-    number: usize,
-    names: &mut Names<'v>,
-    value: &'v Value,
-) -> Result<Module, DocError>
-    ensures gives { Gives module_view result (module_in (view value.now)) (module_rules version number names.old (view value.now)) }
-    ensures names { OnOk result (names.new ≡ names.old ++ text_at (codes "name") (view value.now) ∷ []) }
-{
-    let whole = Pointer::Module(number, ModulePart::Whole);
-    let at_name = Pointer::Module(number, ModulePart::Name);
-    add_named(value, names, &module_keys(version), whole, at_name)?;
-    let places = places_in(alloc, version, number, value)?;
-    let mut inner = Names::new(alloc);
-    module_with(alloc, version, number, places, &mut inner, value)
-}
+impl Named for Module {
+    type Within = u64;
 
-/// The modules of a list, in order. Their names are added to the names.
-fn modules_of<'v>(
-    alloc: Global,
-    version: u64,
-    names: &mut Names<'v>,
-    list: &'v [Value],
-) -> Result<Vec<Module>, DocError>
-    ensures gives { Gives (λ modules. map module_view modules.items) result (map module_in (map view list.now))
-        (each_named (module_rules version) 0 names.old (map view list.now)) }
-{
-    let mut modules = Vec::with_capacity(alloc, list.len())?;
-    for (number, value) in list.iter().enumerate() {
-        modules.push_reserved(module_of(alloc, version, number, names, value)?);
+    ghost Raw = { RawModule };
+
+    ghost seen = { module_view };
+
+    ghost value_in = { module_in };
+
+    ghost rules = { module_rules };
+
+    fn read<'v>(
+        alloc: Global,
+        version: u64,
+        number: usize,
+        names: &mut Names<'v>,
+        value: &'v Value,
+    ) -> Result<Module, DocError> {
+        let whole = Pointer::Module(number, ModulePart::Whole);
+        let at_name = Pointer::Module(number, ModulePart::Name);
+        add_named(value, names, &module_keys(version), whole, at_name)?;
+        let places = places_in(alloc, version, number, value)?;
+        let mut inner = Names::new(alloc);
+        module_with(alloc, version, number, places, &mut inner, value)
     }
-    Ok(modules)
 }
 
 /// The modules of a document.
@@ -111,5 +112,5 @@ pub(crate) fn modules_in(
         return Err(DocError::from(refused));
     }
     let mut names = Names::new(alloc);
-    modules_of(alloc, version, &mut names, list)
+    named_of(alloc, version, &mut names, list)
 }

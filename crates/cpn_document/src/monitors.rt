@@ -3,8 +3,8 @@
 ghost use Rattle.std.specs.Prelude.{◌≡◌, Some, [], ◌∷◌, ◌++◌, map, codes, OnOk, option_map, IfOk};
 ghost use Rattle.serde_json.specs.View.{view};
 ghost use Rattle.cpn_document.specs.Names.{texts_of as bytes_of};
-ghost use Rattle.cpn_document.specs.Parts.{each_named, text_at, items_at, number_rules};
-ghost use Rattle.cpn_document.specs.Monitors.{form_of as form_of_word, form_in as form_told, monitor_keys as keys_of_monitor, bound_of as bound_of_word, kind_in, form_rules, transition_name_rules, place_name_rules, kind_rules, monitor_in, monitor_rules, monitors_rules};
+ghost use Rattle.cpn_document.specs.Parts.{items_at, number_rules};
+ghost use Rattle.cpn_document.specs.Monitors.{form_of as form_of_word, form_in as form_told, monitor_keys as keys_of_monitor, bound_of as bound_of_word, kind_in, form_rules, transition_name_rules, place_name_rules, kind_rules, RawMonitor, monitor_in, monitor_rules, monitors_rules};
 ghost use Rattle.cpn_document.specs.Views.{kind_view, monitor_view};
 ghost use Rattle.cpn_document.specs.Rules.{first_broken};
 ghost use Rattle.cpn_document.specs.Answers.{Finds, Gives, refused_view};
@@ -12,6 +12,7 @@ ghost use Rattle.cpn_document.specs.declared.pointers.Pointer.TheVariants as at;
 ghost use Rattle.cpn_document.specs.declared.pointers.MonitorPart.TheVariants as of_monitor;
 
 use crate::document::{Bound, Monitor, MonitorKind};
+use crate::lists::{Named, named_of};
 use crate::names::{Names, add_named};
 use crate::parts::{
     flat_name_refusal, list_or_empty, number_or_zero, number_refusal, optional_list_refusal,
@@ -196,46 +197,37 @@ fn copied_kind(alloc: Global, form: MonitorForm, value: &Value) -> Result<Monito
     }
 }
 
-/// The monitor of a number.
-fn monitor_of<'v>(
-    alloc: Global,
-    version: u64,
-    number: usize,
-    names: &mut Names<'v>,
-    value: &'v Value,
-) -> Result<Monitor, DocError>
-    ensures gives { Gives monitor_view result (monitor_in (view value.now)) (monitor_rules version number names.old (view value.now)) }
-    ensures names { OnOk result (names.new ≡ names.old ++ text_at (codes "name") (view value.now) ∷ []) }
-{
-    let whole = Pointer::Monitor(number, MonitorPart::Whole);
-    let at_name = Pointer::Monitor(number, MonitorPart::Name);
-    let keys = monitor_keys(version, form_in(value));
-    add_named(value, names, keys, whole, at_name)?;
-    let form = form_at_key(number, value)?;
-    if let Some(refused) = kind_refusal(number, form, value) {
-        return Err(DocError::from(refused));
-    }
-    Ok(Monitor {
-        name: copied(alloc, text_or_empty(value, "name"))?,
-        kind: copied_kind(alloc, form, value)?,
-    })
-}
+impl Named for Monitor {
+    type Within = u64;
 
-/// The monitors of a list, in order. Their names are added to the names.
-fn monitors_of<'v>(
-    alloc: Global,
-    version: u64,
-    names: &mut Names<'v>,
-    list: &'v [Value],
-) -> Result<Vec<Monitor>, DocError>
-    ensures gives { Gives (λ monitors. map monitor_view monitors.items) result (map monitor_in (map view list.now))
-        (each_named (monitor_rules version) 0 names.old (map view list.now)) }
-{
-    let mut monitors = Vec::with_capacity(alloc, list.len())?;
-    for (number, value) in list.iter().enumerate() {
-        monitors.push_reserved(monitor_of(alloc, version, number, names, value)?);
+    ghost Raw = { RawMonitor };
+
+    ghost seen = { monitor_view };
+
+    ghost value_in = { monitor_in };
+
+    ghost rules = { monitor_rules };
+
+    fn read<'v>(
+        alloc: Global,
+        version: u64,
+        number: usize,
+        names: &mut Names<'v>,
+        value: &'v Value,
+    ) -> Result<Monitor, DocError> {
+        let whole = Pointer::Monitor(number, MonitorPart::Whole);
+        let at_name = Pointer::Monitor(number, MonitorPart::Name);
+        let keys = monitor_keys(version, form_in(value));
+        add_named(value, names, keys, whole, at_name)?;
+        let form = form_at_key(number, value)?;
+        if let Some(refused) = kind_refusal(number, form, value) {
+            return Err(DocError::from(refused));
+        }
+        Ok(Monitor {
+            name: copied(alloc, text_or_empty(value, "name"))?,
+            kind: copied_kind(alloc, form, value)?,
+        })
     }
-    Ok(monitors)
 }
 
 /// The monitors of a document.
@@ -252,5 +244,5 @@ pub(crate) fn monitors_in(
         return Err(DocError::from(refused));
     }
     let mut names = Names::new(alloc);
-    monitors_of(alloc, version, &mut names, list_or_empty(value, "monitors"))
+    named_of(alloc, version, &mut names, list_or_empty(value, "monitors"))
 }

@@ -4,12 +4,13 @@ ghost use Rattle.std.specs.Prelude.{◌≡◌, map, codes};
 ghost use Rattle.serde_json.specs.View.{view};
 ghost use Rattle.cpn_document.specs.Names.{texts_of as bytes_of};
 ghost use Rattle.cpn_document.specs.Parts.{items_at};
-ghost use Rattle.cpn_document.specs.Phases.{start_of as start_of_word, start_words as words_of_start, phase_in, phase_rules, each_phase, phases_rules, phase_keys as keys_of_phase};
+ghost use Rattle.cpn_document.specs.Phases.{start_of as start_of_word, start_words as words_of_start, RawPhase, phase_in, phase_rules, phases_rules, phase_keys as keys_of_phase};
 ghost use Rattle.cpn_document.specs.Views.{phase_view};
 ghost use Rattle.cpn_document.specs.Answers.{Gives};
 
 use crate::document::{Phase, Start};
-use crate::edits::edits_of;
+use crate::edits::InPhase;
+use crate::lists::{Item, items_of};
 use crate::parts::{
     keys_refusal, limit_refusal, list_or_empty, optional_list_refusal, text_or_empty, word_refusal,
 };
@@ -51,40 +52,41 @@ fn phase_keys(_version: u64) -> [&'static str; 2]
     ["start", "edits"]
 }
 
-/// The phase of a number.
-fn phase_of(alloc: Global, version: u64, number: usize, value: &Value) -> Result<Phase, DocError>
-    ensures gives { Gives phase_view result (phase_in (view value.now)) (phase_rules version number (view value.now)) }
-{
-    let whole = Pointer::Phase(number, PhasePart::Whole);
-    let at_start = Pointer::Phase(number, PhasePart::Start);
-    let at_edits = Pointer::Phase(number, PhasePart::Edits);
-    let refused = keys_refusal(value, &phase_keys(version), whole)
-        .or(word_refusal(value, start_words(number), "start", whole, at_start))
-        .or(optional_list_refusal(value, "edits", whole, at_edits));
-    if let Some(refused) = refused {
-        return Err(DocError::from(refused));
-    }
-    let edits = edits_of(alloc, version, number, list_or_empty(value, "edits"))?;
-    Ok(Phase {
-        start: start_of(text_or_empty(value, "start")),
-        edits,
-    })
-}
+impl Item for Phase {
+    type Within = u64;
 
-/// The phases of a list, in order.
-#[tactic(auto, unfolding(crate::specs::Phases::each_phase))]
-fn phases_of(alloc: Global, version: u64, list: &[Value]) -> Result<Vec<Phase>, DocError>
-    ensures gives { Gives (λ phases. map phase_view phases.items) result (map phase_in (map view list.now)) (each_phase version (map view list.now)) }
-{
-    let mut phases = Vec::with_capacity(alloc, list.len())?;
-    for (number, value) in list.iter().enumerate() {
-        phases.push_reserved(phase_of(alloc, version, number, value)?);
+    ghost Raw = { RawPhase };
+
+    ghost seen = { phase_view };
+
+    ghost value_in = { phase_in };
+
+    ghost rules = { phase_rules };
+
+    fn read(alloc: Global, version: u64, number: usize, value: &Value) -> Result<Phase, DocError> {
+        let whole = Pointer::Phase(number, PhasePart::Whole);
+        let at_start = Pointer::Phase(number, PhasePart::Start);
+        let at_edits = Pointer::Phase(number, PhasePart::Edits);
+        let refused = keys_refusal(value, &phase_keys(version), whole)
+            .or(word_refusal(value, start_words(number), "start", whole, at_start))
+            .or(optional_list_refusal(value, "edits", whole, at_edits));
+        if let Some(refused) = refused {
+            return Err(DocError::from(refused));
+        }
+        let within = InPhase {
+            version,
+            in_phase: number,
+        };
+        let edits = items_of(alloc, within, list_or_empty(value, "edits"))?;
+        Ok(Phase {
+            start: start_of(text_or_empty(value, "start")),
+            edits,
+        })
     }
-    Ok(phases)
 }
 
 /// The phases of a document, not too many.
-#[tactic(auto, using(crate::proofs::BrokenRules::in_groups, crate::proofs::SeenValues::length_seen), unfolding(crate::specs::Phases::phases_rules))]
+#[tactic(auto, using(crate::proofs::BrokenRules::in_groups, crate::proofs::SeenValues::length_seen), unfolding(crate::specs::Phases::phases_rules, crate::specs::Phases::each_phase))]
 pub(crate) fn phases_in(alloc: Global, version: u64, value: &Value) -> Result<Vec<Phase>, DocError>
     ensures gives { Gives (λ phases. map phase_view phases.items) result (map phase_in (items_at (codes "phases") (view value.now))) (phases_rules version (view value.now)) }
 {
@@ -94,5 +96,5 @@ pub(crate) fn phases_in(alloc: Global, version: u64, value: &Value) -> Result<Ve
     if let Some(refused) = phases.or(few) {
         return Err(DocError::from(refused));
     }
-    phases_of(alloc, version, list)
+    items_of(alloc, version, list)
 }

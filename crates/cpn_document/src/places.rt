@@ -3,13 +3,15 @@
 ghost use Rattle.std.specs.Prelude.{◌≡◌, [], ◌∷◌, ◌++◌, map, option_map, codes, OnOk, IfOk};
 ghost use Rattle.serde_json.specs.View.{view};
 ghost use Rattle.cpn_document.specs.Names.{texts_of as bytes_of};
-ghost use Rattle.cpn_document.specs.Parts.{each_named, text_at, optional_text_at, items_at, word_rules, where_there};
-ghost use Rattle.cpn_document.specs.Document.{at_place as part_of_place, port_of as port_of_word, place_in, place_rules, places_rules, place_keys as keys_of_place};
+ghost use Rattle.cpn_document.specs.Parts.{optional_text_at, items_at, word_rules, where_there};
+ghost use Rattle.cpn_document.specs.Document.{at_place as part_of_place, port_of as port_of_word, RawPlace, place_in, place_rules, places_rules, place_keys as keys_of_place};
 ghost use Rattle.cpn_document.specs.Views.{place_view};
 ghost use Rattle.cpn_document.specs.Rules.{first_broken};
 ghost use Rattle.cpn_document.specs.Answers.{Gives, refused_view};
 
 use crate::document::{Place, PortType};
+use crate::lists::{Named, named_of};
+use crate::modules::InModule;
 use crate::names::{Names, add_named};
 use crate::parts::{
     list_or_empty, list_refusal, optional_text, optional_text_refusal, text_or_empty, text_refusal,
@@ -84,50 +86,39 @@ fn copied_place(alloc: Global, value: &Value) -> Result<Place, AllocError>
     })
 }
 
-/// The place of a number.
-fn place_of<'v>(
-    alloc: Global,
-    version: u64,
-    in_module: usize,
-    number: usize,
-    names: &mut Names<'v>,
-    value: &'v Value,
-) -> Result<Place, DocError>
-    ensures gives { Gives place_view result (place_in (view value.now)) (place_rules version in_module number names.old (view value.now)) }
-    ensures names { OnOk result (names.new ≡ names.old ++ text_at (codes "name") (view value.now) ∷ []) }
-{
-    let whole = at_place(in_module, number, PlacePart::Whole);
-    let at_name = at_place(in_module, number, PlacePart::Name);
-    add_named(value, names, &place_keys(version), whole, at_name)?;
-    let at_colour = at_place(in_module, number, PlacePart::Colour);
-    let at_initial = at_place(in_module, number, PlacePart::Initial);
-    let at_port = at_place(in_module, number, PlacePart::Port);
-    let refused = text_refusal(value, "colour", whole, at_colour)
-        .or(optional_text_refusal(value, "initial", whole, at_initial))
-        .or(port_refusal(value, whole, at_port));
-    if let Some(refused) = refused {
-        return Err(DocError::from(refused));
-    }
-    let place = copied_place(alloc, value)?;
-    Ok(place)
-}
+impl Named for Place {
+    type Within = InModule;
 
-/// The places of a list, in order. Their names are added to the names.
-fn places_of<'v>(
-    alloc: Global,
-    version: u64,
-    in_module: usize,
-    names: &mut Names<'v>,
-    list: &'v [Value],
-) -> Result<Vec<Place>, DocError>
-    ensures gives { Gives (λ places. map place_view places.items) result (map place_in (map view list.now))
-        (each_named (place_rules version in_module) 0 names.old (map view list.now)) }
-{
-    let mut places = Vec::with_capacity(alloc, list.len())?;
-    for (number, value) in list.iter().enumerate() {
-        places.push_reserved(place_of(alloc, version, in_module, number, names, value)?);
+    ghost Raw = { RawPlace };
+
+    ghost seen = { place_view };
+
+    ghost value_in = { place_in };
+
+    ghost rules = { λ within. place_rules within.version within.in_module };
+
+    fn read<'v>(
+        alloc: Global,
+        within: InModule,
+        number: usize,
+        names: &mut Names<'v>,
+        value: &'v Value,
+    ) -> Result<Place, DocError> {
+        let whole = at_place(within.in_module, number, PlacePart::Whole);
+        let at_name = at_place(within.in_module, number, PlacePart::Name);
+        add_named(value, names, &place_keys(within.version), whole, at_name)?;
+        let at_colour = at_place(within.in_module, number, PlacePart::Colour);
+        let at_initial = at_place(within.in_module, number, PlacePart::Initial);
+        let at_port = at_place(within.in_module, number, PlacePart::Port);
+        let refused = text_refusal(value, "colour", whole, at_colour)
+            .or(optional_text_refusal(value, "initial", whole, at_initial))
+            .or(port_refusal(value, whole, at_port));
+        if let Some(refused) = refused {
+            return Err(DocError::from(refused));
+        }
+        let place = copied_place(alloc, value)?;
+        Ok(place)
     }
-    Ok(places)
 }
 
 /// The places of a module.
@@ -147,5 +138,5 @@ pub(crate) fn places_in(
     }
     let mut names = Names::new(alloc);
     let list = list_or_empty(value, "places");
-    places_of(alloc, version, in_module, &mut names, list)
+    named_of(alloc, InModule { version, in_module }, &mut names, list)
 }

@@ -4,12 +4,14 @@ ghost use Rattle.std.specs.Prelude.{◌≡◌, [], ◌∷◌, ◌++◌, map, cod
 ghost use Rattle.serde_json.specs.View.{view};
 ghost use Rattle.cpn_document.specs.Names.{texts_of as bytes_of};
 ghost use Rattle.cpn_document.specs.Parts.{text_at, items_at};
-ghost use Rattle.cpn_document.specs.Document.{at_sub as part_of_sub, at_assignment as part_of_assignment, each_assignment, each_sub, assignment_in, assignment_rules, sub_in, sub_rules, subs_rules, assignment_keys as keys_of_assignment, sub_keys as keys_of_sub};
+ghost use Rattle.cpn_document.specs.Document.{at_sub as part_of_sub, at_assignment as part_of_assignment, RawAssignment, RawSub, assignment_in, assignment_rules, sub_in, sub_rules, subs_rules, assignment_keys as keys_of_assignment, sub_keys as keys_of_sub};
 ghost use Rattle.cpn_document.specs.Views.{assignment_view, sub_view};
 ghost use Rattle.cpn_document.specs.Rules.{first_broken};
 ghost use Rattle.cpn_document.specs.Answers.{Gives, refused_view};
 
 use crate::document::{Assignment, Sub};
+use crate::lists::{Item, Named, items_of, named_of};
+use crate::modules::InModule;
 use crate::names::{Names, add_named};
 use crate::parts::{
     keys_refusal, list_or_empty, list_refusal, name_refusal, optional_list_refusal, text_or_empty,
@@ -70,40 +72,44 @@ fn copied_assignment(alloc: Global, value: &Value) -> Result<Assignment, AllocEr
     })
 }
 
-/// The assignment of a number.
-fn assignment_of(
-    alloc: Global,
+/// Where the assignments of a substitution transition stand: in a document of a version, by the numbers of its module and its own.
+#[derive(Clone, Copy)]
+pub(crate) struct InSub {
     version: u64,
     in_module: usize,
     in_sub: usize,
-    number: usize,
-    value: &Value,
-) -> Result<Assignment, DocError>
-    ensures gives { Gives assignment_view result (assignment_in (view value.now)) (assignment_rules version in_module in_sub number (view value.now)) }
-{
-    if let Some(refused) = assignment_refusal(version, in_module, in_sub, number, value) {
-        return Err(DocError::from(refused));
-    }
-    let assignment = copied_assignment(alloc, value)?;
-    Ok(assignment)
 }
 
-/// The assignments of a list, in order.
-#[tactic(auto, unfolding(crate::specs::Document::each_assignment))]
-fn assignments_of(
-    alloc: Global,
-    version: u64,
-    in_module: usize,
-    in_sub: usize,
-    list: &[Value],
-) -> Result<Vec<Assignment>, DocError>
-    ensures gives { Gives (λ assign. map assignment_view assign.items) result (map assignment_in (map view list.now)) (each_assignment version in_module in_sub (map view list.now)) }
-{
-    let mut assign = Vec::with_capacity(alloc, list.len())?;
-    for (number, value) in list.iter().enumerate() {
-        assign.push_reserved(assignment_of(alloc, version, in_module, in_sub, number, value)?);
+impl Item for Assignment {
+    type Within = InSub;
+
+    ghost Raw = { RawAssignment };
+
+    ghost seen = { assignment_view };
+
+    ghost value_in = { assignment_in };
+
+    ghost rules = { λ within. assignment_rules within.version within.in_module within.in_sub };
+
+    fn read(
+        alloc: Global,
+        within: InSub,
+        number: usize,
+        value: &Value,
+    ) -> Result<Assignment, DocError> {
+        let refused = assignment_refusal(
+            within.version,
+            within.in_module,
+            within.in_sub,
+            number,
+            value,
+        );
+        if let Some(refused) = refused {
+            return Err(DocError::from(refused));
+        }
+        let assignment = copied_assignment(alloc, value)?;
+        Ok(assignment)
     }
-    Ok(assign)
 }
 
 /// The keys of a substitution transition, in a document of this version.
@@ -113,57 +119,51 @@ fn sub_keys(_version: u64) -> [&'static str; 3]
     ["name", "module", "assign"]
 }
 
-/// The substitution transition of a number.
-fn sub_of<'v>(
-    alloc: Global,
-    version: u64,
-    in_module: usize,
-    number: usize,
-    names: &mut Names<'v>,
-    value: &'v Value,
-) -> Result<Sub, DocError>
-    ensures gives { Gives sub_view result (sub_in (view value.now)) (sub_rules version in_module number names.old (view value.now)) }
-    ensures names { OnOk result (names.new ≡ names.old ++ text_at (codes "name") (view value.now) ∷ []) }
-{
-    let whole = at_sub(in_module, number, SubPart::Whole);
-    let at_name = at_sub(in_module, number, SubPart::Name);
-    add_named(value, names, &sub_keys(version), whole, at_name)?;
-    let at_module = at_sub(in_module, number, SubPart::Module);
-    let at_assign = at_sub(in_module, number, SubPart::Assign);
-    let submodule = name_refusal(value, "module", whole, at_module);
-    let assign = list_refusal(value, "assign", whole, at_assign);
-    if let Some(refused) = submodule.or(assign) {
-        return Err(DocError::from(refused));
-    }
-    let list = list_or_empty(value, "assign");
-    let assign = assignments_of(alloc, version, in_module, number, list)?;
-    Ok(Sub {
-        name: copied(alloc, text_or_empty(value, "name"))?,
-        submodule: copied(alloc, text_or_empty(value, "module"))?,
-        assign,
-    })
-}
+impl Named for Sub {
+    type Within = InModule;
 
-/// The substitution transitions of a list, in order.
-#[tactic(auto, unfolding(crate::specs::Document::each_sub))]
-fn subs_of<'v>(
-    alloc: Global,
-    version: u64,
-    in_module: usize,
-    names: &mut Names<'v>,
-    list: &'v [Value],
-) -> Result<Vec<Sub>, DocError>
-    ensures gives { Gives (λ subs. map sub_view subs.items) result (map sub_in (map view list.now)) (each_sub version in_module names.old (map view list.now)) }
-{
-    let mut subs = Vec::with_capacity(alloc, list.len())?;
-    for (number, value) in list.iter().enumerate() {
-        subs.push_reserved(sub_of(alloc, version, in_module, number, names, value)?);
+    ghost Raw = { RawSub };
+
+    ghost seen = { sub_view };
+
+    ghost value_in = { sub_in };
+
+    ghost rules = { λ within. sub_rules within.version within.in_module };
+
+    fn read<'v>(
+        alloc: Global,
+        within: InModule,
+        number: usize,
+        names: &mut Names<'v>,
+        value: &'v Value,
+    ) -> Result<Sub, DocError> {
+        let whole = at_sub(within.in_module, number, SubPart::Whole);
+        let at_name = at_sub(within.in_module, number, SubPart::Name);
+        add_named(value, names, &sub_keys(within.version), whole, at_name)?;
+        let at_module = at_sub(within.in_module, number, SubPart::Module);
+        let at_assign = at_sub(within.in_module, number, SubPart::Assign);
+        let submodule = name_refusal(value, "module", whole, at_module);
+        let assign = list_refusal(value, "assign", whole, at_assign);
+        if let Some(refused) = submodule.or(assign) {
+            return Err(DocError::from(refused));
+        }
+        let list = list_or_empty(value, "assign");
+        let within = InSub {
+            version: within.version,
+            in_module: within.in_module,
+            in_sub: number,
+        };
+        let assign = items_of(alloc, within, list)?;
+        Ok(Sub {
+            name: copied(alloc, text_or_empty(value, "name"))?,
+            submodule: copied(alloc, text_or_empty(value, "module"))?,
+            assign,
+        })
     }
-    Ok(subs)
 }
 
 /// The substitution transitions of a module. Their names are added to those of its transitions.
-#[tactic(auto, using(crate::proofs::BrokenRules::in_groups), unfolding(crate::specs::Document::subs_rules))]
+#[tactic(auto, using(crate::proofs::BrokenRules::in_groups), unfolding(crate::specs::Document::subs_rules, crate::specs::Document::each_sub))]
 pub(crate) fn subs_in<'v>(
     alloc: Global,
     version: u64,
@@ -179,5 +179,5 @@ pub(crate) fn subs_in<'v>(
         return Err(DocError::from(refused));
     }
     let list = list_or_empty(value, "subs");
-    subs_of(alloc, version, in_module, names, list)
+    named_of(alloc, InModule { version, in_module }, names, list)
 }

@@ -4,11 +4,13 @@ ghost use Rattle.std.specs.Prelude.{◌≡◌, [], ◌∷◌, ◌++◌, map, opt
 ghost use Rattle.serde_json.specs.View.{view};
 ghost use Rattle.cpn_document.specs.Names.{texts_of as bytes_of};
 ghost use Rattle.cpn_document.specs.Parts.{text_at, items_at, names_in};
-ghost use Rattle.cpn_document.specs.Document.{at_transition as part_of_transition, each_transition, transition_in, transition_keys as keys_of_transition, transition_rules, transitions_rules};
+ghost use Rattle.cpn_document.specs.Document.{at_transition as part_of_transition, RawTransition, transition_in, transition_keys as keys_of_transition, transition_rules, transitions_rules};
 ghost use Rattle.cpn_document.specs.Views.{transition_view};
 ghost use Rattle.cpn_document.specs.Answers.{Gives};
 
 use crate::document::Transition;
+use crate::lists::{Named, named_of};
+use crate::modules::InModule;
 use crate::names::{Names, add_named};
 use crate::parts::{
     list_or_empty, list_refusal, optional_text, optional_text_refusal, text_or_empty,
@@ -44,54 +46,47 @@ fn copied_transition(alloc: Global, value: &Value) -> Result<Transition, AllocEr
     })
 }
 
-/// The transition of a number.
-fn transition_of<'v>(
-    alloc: Global,
-    version: u64,
-    in_module: usize,
-    number: usize,
-    names: &mut Names<'v>,
-    value: &'v Value,
-) -> Result<Transition, DocError>
-    ensures gives { Gives transition_view result (transition_in (view value.now)) (transition_rules version in_module number names.old (view value.now)) }
-    ensures names { OnOk result (names.new ≡ names.old ++ text_at (codes "name") (view value.now) ∷ []) }
-{
-    let whole = at_transition(in_module, number, TransitionPart::Whole);
-    let at_name = at_transition(in_module, number, TransitionPart::Name);
-    add_named(value, names, &transition_keys(version), whole, at_name)?;
-    let at_guard = at_transition(in_module, number, TransitionPart::Guard);
-    let at_delay = at_transition(in_module, number, TransitionPart::Delay);
-    let guard = optional_text_refusal(value, "guard", whole, at_guard);
-    let delay = optional_text_refusal(value, "delay", whole, at_delay);
-    if let Some(refused) = guard.or(delay) {
-        return Err(DocError::from(refused));
-    }
-    let transition = copied_transition(alloc, value)?;
-    Ok(transition)
-}
+impl Named for Transition {
+    type Within = InModule;
 
-/// The transitions of a list, in order. Their names are added to the names, of which there are none yet.
-#[tactic(auto, unfolding(crate::specs::Document::each_transition))]
-fn transitions_of<'v>(
-    alloc: Global,
-    version: u64,
-    in_module: usize,
-    names: &mut Names<'v>,
-    list: &'v [Value],
-) -> Result<Vec<Transition>, DocError>
-    requires none_yet { names.old ≡ [] }
-    ensures gives { Gives (λ transitions. map transition_view transitions.items) result (map transition_in (map view list.now)) (each_transition version in_module (map view list.now)) }
-    ensures names { OnOk result (names.new ≡ names_in (map view list.now)) }
-{
-    let mut transitions = Vec::with_capacity(alloc, list.len())?;
-    for (number, value) in list.iter().enumerate() {
-        transitions.push_reserved(transition_of(alloc, version, in_module, number, names, value)?);
+    ghost Raw = { RawTransition };
+
+    ghost seen = { transition_view };
+
+    ghost value_in = { transition_in };
+
+    ghost rules = { λ within. transition_rules within.version within.in_module };
+
+    fn read<'v>(
+        alloc: Global,
+        within: InModule,
+        number: usize,
+        names: &mut Names<'v>,
+        value: &'v Value,
+    ) -> Result<Transition, DocError> {
+        let whole = at_transition(within.in_module, number, TransitionPart::Whole);
+        let at_name = at_transition(within.in_module, number, TransitionPart::Name);
+        add_named(
+            value,
+            names,
+            &transition_keys(within.version),
+            whole,
+            at_name,
+        )?;
+        let at_guard = at_transition(within.in_module, number, TransitionPart::Guard);
+        let at_delay = at_transition(within.in_module, number, TransitionPart::Delay);
+        let guard = optional_text_refusal(value, "guard", whole, at_guard);
+        let delay = optional_text_refusal(value, "delay", whole, at_delay);
+        if let Some(refused) = guard.or(delay) {
+            return Err(DocError::from(refused));
+        }
+        let transition = copied_transition(alloc, value)?;
+        Ok(transition)
     }
-    Ok(transitions)
 }
 
 /// The transitions of a module. Their names are added to the names, of which there are none yet.
-#[tactic(auto, using(crate::proofs::BrokenRules::in_groups), unfolding(crate::specs::Document::transitions_rules))]
+#[tactic(auto, using(crate::proofs::BrokenRules::in_groups), unfolding(crate::specs::Document::transitions_rules, crate::specs::Document::each_transition))]
 pub(crate) fn transitions_in<'v>(
     alloc: Global,
     version: u64,
@@ -109,5 +104,5 @@ pub(crate) fn transitions_in<'v>(
         return Err(DocError::from(refused));
     }
     let list = list_or_empty(value, "transitions");
-    transitions_of(alloc, version, in_module, names, list)
+    named_of(alloc, InModule { version, in_module }, names, list)
 }

@@ -1,16 +1,19 @@
 -- Worked sessions: the setups of their runs, and which runs they have.
-use Rattle.std.proofs.Common.{◌≡◌, ℕ, ◌-◌, ◌^◌, inl, inr, List, [], ◌∷◌, refl, arith}
+use Rattle.std.proofs.Common.{◌≡◌, ℕ, ◌-◌, ◌^◌, inl, inr, List, [], ◌∷◌, refl, ap, pos, false, arith}
 use Rattle.std.specs.Prelude.{None}
-use Rattle.cpn_definitions.specs.Marking.{Marking}
-use Rattle.cpn_definitions.specs.Net.{PlainNet}
+use Rattle.cpn_definitions.specs.Inscription.{literal}
+use Rattle.cpn_definitions.specs.Marking.{Marking, Tokens, token_at}
+use Rattle.cpn_definitions.specs.Net.{PlainNet, PlainTransition, no_transition}
+use Rattle.cpn_definitions.specs.Value.{boolean, int}
 use Rattle.cpn_document.specs.declared.document.Start.TheVariants as starts
-use Rattle.cpn_edit_texts.specs.Edits.{EditedPhase}
+use Rattle.cpn_edit_texts.specs.Edits.{EditedPhase, edits_guard, edits_initial}
+use Rattle.cpn_model.specs.Reading.{PlainModel}
 use Rattle.cpn_runs.specs.Phases.{PlainPhase}
-use Rattle.cpn_runs.specs.State.{PlainSetup, PlainEnd, dead, fault_end, wants_memory}
+use Rattle.cpn_runs.specs.State.{PlainSetup, PlainEnd, dead, steps_made, until_passed, stopped_by, fault_end, wants_memory}
 use Rattle.cpn_definitions.specs.Legal.{PlainOccurrence}
 use Rattle.cpn_definitions.specs.Outcome.{overflow}
 use Rattle.cpn_typing.specs.Names.{Declared}
-use Rattle.cpn_edit.specs.Sessions.{PlainSession, phases_run, setup_of, StartsAt, AreRuns}
+use Rattle.cpn_edit.specs.Sessions.{SessionLimits, PlainSession, phases_run, session_of, after_edit, after_phase, setup_of, StartsAt, IsFault, AreRuns}
 
 abbrev no_net : PlainNet
 no_net = record { places = []; transitions = []; variables = []; constants = []; constructors = []; functions = [] }
@@ -98,3 +101,60 @@ module _ (ds : Declared) where
   unfolding AreRuns
   a_phase_without_a_run (inl none) = nothing_is_left none
   a_phase_without_a_run (inr fault) = fault
+
+  -- ---- what a session begins with, and what edits leave
+
+  abbrev seven : Tokens
+  seven = token_at (int (pos 7)) 0 ∷ []
+
+  -- a net of one transition, and the same with a guard that is `false`
+  abbrev with_transition : PlainTransition → PlainNet
+  with_transition t = record no_net { transitions = t ∷ [] }
+
+  abbrev guarded : PlainTransition
+  guarded = record no_transition { guard = literal (boolean false) ∷ [] }
+
+  abbrev of_one_transition : PlainSession
+  of_one_transition = record (session_with [] []) { net = with_transition no_transition; initial = [] ∷ [] }
+
+  edits_of_a_phase_change_the_initial_marking : (after_phase of_one_transition (record { start = starts.Here; edits = edits_initial 0 seven ∷ [] }) []).initial ≡ seven ∷ []
+  edits_of_a_phase_change_the_initial_marking = refl
+
+  and_the_net : (after_phase of_one_transition (record { start = starts.Here; edits = edits_guard 0 guarded ∷ [] }) []).net ≡ with_transition guarded
+  and_the_net = refl
+
+  so_does_an_edit_alone : (after_edit of_one_transition (edits_guard 0 guarded)).net ≡ with_transition guarded
+  so_does_an_edit_alone = refl
+
+  and_its_initial_marking : (after_edit of_one_transition (edits_initial 0 seven)).initial ≡ seven ∷ []
+  and_its_initial_marking = refl
+
+  a_model_without_phases_has_one : (limits : SessionLimits) (model : PlainModel) → model.phases ≡ [] → (session_of limits model).phases ≡ record { start = starts.Initial; edits = [] } ∷ []
+  a_model_without_phases_has_one limits model none = ap phases_run none
+
+  its_phases_are_those_written : (limits : SessionLimits) (model : PlainModel) → model.phases ≡ from_here ∷ [] → (session_of limits model).phases ≡ from_here ∷ []
+  its_phases_are_those_written limits model one = ap phases_run one
+
+  -- the setup of a run has the seats and the last time of the session
+  abbrev of_seats : ℕ → ℕ → PlainSession
+  of_seats seats until = record (session_with [] []) { limits = record { seed = 0; steps = 3; until = until; seats = seats } }
+
+  its_seats : (seats : ℕ) → (setup_of (of_seats seats 9) [] 0).limits.seats ≡ seats
+  its_seats seats = refl
+
+  its_last_time : (until : ℕ) → (setup_of (of_seats 1 until) [] 0).limits.until ≡ until
+  its_last_time until = refl
+
+-- ---- which ends are faults: that a run would pass the last time is none, nor is a stop
+
+no_fault_by_time : (time : ℕ) → IsFault (until_passed time) → ⊥
+no_fault_by_time time fault = fault
+
+no_fault_by_a_stop : (monitor : ℕ) → IsFault (stopped_by monitor) → ⊥
+no_fault_by_a_stop monitor fault = fault
+
+no_fault_by_steps : IsFault steps_made → ⊥
+no_fault_by_steps fault = fault
+
+a_fault : IsFault (fault_end (record { transition = 0; binding = [] }) overflow)
+a_fault = tt

@@ -239,13 +239,16 @@ impl Session {
         Ok(())
     }
 
-    /// The net and its initial marking after edits.
+    /// The net and its initial marking after edits. Without edits the net is shared.
     fn edited(&self, edits: &[cpn_edit_texts::Edit]) -> Result<(Arc<Net>, Marking), Memory>
         requires declares { DeclaresFor (decls_view self.now.decls) (net_view self.now.net.value) }
         requires there { AllByRecursion (IsThere (length self.now.net.value.transitions.items) (length self.now.initial)) (edits_view edits.now) }
         ensures net { IfOk result (λ edited. net_view edited.0.value ≡ net_after_all (net_view self.now.net.value) (edits_view edits.now)) }
         ensures initial { IfOk result (λ edited. edited.1 ≡ initial_after_all self.now.initial (edits_view edits.now)) }
     {
+        if edits.is_empty() {
+            return Ok((self.net.clone()?, self.initial.copy()?));
+        }
         let (net, initial) = after_edits(self.alloc, &self.decls, &self.net, &self.initial, edits)?;
         Ok((Arc::new(self.alloc, net)?, initial))
     }

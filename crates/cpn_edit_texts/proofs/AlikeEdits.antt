@@ -14,7 +14,8 @@ use Rattle.cpn_accepted.specs.Completed.{IsCompleted}
 use Rattle.cpn_accepted.specs.Nets.{net_from}
 use Rattle.cpn_module_trees.specs.Parsing.{IsGuard}
 use Rattle.cpn_monitor.specs.Monitors.{PlainMonitor}
-use Rattle.cpn_monitor_texts.specs.Named.{transition_named, place_named, number_among}
+use Rattle.cpn_monitor_texts.specs.Named.{transition_named, place_named}
+use Rattle.cpn_names.specs.Names.{number_of}
 use Rattle.cpn_readings.specs.Relations.{just, such_that, After, each_so, RefusesBy}
 use Rattle.cpn_readings.proofs.Readings.{same_read}
 use Rattle.cpn_readings.proofs.RelatedReadings.{step_parts}
@@ -39,7 +40,7 @@ module _ (n m : PlainNet) (alike : AreAlikeButGuards n m) where
       sym (map-map (λ (t : PlainTransition). t.name) but_guard n.transitions) ∙ ap (map (λ (t : PlainTransition). t.name)) bare_alike ∙ map-map (λ (t : PlainTransition). t.name) but_guard m.transitions
 
   pub transition_named_alike : (name : List ℕ) → transition_named n name ≡ transition_named m name
-  transition_named_alike name = ap (number_among name) names_alike
+  transition_named_alike name = ap (number_of name) names_alike
 
   pub places_alike : n.places ≡ m.places
   places_alike = ap (λ (k : PlainNet). k.places) alike
@@ -125,7 +126,7 @@ module _ (ds : Declared) (n m : PlainNet) (alike : AreAlikeButGuards n m) (decla
       h
   edit_alike (initial name text) r h =
       after (just (known whole (place_named n name))) (just (known whole (place_named m name))) _ _ r
-      (λ x is. is ∙ ap (λ (ps : List Coloured). known whole (number_among name (map (λ (p : Coloured). p.name) ps))) (places_alike n m alike))
+      (λ x is. is ∙ ap (λ (ps : List Coloured). known whole (number_of name (map (λ (p : Coloured). p.name) ps))) (places_alike n m alike))
       (λ p rest. after (tokens_so ds n.functions at (place_at n p) text) (tokens_so ds m.functions at (place_at m p) text) _ _ r
       (λ x is. subst (λ (place : Coloured). tokens_so ds m.functions at place text x) (ap (λ (ps : List Coloured). get_or ps p nothing) (places_alike n m alike)) (subst (λ (funs : Functions). tokens_so ds funs at (place_at n p) text x) (functions_alike n m alike) is))
       (λ tokens end. end) rest)

@@ -7,3 +7,4 @@ mod MadeEdits
 mod NetTransitions
 mod OneReading
 mod ReadEdits
+mod Rows

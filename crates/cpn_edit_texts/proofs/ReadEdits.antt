@@ -15,7 +15,7 @@ use Rattle.cpn_accepted.specs.Completed.{IsCompleted}
 use Rattle.cpn_module_trees.specs.Parsing.{Parsing, IsGuard, IsInscription}
 use Rattle.cpn_monitor.specs.Monitors.{PlainMonitor}
 use Rattle.cpn_monitor_texts.specs.Named.{transition_named, place_named}
-use Rattle.cpn_monitor_texts.proofs.NamedItems.{number_below}
+use Rattle.cpn_names.proofs.FirstOfNames.{number_below}
 use Rattle.cpn_readings.specs.Relations.{just, such_that}
 use Rattle.cpn_readings.proofs.Readings.{same_read, steps}
 use Rattle.cpn_readings.proofs.RelatedReadings.{step_parts, such_holds}

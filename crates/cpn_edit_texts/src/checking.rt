@@ -19,7 +19,7 @@ use cpn_core::Net;
 use cpn_document::{EditPart, PhasePart, Pointer};
 use cpn_module_trees::guard_in;
 use cpn_monitor::Monitors;
-use cpn_monitor_texts::{place_named, transition_named};
+use cpn_monitor_texts::NamedNet;
 use cpn_types::Decls;
 use std::alloc::Global;
 
@@ -30,6 +30,37 @@ fn known_at(at: Pointer, found: Option<u32>) -> Result<u32, EditError>
     match found {
         Some(number) => Ok(number),
         None => Err(EditError::UnknownName(at)),
+    }
+}
+
+/// An edit in a net that has its names, with these monitors, as [`check_edit`] checks it.
+fn edit_in(
+    alloc: Global,
+    decls: &Decls,
+    named: &NamedNet,
+    monitors: &Monitors,
+    whole: Pointer,
+    at: Pointer,
+    edit: &cpn_document::Edit,
+) -> Result<Edit, EditError>
+    requires editable { MayBeEdited (decls_view decls.now) (net_view named.now) (monitors_view monitors.now) }
+    ensures reads { EditsBy edit_view result (edit_so (decls_view decls.now) (net_view named.now) (monitors_view monitors.now) whole at (written_view edit.now)) }
+{
+    let net = named.net();
+    match edit {
+        cpn_document::Edit::Guard { transition, text } => {
+            let number = known_at(whole, named.transition_named(transition.as_str()))?;
+            let parsing = guard_in(alloc, text.as_str())?;
+            let guard = guard_of(alloc, decls, at, &parsing)?;
+            let edited = edited_transition(alloc, decls, net, monitors, at, number, guard)?;
+            Ok(Edit::Guard(number, edited))
+        }
+        cpn_document::Edit::Initial { place, text } => {
+            let number = known_at(whole, named.place_named(place.as_str()))?;
+            let its = &net.places[number as usize];
+            let tokens = tokens_in_text(alloc, decls, &net.funs, at, its, text.as_str())?;
+            Ok(Edit::Initial(number, tokens))
+        }
     }
 }
 
@@ -57,40 +88,27 @@ pub fn check_edit(
     // What is answered is what the edit is, or its refusal.
     ensures reads { EditsBy edit_view result (edit_so (decls_view decls.now) (net_view net.now) (monitors_view monitors.now) whole at (written_view edit.now)) }
 {
-    match edit {
-        cpn_document::Edit::Guard { transition, text } => {
-            let number = known_at(whole, transition_named(net, transition.as_str()))?;
-            let parsing = guard_in(alloc, text.as_str())?;
-            let guard = guard_of(alloc, decls, at, &parsing)?;
-            let edited = edited_transition(alloc, decls, net, monitors, at, number, guard)?;
-            Ok(Edit::Guard(number, edited))
-        }
-        cpn_document::Edit::Initial { place, text } => {
-            let number = known_at(whole, place_named(net, place.as_str()))?;
-            let its = &net.places[number as usize];
-            let tokens = tokens_in_text(alloc, decls, &net.funs, at, its, text.as_str())?;
-            Ok(Edit::Initial(number, tokens))
-        }
-    }
+    let named = NamedNet::of(alloc, net)?;
+    edit_in(alloc, decls, &named, monitors, whole, at, edit)
 }
 
 /// The edits of the phase of a number.
 fn edits_of(
     alloc: Global,
     decls: &Decls,
-    net: &Net,
+    named: &NamedNet,
     monitors: &Monitors,
     phase: usize,
     written: &[cpn_document::Edit],
 ) -> Result<Vec<Edit>, EditError>
-    requires editable { MayBeEdited (decls_view decls.now) (net_view net.now) (monitors_view monitors.now) }
-    ensures reads { EditsBy (λ edits. edits_view edits.items) result (edits_so (decls_view decls.now) (monitors_view monitors.now) phase 0 (net_view net.now) (map written_view written.now)) }
+    requires editable { MayBeEdited (decls_view decls.now) (net_view named.now) (monitors_view monitors.now) }
+    ensures reads { EditsBy (λ edits. edits_view edits.items) result (edits_so (decls_view decls.now) (monitors_view monitors.now) phase 0 (net_view named.now) (map written_view written.now)) }
 {
     let mut edits = Vec::with_capacity(alloc, written.len())?;
     for (number, edit) in written.iter().enumerate() {
         let whole = Pointer::Phase(phase, PhasePart::Edit(number, EditPart::Whole));
         let at = Pointer::Phase(phase, PhasePart::Edit(number, EditPart::Text));
-        edits.push(check_edit(alloc, decls, net, monitors, whole, at, edit)?)?;
+        edits.push(edit_in(alloc, decls, named, monitors, whole, at, edit)?)?;
     }
     Ok(edits)
 }
@@ -111,9 +129,17 @@ pub fn check_phases(
     // What is answered is what the phases are, or the refusal of the first edit that is refused.
     ensures reads { EditsBy (λ phases. phases_view phases.items) result (phases_so (decls_view decls.now) (monitors_view monitors.now) 0 (net_view net.now) (map written_phase_view written.now)) }
 {
+    let named = NamedNet::of(alloc, net)?;
     let mut phases = Vec::with_capacity(alloc, written.len())?;
     for (number, phase) in written.iter().enumerate() {
-        let edits = edits_of(alloc, decls, net, monitors, number, phase.edits.as_slice())?;
+        let edits = edits_of(
+            alloc,
+            decls,
+            &named,
+            monitors,
+            number,
+            phase.edits.as_slice(),
+        )?;
         phases.push(Phase {
             start: phase.start,
             edits,

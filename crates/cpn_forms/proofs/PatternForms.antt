@@ -19,6 +19,7 @@ use Rattle.cpn_declared.specs.TypeViews.{ty_view}
 use Rattle.cpn_declared.specs.declared.types.Ty.{Ty}
 use Rattle.cpn_declared.specs.declared.types.Ty as ty
 use Rattle.cpn_declared.specs.declared.types.Ty.TheViews as tys
+use Rattle.std.specs.declared.sync.Arc.{Arc}
 use Rattle.cpn_declared.specs.declared.refusals.TypeError.{TypeError}
 use Rattle.cpn_forms.specs.BoundViews.{argument_in, bound_with, RefusesTaking}
 use Rattle.cpn_forms.proofs.PatternFronts.{view_call}
@@ -53,7 +54,7 @@ call_is around p n ps name arguments t bound e m a =
     ∙ ap (λ x. bound_by around (pat p.at (pat_call x (pats_from (map pat_view ps.items)))) t bound) (sym m)
     ∙ ap (λ xs. bound_by around (pat p.at (pat_call name (pats_from (map pat_view xs)))) t bound) (sym a)
 
-view_lists : (b : Box Ty Global) → ty_view (tys.List b) ≡ lists (ty_view b.value)
+view_lists : (b : Arc Ty Global) → ty_view (tys.List b) ≡ lists (ty_view b.value)
 view_lists b = search (rules, ty.the_lemmas)
 
 view_list : (at : ℕ) (ps : Vec Pat Global) → pat_view (record { at = at; form = forms.List ps }) ≡ pat at (pat_list (pats_from (map pat_view ps.items)))
@@ -68,7 +69,7 @@ view_list_pattern ps = search (rules, core.the_lemmas)
 abbrev listed : BoundPatterns → Checked BoundPattern
 listed b = made b.locals (list_pattern b.patterns)
 
-pub list_is : (around : Around) (p : Pat) (ps : Vec Pat Global) (items : List Pat) (t u : Ty) (item : Box Ty Global) (bound : Scope) → p.form ≡ forms.List ps → items ≡ ps.items → t ≡ tys.List item → u ≡ item.value
+pub list_is : (around : Around) (p : Pat) (ps : Vec Pat Global) (items : List Pat) (t u : Ty) (item : Arc Ty Global) (bound : Scope) → p.form ≡ forms.List ps → items ≡ ps.items → t ≡ tys.List item → u ≡ item.value
     → bound_by around (pat_view p) (ty_view t) bound ≡ (bound_by_items around (pats_from (map pat_view items)) (ty_view u) bound >>= listed)
 list_is around p ps items t u item bound e a s v =
     ap (λ f. bound_by around (pat_view (record { at = p.at; form = f })) (ty_view t) bound) e
@@ -86,7 +87,7 @@ in_front x y = made y.locals (cons_pattern x.pattern y.pattern)
 abbrev pub with_tail : Around → PlainPat → PlainTy → BoundPattern → Checked BoundPattern
 with_tail around q t x = bound_by around q t x.locals >>= in_front x
 
-pub cons_is : (around : Around) (p a b : Pat) (head tail : Box Pat Global) (t u : Ty) (item : Box Ty Global) (bound : Scope) → p.form ≡ forms.Cons head tail → a ≡ head.value → b ≡ tail.value → t ≡ tys.List item → u ≡ item.value
+pub cons_is : (around : Around) (p a b : Pat) (head tail : Box Pat Global) (t u : Ty) (item : Arc Ty Global) (bound : Scope) → p.form ≡ forms.Cons head tail → a ≡ head.value → b ≡ tail.value → t ≡ tys.List item → u ≡ item.value
     → bound_by around (pat_view p) (ty_view t) bound ≡ (bound_by around (pat_view a) (ty_view u) bound >>= with_tail around (pat_view b) (ty_view t))
 cons_is around p a b head tail t u item bound e m n s v =
     ap (λ f. bound_by around (pat_view (record { at = p.at; form = f })) (ty_view t) bound) e

@@ -1,6 +1,6 @@
 //! The rules of calls: what is wanted of their arguments, and what these make.
 
-ghost use Rattle.std.specs.Prelude.{◌≡◌, option_map};
+ghost use Rattle.std.specs.Prelude.{◌≡◌, option_map, IfOk};
 ghost use Rattle.cpn_definitions.specs.Inscription.{apply, constructing, more_exprs, no_exprs};
 ghost use Rattle.cpn_core.specs.Inscriptions.{expr_view};
 ghost use Rattle.cpn_typing.specs.Types.{same_types, union as of_union};
@@ -19,7 +19,7 @@ use crate::forms::{Parts, Spot, meets};
 use crate::lookups::{Found, Predeclared, find};
 use crate::scopes::Local;
 use crate::typed::Typed;
-use cpn_core::Expr;
+use cpn_core::{Expr, Memory};
 use cpn_declared::{Decls, Meaning, Ty, TypeError, Tys, are_same};
 use std::alloc::Global;
 
@@ -162,23 +162,18 @@ pub fn item_of(ty: &Ty, at: usize) -> Result<&Ty, TypeError>
 }
 
 /// The type of what a predeclared function gives, by the type of its first argument.
-fn result_of(function: Predeclared, first: Ty) -> Ty
-    ensures exact { ty_view result ≡ rules.result_of function (ty_view first) }
+fn result_of(function: Predeclared, first: Ty) -> Result<Ty, Memory>
+    ensures exact { IfOk result (λ ty. ty_view ty ≡ rules.result_of function (ty_view first)) }
 {
     match function {
-        Predeclared::Head => match first {
-            Ty::List(item) => Box::into_inner(item),
-            Ty::Unit => Ty::Unit,
-            Ty::Bool => Ty::Bool,
-            Ty::Int => Ty::Int,
-            Ty::Text => Ty::Text,
-            Ty::Enum(number) => Ty::Enum(number),
-            Ty::Tuple(parts) => Ty::Tuple(parts),
-            Ty::Union(number) => Ty::Union(number),
+        Predeclared::Head => match &first {
+            Ty::List(item) => item.copy(),
+            Ty::Unit | Ty::Bool | Ty::Int | Ty::Text | Ty::Enum(_) | Ty::Tuple(_) | Ty::Union(_) =>
+                Ok(first),
         },
-        Predeclared::Tail | Predeclared::Rev => first,
-        Predeclared::Length | Predeclared::Size => Ty::Int,
-        Predeclared::Mem => Ty::Bool,
+        Predeclared::Tail | Predeclared::Rev => Ok(first),
+        Predeclared::Length | Predeclared::Size => Ok(Ty::Int),
+        Predeclared::Mem => Ok(Ty::Bool),
     }
 }
 
@@ -204,11 +199,12 @@ pub fn operation_makes(
     }
     let Typed { expr, ty } = first;
     exprs.insert(0, expr)?;
+    let result = result_of(function, ty)?;
     meets(
         spot.wanted,
         spot.at,
         Expr::Op(function.operation(), exprs),
-        result_of(function, ty),
+        result,
     )
 }
 

@@ -19,6 +19,7 @@ use crate::typed::Typed;
 use cpn_core::{Expr, Exprs, Memory};
 use cpn_declared::{Ty, TypeError};
 use std::alloc::Global;
+use std::sync::Arc;
 
 /// An `if` of a condition and its two parts.
 fn choice(alloc: Global, condition: Expr, left: Expr, right: Expr) -> Result<Expr, Memory>
@@ -120,7 +121,9 @@ pub fn tupled(parts: Parts, spot: Spot<'_>) -> Result<Typed, TypeError>
     ensures exact { Answers typed_view result (meets_rule (wanted_view spot.entry.wanted) spot.entry.at (apply tupling (parts_view parts).exprs) (tuples (parts_view parts).types)) }
 {
     let Parts { exprs, types } = parts;
-    meets(spot.wanted, spot.at, Expr::Tuple(exprs), Ty::Tuple(types))
+    let alloc = *types.allocator();
+    let ty = Ty::Tuple(Arc::new(alloc, types)?);
+    meets(spot.wanted, spot.at, Expr::Tuple(exprs), ty)
 }
 
 /// A list whose items have one type.
@@ -135,7 +138,7 @@ pub fn listed(alloc: Global, items: Items, spot: Spot<'_>) -> Result<Typed, Type
     let Items { exprs, ty } = items;
     match ty {
         Some(ty) => {
-            let ty = Ty::List(Box::new(alloc, ty)?);
+            let ty = Ty::List(Arc::new(alloc, ty)?);
             meets(spot.wanted, spot.at, Expr::List(exprs), ty)
         }
         None => Err(TypeError::Mismatch(spot.at)),

@@ -20,6 +20,7 @@ use cpn_core::{Expr, Memory, Op};
 use cpn_declared::{Ty, TypeError};
 use cpn_trees::{Ast, Form, Infix, Prefix};
 use std::alloc::Global;
+use std::sync::Arc;
 
 /// The typed operands of an operator, with the types of the one that came first and of the one that came last.
 #[derive(Drop)]
@@ -241,7 +242,7 @@ pub fn other_wanted(alloc: Global, operator: Infix, first: &Ty) -> Result<Option
         Infix::Andalso | Infix::Orelse => Ok(Some(Ty::Bool)),
         Infix::Cons => {
             let item = first.copy()?;
-            let list = Box::new(alloc, item)?;
+            let list = Arc::new(alloc, item)?;
             Ok(Some(Ty::List(list)))
         }
         Infix::Equal
@@ -317,7 +318,7 @@ fn disjoined(alloc: Global, sides: Sides, spot: Spot<'_>) -> Result<Typed, TypeE
 fn prepended(alloc: Global, sides: Sides, spot: Spot<'_>) -> Result<Typed, TypeError>
     ensures exact { Answers typed_view result (rules.sides_make between.Cons (spot_view spot.entry) 0 (sides_view sides)) }
 {
-    let list = Ty::List(Box::new(alloc, sides.first)?);
+    let list = Ty::List(Arc::new(alloc, sides.first)?);
     applied(alloc, Op::Cons, sides.left, sides.right, list, spot)
 }
 

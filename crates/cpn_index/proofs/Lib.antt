@@ -1,6 +1,7 @@
 mod UntouchedElements
 mod TouchedElements
 pub mod ClockedLists
+mod CountedStages
 mod UpdateBounds
 mod KeptLists
 mod RetimedLists

@@ -1,5 +1,5 @@
 -- How many steps an update may take. Source: own choice.
-use Rattle.std.specs.Prelude.{◌≡◌, ◌⊎◌, ℕ, ◌+◌, ◌==◌, Bool, not, ◌&&◌, List, [], ◌∷◌, length}
+use Rattle.std.specs.Prelude.{◌≡◌, ◌⊎◌, ℕ, ◌+◌, ◌≤◌, ◌==◌, Bool, not, ◌&&◌, List, [], ◌∷◌, length}
 use Rattle.std.specs.List.{filter, list_any, range_with_len}
 use Rattle.std.specs.Ordering.{is_eq}
 use Rattle.cpn_definitions.specs.Marking.{Marking}
@@ -47,3 +47,9 @@ pub record IsUpdateWork (n : PlainNet) (m : Marking) (told : List PlainChange) (
   pub full : ℕ
   pub full_is : IsSum (IsFullIfRead n m told) (transitions_of n) full
   pub sum_is : k ≡ pinned + full + length (gone old new)
+
+-- Within its work: there is such a number, and from the one count of steps to the other no more were made.
+pub record IsWithinWork (n : PlainNet) (m : Marking) (told : List PlainChange) (old new : List PlainEntry) (before after : ℕ) : Type 0 where
+  pub most : ℕ
+  pub is_work : IsUpdateWork n m told old new most
+  pub within : after ≤ before + most

@@ -9,7 +9,7 @@ ghost use Rattle.cpn_core.specs.Elements.{enabled_view, HasItsNeeds};
 ghost use Rattle.cpn_tmset.specs.ChangedViews.{change_views, changes_view};
 ghost use Rattle.cpn_due.specs.Due.{plain_enabled, entries_in, due_at};
 ghost use Rattle.cpn_index.specs.Index.{kept_in, clock_in, listed_in, IsIndexOf, MayFollow, MaySetGuard};
-ghost use Rattle.cpn_index.specs.UpdateWork.{IsUpdateWork};
+ghost use Rattle.cpn_index.specs.UpdateWork.{IsUpdateWork, IsWithinWork};
 
 use crate::elements::WatchedElements;
 use crate::readers::Readers;
@@ -61,7 +61,8 @@ impl Index {
     }
 
     /// Follows a change of the marking: the index was that of a marking from which the new one differs at most in the stamps of what is
-    /// told, and is then that of the new one. It costs by what the change touches: steps are counted as `IsUpdateWork` bounds them.
+    /// told, and is then that of the new one. It costs by what the change touches: steps are counted as `IsUpdateWork` bounds them, and
+    /// there is such a bound. What is told twice is searched for twice, and counts twice.
     ///
     /// # Errors
     ///
@@ -78,6 +79,7 @@ impl Index {
         requires follows { MayFollow (net_view net.now) marking.now (changes_view changes.now) self.old }
         ensures updated { OnOk result (IsIndexOf (net_view net.now) marking.now self.new) }
         ensures steps { (final : List PlainEntry) (k : ℕ) → Enabled (net_view net.now) marking.now 0 final → IsUpdateWork (net_view net.now) marking.now (changes_view changes.now) (entries_in (kept_in self.old)) final k → steps.new ≤ steps.old + k }
+        ensures bounded { (final : List PlainEntry) → Enabled (net_view net.now) marking.now 0 final → IsWithinWork (net_view net.now) marking.now (changes_view changes.now) (entries_in (kept_in self.old)) final steps.old steps.new }
         ensures gone { OnErr result (kept_in self.new ≡ []) }
         ensures clock { clock_in self.new ≡ clock_in self.old }
     {

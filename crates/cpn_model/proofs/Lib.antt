@@ -3,3 +3,4 @@ mod LoadedDocuments
 mod ReadModels
 mod ReadyModels
 pub mod WellModels
+mod Rows

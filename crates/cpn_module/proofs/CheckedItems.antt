@@ -1,13 +1,14 @@
 -- Rules of the items of a list, looked at one item after another.
-use Rattle.std.proofs.Common.{◌≡◌, ℕ, ◌+◌, ◌<◌, ◌≤◌, Bool, false, List, ◌++◌, length, drop, get_or, map, sym, ap, ◌∙◌, subst, All}
-use Rattle.std.specs.Prelude.{Option, Some, None, Result, IsErrAnd}
+use Rattle.std.proofs.Common.{◌≡◌, ℕ, suc, ◌+◌, ◌<◌, ◌≤◌, Bool, false, List, ◌++◌, length, drop, get_or, map, Bor, sym, ap, ◌∙◌, subst, All}
+use Rattle.std.specs.Prelude.{Option, Some, None, Result, Ok, Err, IsErrAnd}
 use Rattle.std.proofs.lemmas.List.{get_or_default, get_or-map, length-map}
 use Rattle.std.proofs.lemmas.Result.{err_from_is_err_and}
 use Rattle.cpn_readings.specs.Rules.{first_broken, each_item, Breaks}
-use Rattle.cpn_readings.proofs.BrokenRules.{broken_later, item_kept, item_broken, items_kept}
+use Rattle.cpn_readings.proofs.BrokenRules.{none_broken, broken_later, breaks_here, item_kept, item_broken, items_kept}
 use Rattle.cpn_module.specs.Refusals.{ModuleRefusal}
 use Rattle.cpn_module.specs.ModuleRules.{Rule, rule}
 use Rattle.cpn_module.specs.Answers.{refusal_of, Checks}
+use Rattle.cpn_module.specs.Walks.{IsWalk, none_left, passed, refused}
 use Rattle.cpn_module.specs.declared.refusals.ModuleError.{ModuleError}
 use Rattle.cpn_module.proofs.OneRule.{rule_broken}
 
@@ -25,6 +26,22 @@ second_broken refusal first second h broken = rw (broken_later first second h) b
 -- an error of a part is one of the whole
 pub passed_on : {X : Type 0} (result : Result X ModuleError) (rules : List Rule) (error : ModuleError) → IsErrAnd result (λ e. e ≡ error) → Breaks (refusal_of error) rules → Checks result rules
 passed_on result rules error h broken = let p = err_from_is_err_and result h in rw (p.1, p.2) broken
+
+-- rules behind those that are kept
+pub checked_later : {X : Type 0} (result : Result X ModuleError) (first second : List Rule) → first_broken first ≡ None → Checks result second → Checks result (first ++ second)
+checked_later (Ok x) first second h k = second_kept first second h k
+checked_later (Err e) first second h broken = second_broken (refusal_of e) first second h broken
+
+-- A walk over a list checks the rules of its items, where each call checks those of its item.
+module _ {V A : Type 0} (seen : V → A) (rules : ℕ → A → List Rule) (Answers : ℕ → Bor V → Result (Unit {0}) ModuleError → Type 0) (each : (i : ℕ) (p : Bor V) (r : Result (Unit {0}) ModuleError) → Answers i p r → Checks r (rules i (seen p.now))) where
+  by_items : (i : ℕ) (vs : List V) (result : Result (Unit {0}) ModuleError) → IsWalk Answers i vs result → Checks result (each_item rules i (map seen vs))
+  unfolding each_item
+  by_items _ _ _ (none_left i) = none_broken
+  by_items _ _ _ (passed i p vs result answer rest) = checked_later result (rules i (seen p.now)) (each_item rules (suc i) (map seen vs)) (each i p (Ok tt) answer) (by_items (suc i) vs result rest)
+  by_items _ _ _ (refused i p vs e answer) = breaks_here (refusal_of e) (rules i (seen p.now)) (each_item rules (suc i) (map seen vs)) (each i p (Err e) answer)
+
+pub walk_checks : {V A : Type 0} (seen : V → A) (rules : ℕ → A → List Rule) (Answers : ℕ → Bor V → Result (Unit {0}) ModuleError → Type 0) (ws vs : List V) (result : Result (Unit {0}) ModuleError) → ws ≡ vs → IsWalk Answers 0 ws result → ((i : ℕ) (p : Bor V) (r : Result (Unit {0}) ModuleError) → Answers i p r → Checks r (rules i (seen p.now))) → Checks result (each_item rules 0 (map seen vs))
+walk_checks {V} seen rules Answers ws vs result same h each = by_items seen rules Answers each 0 vs result (subst (λ (xs : List V). IsWalk Answers 0 xs result) same h)
 
 module _ {V A : Type 0} (seen : V → A) (rules : ℕ → A → List Rule) (vs : List V) where
   -- those of the rest decide

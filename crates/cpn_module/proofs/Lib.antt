@@ -19,3 +19,4 @@ mod NumbersInSets
 mod SocketRules
 mod OneHierarchy
 mod Rows
+mod Walked

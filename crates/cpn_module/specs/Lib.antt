@@ -14,3 +14,4 @@ pub mod Views
 pub mod Answers
 pub mod Pairs
 pub mod OneHierarchy
+pub mod Walks

@@ -21,6 +21,7 @@ mod ports;
 mod refusals;
 mod sockets;
 mod unknown;
+mod walks;
 
 pub use checking::check_hierarchy;
 pub use hierarchy::{

@@ -12,6 +12,7 @@ ghost use Rattle.cpn_module.specs.Answers.{Checks};
 use crate::name_lists::{DocumentNames, Names};
 use crate::pointing::{at_arc, at_assignment, at_member, at_sub};
 use crate::refusals::ModuleError;
+use crate::walks::check_each;
 use cpn_document::{
     Arc, ArcPart, Assignment, AssignmentPart, Document, Fusion, Member, MemberPart, Module, Place,
     Pointer, Sub, SubPart,
@@ -43,20 +44,18 @@ fn check_submodules(
 ) -> Result<(), ModuleError>
     ensures checks { Checks result (submodule_rules modules.now in_module (module_view of_module.now)) }
 {
-    for (number, sub) in of_module.subs.iter().enumerate() {
-        check_submodule(modules, in_module, number, sub)?;
-    }
-    Ok(())
+    check_each(&of_module.subs, |number, sub| {
+        check_submodule(modules, in_module, number, sub)
+    })
 }
 
 /// The same of each module.
 fn check_all_submodules(modules: &Names, document: &Document) -> Result<(), ModuleError>
     ensures checks { Checks result (each_item (submodule_rules modules.now) 0 (document_view document.now).modules) }
 {
-    for (number, of_module) in document.modules.iter().enumerate() {
-        check_submodules(modules, number, of_module)?;
-    }
-    Ok(())
+    check_each(&document.modules, |number, of_module| {
+        check_submodules(modules, number, of_module)
+    })
 }
 
 /// That the module of a member of a fusion set is there.
@@ -84,20 +83,18 @@ fn check_member_modules(
 ) -> Result<(), ModuleError>
     ensures checks { Checks result (member_module_rules modules.now in_fusion (fusion_view fusion.now)) }
 {
-    for (number, member) in fusion.members.iter().enumerate() {
-        check_member_module(modules, in_fusion, number, member)?;
-    }
-    Ok(())
+    check_each(&fusion.members, |number, member| {
+        check_member_module(modules, in_fusion, number, member)
+    })
 }
 
 /// The same of each fusion set.
 fn check_all_member_modules(modules: &Names, document: &Document) -> Result<(), ModuleError>
     ensures checks { Checks result (each_item (member_module_rules modules.now) 0 (document_view document.now).fusions) }
 {
-    for (number, fusion) in document.fusions.iter().enumerate() {
-        check_member_modules(modules, number, fusion)?;
-    }
-    Ok(())
+    check_each(&document.fusions, |number, fusion| {
+        check_member_modules(modules, number, fusion)
+    })
 }
 
 /// That the top module, the submodules and the modules of members are there.
@@ -134,10 +131,9 @@ fn check_arc_place(
 fn check_arc_places(places: &Names, in_module: usize, of_module: &Module) -> Result<(), ModuleError>
     ensures checks { Checks result (arc_place_rules places.now in_module (module_view of_module.now)) }
 {
-    for (number, arc) in of_module.arcs.iter().enumerate() {
-        check_arc_place(places, in_module, number, arc)?;
-    }
-    Ok(())
+    check_each(&of_module.arcs, |number, arc| {
+        check_arc_place(places, in_module, number, arc)
+    })
 }
 
 /// The place of a name in the module of a name, where both are there.
@@ -210,12 +206,11 @@ fn check_assignments(
     requires names { AreNamesOf (document_view document.now) names.now.modules names.now.places.items }
     ensures checks { Checks result (sub_place_rules (document_view document.now) places.now in_module in_sub (sub_view sub.now)) }
 {
-    for (number, assignment) in sub.assign.iter().enumerate() {
+    check_each(&sub.assign, |number, assignment| {
         check_assignment(
             document, names, places, in_module, in_sub, sub, number, assignment,
-        )?;
-    }
-    Ok(())
+        )
+    })
 }
 
 /// The same of each substitution transition of a module.
@@ -229,10 +224,9 @@ fn check_all_assignments(
     requires names { AreNamesOf (document_view document.now) names.now.modules names.now.places.items }
     ensures checks { Checks result (each_item (sub_place_rules (document_view document.now) places.now in_module) 0 (module_view of_module.now).subs) }
 {
-    for (number, sub) in of_module.subs.iter().enumerate() {
-        check_assignments(document, names, places, in_module, number, sub)?;
-    }
-    Ok(())
+    check_each(&of_module.subs, |number, sub| {
+        check_assignments(document, names, places, in_module, number, sub)
+    })
 }
 
 /// That the places that a module names are there.
@@ -299,10 +293,9 @@ fn check_member_places(
     requires names { AreNamesOf (document_view document.now) names.now.modules names.now.places.items }
     ensures checks { Checks result (member_place_rules (document_view document.now) in_fusion (fusion_view fusion.now)) }
 {
-    for (number, member) in fusion.members.iter().enumerate() {
-        check_member_place(document, names, in_fusion, number, member)?;
-    }
-    Ok(())
+    check_each(&fusion.members, |number, member| {
+        check_member_place(document, names, in_fusion, number, member)
+    })
 }
 
 /// The same of each fusion set.
@@ -310,10 +303,9 @@ fn check_all_member_places(document: &Document, names: &DocumentNames) -> Result
     requires names { AreNamesOf (document_view document.now) names.now.modules names.now.places.items }
     ensures checks { Checks result (each_item (member_place_rules (document_view document.now)) 0 (document_view document.now).fusions) }
 {
-    for (number, fusion) in document.fusions.iter().enumerate() {
-        check_member_places(document, names, number, fusion)?;
-    }
-    Ok(())
+    check_each(&document.fusions, |number, fusion| {
+        check_member_places(document, names, number, fusion)
+    })
 }
 
 /// That the places of arcs, the ports and sockets of assignments, and the places of members are there.
@@ -354,10 +346,9 @@ fn check_arc_transitions(
 ) -> Result<(), ModuleError>
     ensures checks { Checks result (arc_transition_rules transitions.now subs.now in_module (module_view of_module.now)) }
 {
-    for (number, arc) in of_module.arcs.iter().enumerate() {
-        check_arc_transition(transitions, subs, in_module, number, arc)?;
-    }
-    Ok(())
+    check_each(&of_module.arcs, |number, arc| {
+        check_arc_transition(transitions, subs, in_module, number, arc)
+    })
 }
 
 /// That the transitions that a module names are there, given the names of its transitions.
@@ -390,10 +381,9 @@ fn check_transitions_of_module(
 fn check_transitions(alloc: Global, document: &Document) -> Result<(), ModuleError>
     ensures checks { Checks result (transition_rules (document_view document.now)) }
 {
-    for (number, of_module) in document.modules.iter().enumerate() {
-        check_transitions_of_module(alloc, number, of_module)?;
-    }
-    Ok(())
+    check_each(&document.modules, |number, of_module| {
+        check_transitions_of_module(alloc, number, of_module)
+    })
 }
 
 /// That everything that is named is there.

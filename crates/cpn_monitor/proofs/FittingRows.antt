@@ -1,11 +1,11 @@
 -- Worked cases of what monitors may measure in a net: one with a place of integers, and a transition with a variable of integers.
-use Rattle.std.proofs.Common.{◌≡◌, false, pos, negsuc, List, [], ◌∷◌, refl, arith}
+use Rattle.std.proofs.Common.{◌≡◌, true, false, pos, negsuc, List, [], ◌∷◌, refl, arith}
 use Rattle.std.specs.Prelude.{codes}
 use Rattle.cpn_definitions.specs.Colour.{PlainColour, int_shape}
-use Rattle.cpn_definitions.specs.Inscription.{literal, variable}
+use Rattle.cpn_definitions.specs.Inscription.{literal, variable, the_time}
 use Rattle.cpn_definitions.specs.Marking.{token_at}
 use Rattle.cpn_definitions.specs.Net.{PlainNet, PlainTransition, no_transition}
-use Rattle.cpn_definitions.specs.Value.{int, text}
+use Rattle.cpn_definitions.specs.Value.{boolean, int, text}
 use Rattle.cpn_monitor.specs.Fitting.{IsMeasurable, FitNet}
 use Rattle.cpn_monitor.specs.Monitors.{PlainMonitor, counts, sizes, values, stops_by_count, stops_by_size, at_least}
 use Rattle.cpn_monitor.specs.MeasuredRuns.{MeasuredRun, MarkedOccurrence, begun, with_occurrence, at_clock, IsTimely}
@@ -31,8 +31,14 @@ net = record {
 its_transition : IsMeasurable net (counts 0)
 its_transition = omega arith
 
-no_transition_there : IsMeasurable net (stops_by_count 1 3) → ⊥
+no_transition_there : IsMeasurable net (counts 1) → ⊥
 no_transition_there h = omega (arith, h)
+
+none_to_stop_after : IsMeasurable net (stops_by_count 1 3) → ⊥
+none_to_stop_after h = omega (arith, h)
+
+none_for_a_value : IsMeasurable net (values 1 (literal (int (pos 7)))) → ⊥
+none_for_a_value h = let there = h.0 in omega (arith, there)
 
 its_place : IsMeasurable net (stops_by_size 0 at_least 3)
 its_place = omega arith
@@ -40,9 +46,18 @@ its_place = omega arith
 no_place_there : IsMeasurable net (sizes 1) → ⊥
 no_place_there h = omega (arith, h)
 
--- an integer that is written out, and a string
+none_to_stop_at : IsMeasurable net (stops_by_size 1 at_least 3) → ⊥
+none_to_stop_at h = omega (arith, h)
+
+-- an integer that is written out, and the time; a boolean, and a string
 an_integer : IsMeasurable net (values 0 (literal (int (pos 7))))
 an_integer = (omega arith, λ b time bound in_time. tt)
+
+the_time_of_it : IsMeasurable net (values 0 the_time)
+the_time_of_it = (omega arith, λ b time bound in_time. tt)
+
+a_boolean : IsMeasurable net (values 0 (literal (boolean true))) → ⊥
+a_boolean h = h.1 ((0, int (pos 7)) ∷ []) 0 refl (omega arith)
 
 a_string : IsMeasurable net (values 0 (literal (text []))) → ⊥
 a_string h = h.1 ((0, int (pos 7)) ∷ []) 0 refl (omega arith)

@@ -1,7 +1,10 @@
 mod FittingRows
+mod KeptRows
+mod KeptRuns
+mod ListedMonitors
 mod NotedRuns
 mod Rows
-mod ToldRuns
-mod ValueLists
+pub mod ToldRuns
 mod ValueViews
+mod WatchedNets
 pub mod SendableMonitors

@@ -21,7 +21,7 @@ use Rattle.cpn_monitor.specs.Noted.{one_if, least_with, greatest_with, with_inte
 occurrences_more : (t : ℕ) (occurrences : List MarkedOccurrence) (marked : MarkedOccurrence) → occurrences_of t (occurrences ++ marked ∷ []) ≡ occurrences_of t occurrences ++ (if is_of t marked then marked ∷ [] else [])
 occurrences_more t occurrences marked = filter-append (is_of t) occurrences (marked ∷ [])
 
-count_more : (t : ℕ) (occurrences : List MarkedOccurrence) (marked : MarkedOccurrence) → count_of t (occurrences ++ marked ∷ []) ≡ count_of t occurrences + one_if (is_of t marked)
+pub count_more : (t : ℕ) (occurrences : List MarkedOccurrence) (marked : MarkedOccurrence) → count_of t (occurrences ++ marked ∷ []) ≡ count_of t occurrences + one_if (is_of t marked)
 count_more t occurrences marked = ap length (occurrences_more t occurrences marked) ∙ length-append (occurrences_of t occurrences) _ ∙ ap (λ n. count_of t occurrences + n) (by (is_of t marked))
   where
     by : (b : Bool) → length (if b then marked ∷ [] else []) ≡ one_if b
@@ -147,7 +147,7 @@ values_more outcomes o = by (integer_given o) (integer_more outcomes o (integer_
         ap (λ xs. valued (length xs) (fold ◌+ℤ◌ (pos 0) xs) (reduce int_min xs) (reduce int_max xs) (faults_in (outcomes ++ o ∷ []))) is
         ∙ all_five _ _ _ _ _ _ _ _ _ _ (length-append zs (z ∷ [])) (fold-append ◌+ℤ◌ (pos 0) zs (z ∷ [])) (reduced_with int_min (least_with z) z refl (λ y. refl) zs) (reduced_with int_max (greatest_with z) z refl (λ y. refl) zs) (faults_more outcomes o)
 
-outcomes_more : (funs : Functions) (t : ℕ) (e : PlainExpr) (occurrences : List MarkedOccurrence) (marked : MarkedOccurrence) → outcomes_of funs t e (occurrences ++ marked ∷ []) ≡ outcomes_of funs t e occurrences ++ (if is_of t marked then meaning_at funs e marked ∷ [] else [])
+pub outcomes_more : (funs : Functions) (t : ℕ) (e : PlainExpr) (occurrences : List MarkedOccurrence) (marked : MarkedOccurrence) → outcomes_of funs t e (occurrences ++ marked ∷ []) ≡ outcomes_of funs t e occurrences ++ (if is_of t marked then meaning_at funs e marked ∷ [] else [])
 outcomes_more funs t e occurrences marked = ap (map (meaning_at funs e)) (occurrences_more t occurrences marked) ∙ map-append (meaning_at funs e) (occurrences_of t occurrences) _ ∙ ap (λ os. outcomes_of funs t e occurrences ++ os) (by (is_of t marked))
   where
     by : (b : Bool) → map (meaning_at funs e) (if b then marked ∷ [] else []) ≡ (if b then meaning_at funs e marked ∷ [] else [])

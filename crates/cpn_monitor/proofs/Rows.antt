@@ -11,13 +11,13 @@ use Rattle.cpn_monitor.specs.MonitorValues.{counted, sized, valued, counted_to_s
 use Rattle.cpn_monitor.specs.Stops.{stop_after}
 
 -- no token, one, and two
-abbrev none : Tokens
+abbrev pub none : Tokens
 none = []
 
-abbrev one_token : Tokens
+abbrev pub one_token : Tokens
 one_token = token_at (int (pos 7)) 0 ∷ []
 
-abbrev two_tokens : Tokens
+abbrev pub two_tokens : Tokens
 two_tokens = token_at (int (pos 7)) 0 ∷ token_at (int (pos 7)) 2 ∷ []
 
 -- an occurrence of a transition with a value of its variable at a time, after which these tokens are on the places 0 and 1
@@ -27,7 +27,7 @@ marked t x time first second = record { occurrence = record { element = record {
 abbrev occurrences : List MarkedOccurrence
 occurrences = marked 0 5 3 one_token one_token ∷ marked 1 4 5 one_token none ∷ marked 0 0 5 none one_token ∷ []
 
-abbrev run : MeasuredRun
+abbrev pub run : MeasuredRun
 run = record { start = two_tokens ∷ none ∷ []; clock = 3; occurrences = occurrences; last_clock = 9 }
 
 -- one function of no parameter, which gives 10

@@ -4,7 +4,9 @@ use denote.Param.SendFields.{declared_send, declared_sync}
 use Rattle.std.proofs.Crossing as std
 use Rattle.cpn_core.proofs.SendableNets as nets
 use Rattle.cpn_monitor.proofs.monitors.Bound.TheSendSync as bounds
+use Rattle.cpn_monitor.proofs.measuring.Measuring.TheSendSync as kept
 use Rattle.cpn_monitor.proofs.values.Values14.TheSendSync as measured
+use Rattle.cpn_monitor.specs.contracts.measuring.Measuring as measuring
 use Rattle.cpn_monitor.specs.contracts.monitors.Monitors as monitors
 use Rattle.cpn_monitor.specs.contracts.values.Values14 as values
 
@@ -19,3 +21,9 @@ values_send = measured.the_send
 
 pub values_sync : IsSync values.the_row
 values_sync = measured.the_sync
+
+pub measuring_send : IsSend measuring.the_row
+measuring_send = kept.the_send
+
+pub measuring_sync : IsSync measuring.the_row
+measuring_sync = kept.the_sync

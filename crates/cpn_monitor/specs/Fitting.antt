@@ -1,5 +1,5 @@
 -- When monitors fit a net, and an occurrence may be told to them. Source: own choice.
-use Rattle.std.specs.Prelude.{◌≡◌, ℕ, ◌-◌, ◌<◌, ◌≤◌, ◌^◌, true, List, length}
+use Rattle.std.specs.Prelude.{◌≡◌, ℕ, ◌-◌, ◌<◌, ◌≤◌, ◌^◌, true, false, List, length}
 use Rattle.std.specs.List.{AllByRecursion}
 use Rattle.cpn_definitions.specs.Bounds.{IsBounded}
 use Rattle.cpn_definitions.specs.Inscription.{PlainExpr, Functions}
@@ -11,8 +11,8 @@ use Rattle.cpn_definitions.specs.Outcome.{Outcome, gives, faults, no_meaning}
 use Rattle.cpn_definitions.specs.Times.{last_time}
 use Rattle.cpn_definitions.specs.Value.{PlainValue, unit, boolean, int, constant, text, tuple, bare, applied, list}
 use Rattle.cpn_monitor.specs.Monitors.{PlainMonitor, PlainMeasure, counts, sizes, values, stops_by_count, stops_by_size}
-use Rattle.cpn_monitor.specs.MonitorValues.{PlainMonitorValue, values_of}
-use Rattle.cpn_monitor.specs.MeasuredRuns.{MarkedOccurrence, MeasuredRun, IsTimely}
+use Rattle.cpn_monitor.specs.Looks.{is_beside}
+use Rattle.cpn_monitor.specs.MeasuredRuns.{MarkedOccurrence, MeasuredRun, size_on, last_marking}
 
 -- an integer, or a fault
 abbrev pub MeansInteger : Outcome PlainValue → Type 0
@@ -50,35 +50,18 @@ pub record MayBeSeen (n : PlainNet) (m : Marking) : Type 0 where
   pub entries : length m ≡ length n.places
   pub few : IsBounded (2 ^ 48 - 1) m
 
--- The values are those that the monitors measure of a run, whose clock is not before its last occurrence.
-pub record AreMeasured (funs : Functions) (monitors : List PlainMonitor) (run : MeasuredRun) (values : List PlainMonitorValue) : Type 0 where
-  pub timely : IsTimely run
-  pub values_are : values ≡ values_of funs monitors run
-
 -- the most occurrences of a run that monitors may be told, so that their numbers have 64 bits
 abbrev pub most_told : ℕ
 most_told = 2 ^ 63
 
 -- An occurrence that may be told to monitors after a run: its binding is one of its transition's variables, its time is not before the
--- run's clock, the marking after it may be seen, and fewer occurrences than the most have been told.
+-- run's clock, the marking after it may be seen, a place that is at none of its transition's arcs has as many tokens as before, and fewer
+-- occurrences than the most have been told.
 pub record IsNext (n : PlainNet) (run : MeasuredRun) (marked : MarkedOccurrence) : Type 0 where
   pub bound : binds n (transition_at n marked.occurrence.element.transition).vars marked.occurrence.element.binding ≡ true
   pub in_order : run.last_clock ≤ marked.occurrence.time
   pub in_time : marked.occurrence.time ≤ last_time
   pub after : MayBeSeen n marked.after
+  pub elsewhere : (p : ℕ) → is_beside n marked.occurrence.element.transition p ≡ false
+      → size_on p marked.after ≡ size_on p (last_marking run)
   pub few : length run.occurrences < most_told
-
--- The monitors, which fit a net, have these values of a run, and may be told its next occurrence.
-pub record MayNote (funs : Functions) (monitors : List PlainMonitor) (values : List PlainMonitorValue) (marked : MarkedOccurrence) : Type 0 where
-  pub net : PlainNet
-  pub run : MeasuredRun
-  pub fit : FitNet net funs monitors
-  pub measured : AreMeasured funs monitors run values
-  pub next : IsNext net run marked
-
--- The monitors have these values of a run, whose clock is not after this one.
-pub record MayClose (funs : Functions) (monitors : List PlainMonitor) (values : List PlainMonitorValue) (clock : ℕ) : Type 0 where
-  pub run : MeasuredRun
-  pub measured : AreMeasured funs monitors run values
-  pub not_before : run.last_clock ≤ clock
-  pub in_time : clock ≤ last_time

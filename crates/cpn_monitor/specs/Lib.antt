@@ -1,7 +1,11 @@
 pub mod Monitors
+pub mod Looks
 pub mod MeasuredRuns
 pub mod MonitorValues
 pub mod Stops
 pub mod Fitting
 pub mod Noted
+pub mod Watched
+pub mod Kept
 pub mod Views
+pub mod Told

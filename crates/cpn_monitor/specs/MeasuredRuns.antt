@@ -58,6 +58,15 @@ with_occurrence marked run = record run { occurrences = run.occurrences ++ marke
 abbrev pub at_clock : ℕ → MeasuredRun → MeasuredRun
 at_clock clock run = record run { last_clock = clock }
 
+-- the marking after the last of occurrences, or the one before them
+abbrev pub marking_after : Marking → List MarkedOccurrence → Marking
+marking_after m [] = m
+marking_after m (marked ∷ occurrences) = marking_after marked.after occurrences
+
+-- the marking to which a run has come
+abbrev pub last_marking : MeasuredRun → Marking
+last_marking run = marking_after run.start run.occurrences
+
 -- the time of the last of occurrences, or the clock before them
 abbrev pub last_time_of : ℕ → List MarkedOccurrence → ℕ
 last_time_of clock [] = clock

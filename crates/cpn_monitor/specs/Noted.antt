@@ -1,6 +1,7 @@
 -- What one occurrence more adds to what a monitor measured, and what a later clock does, as the code goes about it: what it comes to is `measured`.
 -- Source: own choice.
-use Rattle.std.specs.Prelude.{◌≡◌, ℕ, suc, ◌==◌, ◌&&◌, List, [], ◌∷◌, ◌+◌, ◌*◌, ◌-◌, ◌<◌, ◌≤◌, ◌^◌, length, min, max, ℤ, ◌+ℤ◌, Bool, true, false, if◌then◌else◌, Option, Some, None}
+use Rattle.std.specs.Prelude.{◌≡◌, ℕ, zero, suc, ◌==◌, ◌&&◌, List, [], ◌∷◌, ◌+◌, ◌*◌, ◌-◌, ◌<◌, ◌≤◌, ◌^◌, length, min, max, ℤ, ◌+ℤ◌, Bool, true, false, if◌then◌else◌, Option, Some, None, MatchOption, Contains, slice_get}
+use Rattle.std.specs.List.{AllByRecursion}
 use Rattle.std.specs.Int.{int_min, int_max}
 use Rattle.cpn_definitions.specs.Inscription.{Functions}
 use Rattle.cpn_definitions.specs.Marking.{Marking}
@@ -111,26 +112,40 @@ MayLook m (values t e) = Unit {0}
 MayLook m (stops_by_count t n) = Unit {0}
 MayLook m (stops_by_size p bound n) = IsSeen p m
 
--- ---- all monitors
+-- ---- some of the monitors
 
--- each of the monitors has a value, and may note the occurrence
-abbrev pub MayAllNote : Functions → MarkedOccurrence → List PlainMonitor → List PlainMonitorValue → Type 0
-MayAllNote funs marked [] [] = Unit {0}
-MayAllNote funs marked (monitor ∷ monitors) (v ∷ vs) = MayBeNoted funs marked monitor.measure v.measured × MayAllNote funs marked monitors vs
-MayAllNote funs marked [] (v ∷ vs) = ⊥
-MayAllNote funs marked (monitor ∷ monitors) [] = ⊥
+-- what the monitor of a number has measured
+pub record PlainNoted : Type 0 where
+  pub number : ℕ
+  pub measured : PlainMeasured
 
--- what each of the monitors has measured with the occurrence
-abbrev pub all_noted : Functions → MarkedOccurrence → List PlainMonitor → List PlainMonitorValue → List PlainMeasured
-all_noted funs marked [] vs = []
-all_noted funs marked (monitor ∷ monitors) [] = []
-all_noted funs marked (monitor ∷ monitors) (v ∷ vs) = noted funs marked monitor.measure v.measured ∷ all_noted funs marked monitors vs
+-- The monitor of a number has a value, and may note the occurrence.
+pub record MayNoteAt (funs : Functions) (marked : MarkedOccurrence) (monitors : List PlainMonitor) (vs : List PlainMonitorValue) (number : ℕ)
+    : Type 0 where
+  pub monitor : PlainMonitor
+  pub monitor_is : slice_get monitors number ≡ Some monitor
+  pub value : PlainMonitorValue
+  pub value_is : slice_get vs number ≡ Some value
+  pub may : MayBeNoted funs marked monitor.measure value.measured
 
--- the values with other numbers
-abbrev pub with_measured : List PlainMeasured → List PlainMonitorValue → List PlainMonitorValue
-with_measured [] vs = vs
-with_measured (m ∷ ms) [] = []
-with_measured (m ∷ ms) (v ∷ vs) = record v { measured = m } ∷ with_measured ms vs
+-- It is what the monitor of its number has measured with the occurrence.
+pub record IsNoted (funs : Functions) (marked : MarkedOccurrence) (monitors : List PlainMonitor) (vs : List PlainMonitorValue) (x : PlainNoted)
+    : Type 0 where
+  pub monitor : PlainMonitor
+  pub monitor_is : slice_get monitors x.number ≡ Some monitor
+  pub value : PlainMonitorValue
+  pub value_is : slice_get vs x.number ≡ Some value
+  pub measured_is : x.measured ≡ noted funs marked monitor.measure value.measured
+
+-- the values, where the one of a number has measured this
+abbrev pub with_measured : ℕ → PlainMeasured → List PlainMonitorValue → List PlainMonitorValue
+with_measured number m [] = []
+with_measured zero m (v ∷ vs) = record v { measured = m } ∷ vs
+with_measured (suc number) m (v ∷ vs) = v ∷ with_measured number m vs
+
+abbrev pub with_noted : List PlainNoted → List PlainMonitorValue → List PlainMonitorValue
+with_noted [] vs = vs
+with_noted (x ∷ xs) vs = with_noted xs (with_measured x.number x.measured vs)
 
 -- ---- stops
 
@@ -140,8 +155,21 @@ stops_at marked (stops_by_count t n) (counted_to_stop k) = is_of t marked && (k 
 stops_at marked (stops_by_size p bound n) (sized_to_stop last) = is_within bound n last
 stops_at marked measure m = false
 
--- the number of the first of the monitors, numbered from k on, that stops the run after the occurrence
-abbrev pub stop_from : ℕ → MarkedOccurrence → List PlainMonitor → List PlainMonitorValue → Option ℕ
-stop_from k marked [] vs = None
-stop_from k marked (monitor ∷ monitors) [] = None
-stop_from k marked (monitor ∷ monitors) (v ∷ vs) = if stops_at marked monitor.measure v.measured then Some k else stop_from (suc k) marked monitors vs
+-- whether the monitor of a number does
+abbrev pub stops_so : MarkedOccurrence → Option PlainMonitor → Option PlainMonitorValue → Bool
+stops_so marked (Some monitor) (Some v) = stops_at marked monitor.measure v.measured
+stops_so marked monitor v = false
+
+abbrev pub stops_number : MarkedOccurrence → List PlainMonitor → List PlainMonitorValue → ℕ → Bool
+stops_number marked monitors vs number = stops_so marked (slice_get monitors number) (slice_get vs number)
+
+-- the least of some numbers that passes a test; none where none of them does
+abbrev pub IsLeastOf : (ℕ → Bool) → List ℕ → Option ℕ → Type 0
+IsLeastOf passes numbers found =
+    MatchOption found (AllByRecursion (λ k. passes k ≡ false) numbers)
+    (λ least. Contains numbers least × (passes least ≡ true) × AllByRecursion (λ k. passes k ≡ true → least ≤ k) numbers)
+
+-- the lesser of two, of which the first may be none
+abbrev pub IsLesser : Option ℕ → ℕ → ℕ → Type 0
+IsLesser None k least = least ≡ k
+IsLesser (Some first) k least = least ≡ min first k

@@ -7,8 +7,17 @@ use Rattle.cpn_definitions.specs.Marking.{Marking}
 use Rattle.cpn_monitor.specs.Monitors.{PlainMonitor, PlainMeasure, counts, sizes, values, stops_by_count, stops_by_size, PlainBound, at_least, at_most}
 use Rattle.cpn_monitor.specs.MonitorValues.{PlainMeasured, counted, sized, valued, counted_to_stop, sized_to_stop, PlainMonitorValue}
 use Rattle.cpn_monitor.specs.MeasuredRuns.{MarkedOccurrence}
+use Rattle.cpn_monitor.specs.Noted.{PlainNoted}
+use Rattle.cpn_monitor.specs.Looks.{PlainLook, at_transition, at_place}
+use Rattle.cpn_monitor.specs.Watched.{PlainWatched}
+use Rattle.cpn_monitor.specs.Kept.{PlainMeasuring}
+use Rattle.cpn_monitor.specs.declared.measuring.Measuring.{Measuring}
+use Rattle.cpn_monitor.specs.declared.watched.Watched.{Watched}
+use Rattle.cpn_monitor.specs.declared.noting.Noted.{Noted}
 use Rattle.cpn_monitor.specs.declared.monitors.Bound.{Bound}
 use Rattle.cpn_monitor.specs.declared.monitors.Bound.TheVariants as bounds
+use Rattle.cpn_monitor.specs.declared.monitors.Look.{Look}
+use Rattle.cpn_monitor.specs.declared.monitors.Look.TheVariants as looks
 use Rattle.cpn_monitor.specs.declared.monitors.Measure.{Measure}
 use Rattle.cpn_monitor.specs.declared.monitors.Measure.TheVariants as measures
 use Rattle.cpn_monitor.specs.declared.monitors.Monitor.{Monitor}
@@ -48,6 +57,19 @@ value_view value = record { name = string_bytes value.name; measured = measured_
 
 abbrev pub values_view : Values14 → List PlainMonitorValue
 values_view all = map value_view all.values.items
+
+abbrev pub look_view : Look → PlainLook
+look_view (looks.AtTransition t) = at_transition t
+look_view (looks.AtPlace p) = at_place p
+
+abbrev pub watched_view : Watched → PlainWatched
+watched_view w = record { of_transition = w.of_transition; of_place = w.of_place }
+
+abbrev pub measuring_view : Measuring → PlainMeasuring
+measuring_view m = record { values = values_view m.values; watched = watched_view m.watched; beside = m.beside; is_quiet = m.is_quiet }
+
+abbrev pub noted_view : Noted → PlainNoted
+noted_view noted = record { number = noted.number; measured = measured_view noted.measured }
 
 -- an occurrence with the marking after it
 abbrev pub marked_view : Occurrence → Marking → MarkedOccurrence

@@ -1,5 +1,9 @@
 //! What is to be measured of a run.
 
+ghost use Rattle.std.specs.Prelude.{◌≡◌};
+ghost use Rattle.cpn_monitor.specs.Looks.{looks_at};
+ghost use Rattle.cpn_monitor.specs.Views.{look_view, measure_view};
+
 use cpn_core::{Expr, Funs};
 use std::sync::Arc;
 
@@ -50,6 +54,29 @@ pub enum Measure {
         /// How many tokens: 0 to 2^62.
         number: u64,
     },
+}
+
+/// At what a monitor looks.
+#[derive(Clone, Copy, Debug, PartialEq, Eq)]
+pub(crate) enum Look {
+    /// At the occurrences of the transition of this number.
+    AtTransition(u32),
+    /// At the tokens of the place of this number.
+    AtPlace(u32),
+}
+
+impl Measure {
+    /// At what it looks.
+    pub(crate) fn looks_at(&self) -> Look
+        ensures looks { look_view result ≡ looks_at (measure_view self.now) }
+    {
+        match self {
+            Measure::Count { transition }
+            | Measure::Value { transition, .. }
+            | Measure::StopCount { transition, .. } => Look::AtTransition(*transition),
+            Measure::Size { place } | Measure::StopSize { place, .. } => Look::AtPlace(*place),
+        }
+    }
 }
 
 /// A monitor.

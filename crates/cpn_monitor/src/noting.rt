@@ -19,6 +19,13 @@ use cpn_eval::{Refused, eval};
 use cpn_tmset::{Marking, TMSet};
 use std::alloc::Global;
 
+/// What the monitor of a number has measured with one occurrence more.
+#[derive(Clone, Copy, Debug, PartialEq, Eq)]
+pub(crate) struct Noted {
+    pub(crate) number: usize,
+    pub(crate) measured: Measured,
+}
+
 impl Sizes {
     /// The last size, which stands until a later time.
     pub(crate) fn until(self, time: u64) -> Sizes

@@ -1,6 +1,5 @@
 -- Monitors that are read are accepted, and those that are accepted fit the net: what each measures is in it.
 use Rattle.std.proofs.Common.{◌≡◌, ◌<◌, ℕ, suc, List, [], ◌∷◌, length, Option, Some, None, refl, sym, ap, subst}
-use Rattle.std.specs.List.{AllByRecursion}
 use Rattle.std.proofs.lemmas.List.{length-map}
 use Rattle.cpn_definitions.specs.DistinctNames.{place_names, transition_names}
 use Rattle.cpn_definitions.specs.Inscription.{PlainExpr}
@@ -25,7 +24,7 @@ use Rattle.cpn_monitor_texts.specs.Named.{transition_named, place_named, known}
 use Rattle.cpn_monitor_texts.specs.Reading.{read}
 use Rattle.cpn_monitor_texts.specs.Texts.{tree_of, accepted_of, inscription_of}
 use Rattle.cpn_monitor_texts.specs.Variables.{value_over}
-use Rattle.cpn_monitor_texts.proofs.NamedItems.{number_below}
+use Rattle.cpn_names.proofs.FirstOfNames.{number_below}
 use Rattle.cpn_monitor_texts.proofs.ValuesOver.{over_is_integer}
 
 -- ---- steps

@@ -19,6 +19,7 @@ ghost use Rattle.cpn_monitor_texts.specs.Answers.{ChecksBy};
 ghost use Rattle.cpn_monitor_texts.specs.Checked.{monitor_so, monitors_so};
 
 use crate::measures::measure_of;
+use crate::names::NamedNet;
 use crate::refusals::MonitorError;
 use cpn_core::Net;
 use cpn_monitor::{Monitor, Monitors};
@@ -29,7 +30,7 @@ use std::alloc::Global;
 fn monitor_of(
     alloc: Global,
     decls: &Decls,
-    net: &Net,
+    net: &NamedNet,
     number: usize,
     written: &cpn_document::Monitor,
 ) -> Result<Monitor, MonitorError>
@@ -47,7 +48,7 @@ fn monitor_of(
 fn each_monitor(
     alloc: Global,
     decls: &Decls,
-    net: &Net,
+    net: &NamedNet,
     written: &[cpn_document::Monitor],
 ) -> Result<Vec<Monitor>, MonitorError>
     requires consistent { IsConsistent (decls_view decls.now) }
@@ -90,7 +91,8 @@ pub fn check_monitors(
     ensures accepted { IfOk result (λ monitors. AreAcceptedMonitors (decls_view decls.now) (net_view net.now) (monitors_view monitors)) }
     ensures fit { IfOk result (λ monitors. FitNet (net_view net.now) (funs_view monitors.funs.value) (monitors_view monitors)) }
 {
-    let monitors = each_monitor(alloc, decls, net, written)?;
+    let named = NamedNet::of(alloc, net)?;
+    let monitors = each_monitor(alloc, decls, &named, written)?;
     let funs = net.funs.clone()?;
     Ok(Monitors { funs, monitors })
 }

@@ -11,10 +11,9 @@ ghost use Rattle.cpn_typing.specs.Names.{Declared};
 ghost use Rattle.cpn_monitor_texts.specs.Answers.{ChecksBy};
 ghost use Rattle.cpn_monitor_texts.specs.Checked.{bound_of as bound_in, measure_so};
 
-use crate::names::{known_place, known_transition};
+use crate::names::{NamedNet, known_place, known_transition};
 use crate::refusals::MonitorError;
 use crate::values::inscription_in_text;
-use cpn_core::Net;
 use cpn_document::MonitorKind;
 use cpn_monitor::{Bound, Measure};
 use cpn_types::Decls;
@@ -31,7 +30,7 @@ fn bound_of(written: cpn_document::Bound) -> Bound
 }
 
 /// What the monitor of a number measures by how often a transition occurs.
-fn count_of(net: &Net, number: usize, name: &str) -> Result<Measure, MonitorError>
+fn count_of(net: &NamedNet, number: usize, name: &str) -> Result<Measure, MonitorError>
     requires few { length net.now.transitions.items < 2 ^ 32 }
     ensures reads { (ds : Declared) → ChecksBy measure_view result (measure_so ds (net_view net.now) number (count name.now)) }
 {
@@ -40,7 +39,7 @@ fn count_of(net: &Net, number: usize, name: &str) -> Result<Measure, MonitorErro
 }
 
 /// What it measures by how many tokens a place has.
-fn size_of(net: &Net, number: usize, name: &str) -> Result<Measure, MonitorError>
+fn size_of(net: &NamedNet, number: usize, name: &str) -> Result<Measure, MonitorError>
     requires few { length net.now.places.items < 2 ^ 32 }
     ensures reads { (ds : Declared) → ChecksBy measure_view result (measure_so ds (net_view net.now) number (size name.now)) }
 {
@@ -52,7 +51,7 @@ fn size_of(net: &Net, number: usize, name: &str) -> Result<Measure, MonitorError
 fn value_of(
     alloc: Global,
     decls: &Decls,
-    net: &Net,
+    net: &NamedNet,
     number: usize,
     name: &str,
     text: &str,
@@ -62,7 +61,7 @@ fn value_of(
     ensures reads { ChecksBy measure_view result (measure_so (decls_view decls.now) (net_view net.now) number (value name.now text.now)) }
 {
     let transition = known_transition(net, number, name)?;
-    let vars = net.transitions[transition as usize].vars.as_slice();
+    let vars = net.net().transitions[transition as usize].vars.as_slice();
     let inscription = inscription_in_text(alloc, decls, number, vars, text)?;
     Ok(Measure::Value {
         transition,
@@ -71,7 +70,7 @@ fn value_of(
 }
 
 /// After how many occurrences of a transition it stops the run.
-fn stop_count_of(net: &Net, number: usize, name: &str, n: u64) -> Result<Measure, MonitorError>
+fn stop_count_of(net: &NamedNet, number: usize, name: &str, n: u64) -> Result<Measure, MonitorError>
     requires few { length net.now.transitions.items < 2 ^ 32 }
     ensures reads { (ds : Declared) → ChecksBy measure_view result (measure_so ds (net_view net.now) number (stop_count name.now n)) }
 {
@@ -84,7 +83,7 @@ fn stop_count_of(net: &Net, number: usize, name: &str, n: u64) -> Result<Measure
 
 /// At how many tokens on a place it stops the run.
 fn stop_size_of(
-    net: &Net,
+    net: &NamedNet,
     number: usize,
     name: &str,
     op: cpn_document::Bound,
@@ -106,7 +105,7 @@ fn stop_size_of(
 pub(crate) fn measure_of(
     alloc: Global,
     decls: &Decls,
-    net: &Net,
+    net: &NamedNet,
     number: usize,
     kind: &MonitorKind,
 ) -> Result<Measure, MonitorError>

@@ -8,6 +8,7 @@ use Rattle.cpn_monitor.specs.MonitorValues.{counted, sized, valued, counted_to_s
 use Rattle.cpn_runs.specs.State.{stopped_by}
 use Rattle.cpn_report.specs.Lines.{end_text}
 use Rattle.cpn_report.specs.MonitorText.{monitor_text}
+use Rattle.cpn_report.specs.Told.{without_time}
 
 -- ---- each kind
 
@@ -51,6 +52,23 @@ a_large_sum = refl
 the_least_sum : monitor_text (record { name = codes "v"; measured = valued 2 (negsuc (2 ^ 127 - 1)) (Some (negsuc (2 ^ 63 - 1))) (Some (negsuc 0)) 0 }) ≡ codes "monitor value 2 ~170141183460469231731687303715884105728 ~9223372036854775808 ~1 0 v"
 unfolding monitor_text digits
 the_least_sum = refl
+
+-- ---- what a line tells: each number but the time up to which a sum counts
+
+told_of_sizes : without_time (sized 1 2 3 4 5) ≡ sized 1 2 3 4 0
+told_of_sizes = refl
+
+told_of_values : without_time (valued 1 (pos 2) (Some (pos 3)) (Some (pos 4)) 5) ≡ valued 1 (pos 2) (Some (pos 3)) (Some (pos 4)) 5
+told_of_values = refl
+
+told_of_counts : without_time (counted 1) ≡ counted 1
+told_of_counts = refl
+
+told_of_a_stop_by_count : without_time (counted_to_stop 1) ≡ counted_to_stop 1
+told_of_a_stop_by_count = refl
+
+told_of_a_stop_by_size : without_time (sized_to_stop 1) ≡ sized_to_stop 1
+told_of_a_stop_by_size = refl
 
 -- ---- a stop
 

@@ -1,5 +1,6 @@
 -- Values of a shape, their names and their texts, one level or one item at a time.
 use Rattle.std.proofs.Common.{◌≡◌, ◌∙◌, sym, ap, ap₂, subst, refl, ℕ, zero, suc, ◌+◌, ◌-◌, ◌<◌, true, ◌&&◌, if◌then◌else◌, nat_lt, List, [], ◌∷◌, ◌++◌, length, length-drop, drop, get_or, arith, nat_le, Option, Some, None, option_map, Box, Vec, Global}
+use Rattle.std.specs.declared.sync.Arc.{Arc}
 use Rattle.std.specs.Prelude.{codes}
 use Rattle.std.proofs.lemmas.List.{drop_all}
 use Rattle.std.proofs.lemmas.Bool.{and_parts, leb-true}
@@ -81,12 +82,15 @@ module _ (n : PlainNet) (cs : List (Option Shape)) (k : ℕ) (argument : Option 
       ap (λ a. shaped_text n (constructor_view k a) (union_shape number (constructors_view cs))) some ∙ whole
 
 -- a constructor as the value and the union that it was read from
-module _ (n : PlainNet) (v : Value) (s : Shape) (k : ℕ) (argument : Option (Box Value Global)) (number : ℕ) (cs : Vec (Option Shape) Global) (value_is : v ≡ value_views.Con k argument) (shape_is : s ≡ shape_views.Union number cs) where
-  pub constructed_has : has_shape (value_view v) (shape_view s) ≡ true → has_shape (constructor_view k argument) (union_shape number (constructors_view cs.items)) ≡ true
-  constructed_has has = sym (ap₂ has_shape (ap value_view value_is ∙ view_con k argument) (ap shape_view shape_is ∙ shape_union number cs)) ∙ has
+module _ (n : PlainNet) (v : Value) (s : Shape) (k : ℕ) (argument : Option (Box Value Global)) (number : ℕ) (cs : Arc (Vec (Option Shape) Global) Global) (row : Vec (Option Shape) Global) (value_is : v ≡ value_views.Con k argument) (shape_is : s ≡ shape_views.Union number cs) (row_is : row ≡ cs.value) where
+  union_is : shape_view s ≡ union_shape number (constructors_view row.items)
+  union_is = ap shape_view shape_is ∙ shape_union number cs ∙ ap (λ r. union_shape number (constructors_view r.items)) (sym row_is)
 
-  pub constructed_named : has_names n (shape_view s) ≡ true → has_names n (union_shape number (constructors_view cs.items)) ≡ true
-  constructed_named named = sym (ap (has_names n) (ap shape_view shape_is ∙ shape_union number cs)) ∙ named
+  pub constructed_has : has_shape (value_view v) (shape_view s) ≡ true → has_shape (constructor_view k argument) (union_shape number (constructors_view row.items)) ≡ true
+  constructed_has has = sym (ap₂ has_shape (ap value_view value_is ∙ view_con k argument) union_is) ∙ has
+
+  pub constructed_named : has_names n (shape_view s) ≡ true → has_names n (union_shape number (constructors_view row.items)) ≡ true
+  constructed_named named = sym (ap (has_names n) union_is) ∙ named
 
 -- ---- the items of a tuple
 

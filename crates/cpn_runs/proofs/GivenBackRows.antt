@@ -7,8 +7,8 @@ use Rattle.cpn_definitions.specs.Occurrence.{needs_of, outputs_of}
 use Rattle.cpn_definitions.specs.Outcome.{not_in_colour}
 use Rattle.cpn_monitor.specs.Monitors.{stops_by_count}
 use Rattle.cpn_runs.specs.HoleRun.{PlainClaim, done_with, faulted_with, is_open}
-use Rattle.cpn_runs.specs.State.{claim_made, claim_completed, cut_made, PlainEnd, wants_memory, PlainCut, PlainState, first_state, unclaimed_in, committed, committed_occurrences, owed_cut, GivesBack, MayComplete, MayCut, IsState, EndsBy}
-use Rattle.cpn_runs.specs.GivingBack.{NoneIsGivenBack}
+use Rattle.cpn_runs.specs.State.{claim_made, claim_completed, cut_made, PlainEnd, stopped_by, wants_memory, PlainCut, PlainState, first_state, unclaimed_in, committed, committed_occurrences, owed_cut, GivesBack, MayComplete, MayCut, IsState, EndsBy}
+use Rattle.cpn_runs.specs.GivingBack.{IsCutForMemory, NoneIsGivenBack}
 use Rattle.cpn_runs.proofs.WorkedNet.{seven}
 use Rattle.cpn_runs.proofs.StopRows.{by, stop_cut, stopped_with}
 use Rattle.cpn_runs.proofs.TwoSeats.{setup, start, with_claims, opened, output, done, no_fault, one_claimed, both_claimed, second_done, both_done, first_claim}
@@ -24,6 +24,20 @@ left_at claims number = stopped_with claims (back_at number)
 
 only_claim_is_back : MayCut setup one_claimed 0 (left_at [] 0)
 only_claim_is_back = record { cut = back_at 0; due = inr (record { none_owed = refl; claim = opened 0; claim_is = refl; opened = refl; cause_is = refl }); number_is = refl; new_is = refl }
+
+-- no other cause gives it back
+for_no_other_cause : GivesBack setup one_claimed (stop_cut 0 0) → ⊥
+for_no_other_cause back = let e : stopped_by 0 ≡ wants_memory = back.cause_is in cc
+
+-- a cut for want of memory stands then; none does where no cut stands, or one for another cause
+cut_for_memory : IsCutForMemory (Some (back_at 0))
+cut_for_memory = refl
+
+none_without_a_cut : IsCutForMemory None → ⊥
+none_without_a_cut none = none
+
+none_for_another_cause : IsCutForMemory (Some (stop_cut 0 0)) → ⊥
+none_for_another_cause is = let e : stopped_by 0 ≡ wants_memory = is in cc
 
 -- the run ends for want of memory, nothing has occurred, and both tokens are back
 leads_to_nothing : IsState setup (claim_made 0 0 ∷ cut_made 0 ∷ []) (left_at [] 0)

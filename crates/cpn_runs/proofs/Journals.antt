@@ -69,7 +69,7 @@ added_stamped setup claim is = split claim.status refl
     split (done_with made) e = outputs_stamped setup.net claim.element claim.time made (outputs_are setup claim made is e)
     split (faulted_with fault) e = tt
 
-stamped_after : (setup : PlainSetup) (claim : PlainClaim) (m : Marking) → IsClaimOf setup claim → IsStamped setup.net m → IsStamped setup.net (after_claim claim m)
+pub stamped_after : (setup : PlainSetup) (claim : PlainClaim) (m : Marking) → IsClaimOf setup claim → IsStamped setup.net m → IsStamped setup.net (after_claim claim m)
 stamped_after setup claim m is stamped =
     stamped_added setup.net (added claim.status) (subtract (threshold claim.time) claim.needs m) (added_stamped setup claim is) (stamped_subtracted setup.net (threshold claim.time) claim.needs m stamped)
 
@@ -81,7 +81,7 @@ stamped_left setup m (claim ∷ claims) last each stamped is =
 
 -- ---- the unclaimed marking is there in each state
 
-timed_numbered : (k : ℕ) (claims : List PlainClaim) → map timed (numbered k claims) ≡ map timed_claim claims
+pub timed_numbered : (k : ℕ) (claims : List PlainClaim) → map timed (numbered k claims) ≡ map timed_claim claims
 timed_numbered k [] = refl
 timed_numbered k (claim ∷ claims) = ap (λ os. timed_claim claim ∷ os) (timed_numbered (suc k) claims)
 
@@ -304,6 +304,30 @@ is_done_with open_claim h = cc
 is_done_with (done_with outputs) h = (outputs, refl)
 is_done_with (faulted_with fault) h = cc
 
+-- the needs of a claim are covered: so is its element
+covers_its_element
+    : (setup : PlainSetup) (m : Marking) (claim : PlainClaim)
+    → IsStamped setup.net m
+    → IsClaimOf setup claim
+    → are_covered (threshold claim.time) m claim.needs ≡ true
+    → covered setup.net m claim.time claim.element ≡ true
+covers_its_element setup m claim stamped is_of covers =
+    covered_too setup.net is_of.marking m claim.time claim.element stamped is_of.was_covered (subst (λ needs. are_covered (threshold claim.time) m needs ≡ true) is_of.needs_are covers)
+
+-- a claim that is done and finds its needs leaves the marking that its element leaves
+pub leaves_its_marking
+    : (setup : PlainSetup) (m : Marking) (claim : PlainClaim)
+    → IsStamped setup.net m
+    → IsClaimOf setup claim
+    → is_done claim.status ≡ true
+    → are_covered (threshold claim.time) m claim.needs ≡ true
+    → after setup.net m claim.time claim.element ≡ Some (after_claim claim m)
+leaves_its_marking setup m claim stamped is_of done covers =
+    let made = is_done_with claim.status done in
+    after_is setup.net m claim.time claim.element made.0 stamped (covers_its_element setup m claim stamped is_of covers) (outputs_are setup claim made.0 is_of made.1)
+    ∙ ap (λ needs. Some (add_made made.0 (subtract (threshold claim.time) needs m))) (sym is_of.needs_are)
+    ∙ ap (λ status. Some (add_made (added status) (subtract (threshold claim.time) claim.needs m))) (sym made.1)
+
 -- claims that are all done, from a marking whose clock is theirs, are a legal sequence
 done_are_legal
     : (setup : PlainSetup) (m : Marking) (clock : ℕ) (claims : List PlainClaim) (last : Marking)
@@ -316,20 +340,13 @@ done_are_legal
 done_are_legal setup m clock [] last stamped now each done is = (sym (same_Some m last is), inl refl)
 done_are_legal setup m clock (claim ∷ claims) last stamped now each done is =
     let n = setup.net in
-    let e = claim.element in
     let parts = left_parts m claim claims last is in
-    let needs_covered = subst (λ needs. are_covered (threshold claim.time) m needs ≡ true) each.0.needs_are parts.0 in
-    let is_covered = covered_too n each.0.marking m claim.time e stamped each.0.was_covered needs_covered in
-    let made = is_done_with claim.status done.0 in
-    let next : after n m claim.time e ≡ Some (after_claim claim m) =
-    after_is n m claim.time e made.0 stamped is_covered (outputs_are setup claim made.0 each.0 made.1)
-    ∙ ap (λ needs. Some (add_made made.0 (subtract (threshold claim.time) needs m))) (sym each.0.needs_are)
-    ∙ ap (λ status. Some (add_made (added status) (subtract (threshold claim.time) claim.needs m))) (sym made.1) in (
-      subst (λ t. LeastTime n m t claim.time) now.0 (least_now n m claim.time e is_covered),
+    let is_covered = covers_its_element setup m claim stamped each.0 parts.0 in (
+      subst (λ t. LeastTime n m t claim.time) now.0 (least_now n m claim.time claim.element is_covered),
       is_covered,
       (
         after_claim claim m,
-        next,
+        leaves_its_marking setup m claim stamped each.0 done.0 parts.0,
         subst (λ t. Legal n (after_claim claim m) t (map timed_claim claims) last clock) (sym now.0)
             (done_are_legal setup (after_claim claim m) clock claims last (stamped_after setup claim m each.0 stamped) now.1 each.1 done.1 parts.1),
       ),

@@ -4,9 +4,12 @@ mod CoveredElements
 pub mod Cuts
 pub mod GivenBackClaims
 pub mod States
+mod Elsewhere
+mod ElsewhereClaims
 mod OneJournal
 pub mod OneRun
 pub mod Journals
+mod ShownMarkings
 pub mod NoneGivenBack
 pub mod BoundedStates
 pub mod MeasuredStates

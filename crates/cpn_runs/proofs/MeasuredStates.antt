@@ -1,5 +1,5 @@
 -- What monitors may be told of a run: its next occurrence, with the marking after it.
-use Rattle.std.proofs.Common.{◌≡◌, ℕ, suc, ◌+◌, ◌<◌, ◌≤◌, ◌^◌, true, List, [], ◌∷◌, ◌++◌, length, Some, refl, ap, ◌∙◌, subst, arith, length-append}
+use Rattle.std.proofs.Common.{◌≡◌, ℕ, suc, ◌+◌, ◌<◌, ◌≤◌, ◌^◌, true, List, [], ◌∷◌, ◌++◌, length, Some, false, refl, sym, ap, ◌∙◌, subst, arith, length-append}
 use Rattle.std.specs.List.{AllByRecursion}
 use Rattle.std.proofs.lemmas.Bool.{and_parts}
 use Rattle.std.proofs.lemmas.Option.{same_Some}
@@ -11,7 +11,8 @@ use Rattle.cpn_definitions.proofs.ListItems.{all_parts}
 use Rattle.cpn_definitions.proofs.Markings.{marking_length}
 use Rattle.cpn_definitions.proofs.RisingLists.{each_implied}
 use Rattle.cpn_monitor.specs.Fitting.{IsMeasurable, IsNext}
-use Rattle.cpn_monitor.specs.MeasuredRuns.{size_on, with_occurrence}
+use Rattle.cpn_monitor.specs.Looks.{is_beside}
+use Rattle.cpn_monitor.specs.MeasuredRuns.{size_on, marking_after, last_marking, with_occurrence}
 use Rattle.cpn_monitor.specs.Monitors.{PlainMonitor, PlainMeasure, counts, sizes, values, stops_by_count, stops_by_size}
 use Rattle.cpn_monitor.specs.Noted.{MayLook}
 use Rattle.cpn_runs.specs.Bounds.{HasGrown, most_at_start, most_steps}
@@ -21,6 +22,7 @@ use Rattle.cpn_runs.specs.MeasuredStates.{run_of}
 use Rattle.cpn_runs.specs.Playable.{IsPlayable}
 use Rattle.cpn_runs.specs.State.{PlainSetup, PlainEvent, PlainState, IsState}
 use Rattle.cpn_runs.proofs.BoundedStates.{HasBounds, claims_grow, every_state_has_bounds}
+use Rattle.cpn_runs.proofs.ElsewhereClaims.{claim_elsewhere}
 use Rattle.cpn_runs.proofs.Sequences.{left_parts, marking_left_more}
 use Rattle.cpn_runs.proofs.States.{IsClaimOf, every_state}
 
@@ -44,6 +46,11 @@ run_more setup clock claims claim mid is = ap (λ os. record { start = setup.sta
 as_many_marked : (m : Marking) (claims : List PlainClaim) → length (marked_from m claims) ≡ length claims
 as_many_marked m [] = refl
 as_many_marked m (claim ∷ claims) = ap (λ (k : ℕ). suc k) (as_many_marked (after_claim claim m) claims)
+
+-- the marking to which such a run has come is the one that they leave
+marked_end : (m : Marking) (claims : List PlainClaim) (mid : Marking) → marking_left m claims ≡ Some mid → marking_after m (marked_from m claims) ≡ mid
+marked_end m [] mid is = same_Some m mid is
+marked_end m (first ∷ claims) mid is = marked_end (after_claim first m) claims mid (left_parts m first claims mid is).1
 
 -- ---- what monitors may be told
 
@@ -88,6 +95,10 @@ module _ (setup : PlainSetup) (journal : List PlainEvent) (state : PlainState) (
       each_appended_one P [] each last = (last, tt)
       each_appended_one P (c ∷ cs) each last = (each.0, each_appended_one P cs each.1 last)
 
+  -- a place that is at none of its transition's arcs keeps its tokens
+  same_elsewhere : (p : ℕ) → is_beside setup.net claim.element.transition p ≡ false → size_on p (after_claim claim mid) ≡ size_on p (last_marking (run_of setup state.clock front))
+  same_elsewhere p none = ap length (claim_elsewhere setup claim its.1.0 mid p none) ∙ ap (size_on p) (sym (marked_end setup.start front mid next.left))
+
   pub may_be_told : IsNext setup.net (run_of setup state.clock front) (marked_claim mid claim)
   may_be_told = record {
     bound = (and_parts _ _ (covered_is_bound setup.net its.1.0.marking claim.time claim.element its.1.0.was_covered)).1;
@@ -101,6 +112,7 @@ module _ (setup : PlainSetup) (journal : List PlainEvent) (state : PlainState) (
           let few = few_there in
           omega (arith, up_to, long, few));
     };
+    elsewhere = same_elsewhere;
     few = (let many = as_many_marked setup.start front in let few = few_there in omega (arith, many, few));
   }
 

@@ -1,5 +1,5 @@
 -- A phase of the worked net, setups from which the next may start, and setups from which it may not.
-use Rattle.std.proofs.Common.{◌≡◌, ℕ, zero, suc, ◌<◌, ◌≤◌, [], ◌∷◌, length, replicate, refl, sym, ap, ◌∙◌, inl, inr, arith}
+use Rattle.std.proofs.Common.{◌≡◌, ℕ, zero, suc, ◌<◌, ◌≤◌, [], ◌∷◌, ◌++◌, length, replicate, refl, sym, ap, ◌∙◌, inl, inr, arith}
 use Rattle.std.proofs.lemmas.List.{length-replicate}
 use Rattle.cpn_definitions.specs.Bounds.{IsBounded}
 use Rattle.cpn_definitions.specs.Marking.{Marking, token_at}
@@ -40,6 +40,16 @@ one_phase = (first_phase, tt)
 
 one_occurrence : occurrences_of (phase ∷ []) ≡ 1
 one_occurrence = refl
+
+-- occurrences are counted, and not phases
+abbrev of_two : PlainPhase
+of_two = record phase { run = record moved_shown { occurrences = moved_shown.occurrences ++ moved_shown.occurrences } }
+
+two_occurrences : occurrences_of (of_two ∷ []) ≡ 2
+two_occurrences = refl
+
+three_occurrences : occurrences_of (of_two ∷ phase ∷ []) ≡ 3
+three_occurrences = refl
 
 -- ---- setups of the next one
 

@@ -179,6 +179,19 @@ third_is_cut_off : owed_cut (from_three (stops_by_size 1 at_least 2)) three_done
 unfolding needs_of
 third_is_cut_off = refl
 
+-- of four claims, from four tokens, the third occurrence stops the run: what came before the second counts still, and the fourth claim is removed
+abbrev from_four : PlainMeasure → PlainSetup
+from_four measure = record (by measure) { start = (token_at seven 0 ∷ token_at seven 0 ∷ token_at seven 0 ∷ token_at seven 3 ∷ []) ∷ [] ∷ [] }
+
+abbrev four_done : PlainState
+four_done = with_claims (done 0 ∷ done 1 ∷ done 0 ∷ done 1 ∷ [])
+
+third_of_four : committed (from_four (stops_by_count 0 3)) four_done ≡ 3
+third_of_four = refl
+
+fourth_is_cut_off : owed_cut (from_four (stops_by_count 0 3)) four_done ≡ Some (stop_cut 3 0)
+fourth_is_cut_off = refl
+
 -- a third is not there of two, and a monitor that only measures stops nothing, also where its inscription has a fault
 no_third : owed_cut (by (stops_by_count 0 3)) two_done ≡ None
 no_third = refl

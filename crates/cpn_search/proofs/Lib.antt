@@ -18,6 +18,7 @@ mod SharedParts
 mod SolvingEquations
 mod PlannedTrials
 mod OnceFound
+mod ListedValues
 mod HeldTrials
 mod FoundWith
 pub mod SendablePlans

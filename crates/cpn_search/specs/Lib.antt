@@ -5,6 +5,7 @@ pub mod StageViews
 pub mod Plans
 pub mod PlannedNets
 pub mod TrialViews
+pub mod ListedTrials
 pub mod TriedStages
 pub mod Searches
 pub mod HeldSearches

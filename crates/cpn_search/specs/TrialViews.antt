@@ -5,12 +5,14 @@ use Rattle.cpn_core.specs.Views.{value_view}
 use Rattle.cpn_core.specs.Inscriptions.{pattern_view, expr_view}
 use Rattle.cpn_stages.specs.Partial.{PlainPartial}
 use Rattle.cpn_stages.specs.Trials.{Trial, matching, solving}
+use Rattle.cpn_tmset.specs.Listed.{values_of}
 use Rattle.cpn_tmset.specs.ListedViews.{pointed_view}
 use Rattle.cpn_search.specs.declared.trials.Trial as program
 use Rattle.cpn_search.specs.declared.trials.Trial.TheVariants as trials
 use Rattle.cpn_search.specs.declared.extending.UnderWay.{UnderWay}
 
 abbrev pub trial_view : program.Trial → Trial
+trial_view (trials.Unlisted pattern tokens) = matching (pattern_view pattern.now) (values_of tokens.now)
 trial_view (trials.Matching pattern values) = matching (pattern_view pattern.now) (pointed_view values.items)
 trial_view (trials.Solving variable inscription) = solving variable (expr_view inscription.now)
 trial_view (trials.Choosing variable values) = matching (variable_pattern variable) (map value_view values.now)

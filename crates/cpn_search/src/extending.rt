@@ -12,6 +12,7 @@ ghost use Rattle.cpn_stages.specs.Partial.{Extends, bound_in};
 ghost use Rattle.cpn_stages.specs.Fitting.{fitted, held};
 ghost use Rattle.cpn_stages.specs.Trials.{are_admitted as admitted_values, kept, with_outcome, next, matching, solving};
 ghost use Rattle.cpn_tmset.specs.ListedViews.{pointed_view};
+ghost use Rattle.cpn_search.specs.ListedTrials.{IsListed};
 ghost use Rattle.cpn_search.specs.TrialViews.{trial_view, all_under_way, after};
 ghost use Rattle.cpn_search.specs.Searches.{AreDeclared, MeansSomething};
 
@@ -202,7 +203,7 @@ fn push_solution(
     }
 }
 
-/// Adds what the trial makes of the partial binding.
+/// Adds what the trial, whose values are listed, makes of the partial binding.
 pub fn push_next(
     alloc: Global,
     net: &Net,
@@ -213,9 +214,11 @@ pub fn push_next(
 ) -> Result<(), Memory>
     requires declared { AreDeclared (length net.now.variables.items) partial.now }
     requires meaning { MeansSomething (net_view net.now) (trial_view trial.now) partial.now }
+    requires listed { IsListed trial.now }
     ensures appended { OnOk result (all_under_way ahead.new.items ≡ all_under_way ahead.old.items ++ after tried (next (net_view net.now) (trial_view trial.now) partial.now)) }
 {
     match trial {
+        Trial::Unlisted { .. } => unreachable!(),
         Trial::Matching { pattern, values } => {
             push_matches(net, partial, pattern, values, tried, ahead)
         }

@@ -63,8 +63,8 @@ pub fn search_counted<L: Ledger>(
     ensures steps { (k : ℕ) → IsFull (net_view net.now) marking.now t k → steps.new ≤ steps.old + k }
     ensures counted { OnOk result ((k : ℕ) → IsFull (net_view net.now) marking.now t k → steps.new ≡ steps.old + k) }
 {
-    let trials = trials_of(alloc, plan, marking)?;
-    let searched = all_found(alloc, net, marking, t, &trials, steps)?;
+    let mut trials = trials_of(alloc, plan, marking)?;
+    let searched = all_found(alloc, net, marking, t, &mut trials, steps)?;
     let found = in_order(searched.found)?;
     Ok(Searched {
         found,

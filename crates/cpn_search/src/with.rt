@@ -65,18 +65,18 @@ fn push_found_by<L: Ledger>(
     net: &Net,
     marking: &Marking,
     t: u32,
-    trials: &[Trial],
+    trials: &mut [Trial],
     found: &mut Found,
     steps: &mut Steps<L>,
 ) -> Result<(), Memory>
     requires sound { IsSound (net_view net.now) }
     requires marking { IsMarking (net_view net.now).places marking.now }
     requires in_range { t < length net.now.transitions.items }
-    requires trials { AreTrials (net_view net.now) marking.now t (trials_view trials.now) }
-    ensures added { IfOk result (λ _. AddsFound (net_view net.now) marking.now t (trials_view trials.now ∷ []) (map found_view found.old.items) (map found_view found.new.items)) }
+    requires trials { AreTrials (net_view net.now) marking.now t (trials_view trials.old) }
+    ensures added { IfOk result (λ _. AddsFound (net_view net.now) marking.now t (trials_view trials.old ∷ []) (map found_view found.old.items) (map found_view found.new.items)) }
     ensures elements { IfOk result (λ _. AreOf (net_view net.now) t found.old.items → AreOf (net_view net.now) t found.new.items) }
-    ensures steps { steps.new ≤ steps.old + tried_by_each (net_view net.now) (trials_view trials.now ∷ []) (unbound (transition_at (net_view net.now) t).vars) }
-    ensures counted { OnOk result (steps.new ≡ steps.old + tried_by_each (net_view net.now) (trials_view trials.now ∷ []) (unbound (transition_at (net_view net.now) t).vars)) }
+    ensures steps { steps.new ≤ steps.old + tried_by_each (net_view net.now) (trials_view trials.old ∷ []) (unbound (transition_at (net_view net.now) t).vars) }
+    ensures counted { OnOk result (steps.new ≡ steps.old + tried_by_each (net_view net.now) (trials_view trials.old ∷ []) (unbound (transition_at (net_view net.now) t).vars)) }
 {
     let searched = all_found(alloc, net, marking, t, trials, steps)?;
     push_all(found, searched.found)?;
@@ -109,8 +109,8 @@ fn push_held<L: Ledger>(
 {
     match pattern_on(&plan.stages[number], place) {
         Some(pattern) => {
-            let trials = trials_with(alloc, plan, marking, number, pattern, value)?;
-            push_found_by(alloc, net, marking, t, &trials, found, steps)?;
+            let mut trials = trials_with(alloc, plan, marking, number, pattern, value)?;
+            push_found_by(alloc, net, marking, t, &mut trials, found, steps)?;
             Ok(())
         }
         None => Ok(()),

@@ -82,6 +82,13 @@ rests v b number k l is r e = record {
   here = ap (λ (z : Me Slot View). is_some z.0.setup) e ∙ sym (ap (λ (z : View). is_some z.setup) is) ∙ r.here;
 }
 
+-- the numbers given never fall
+pub given_more : (v : View) (y b : Book) (ns : List ℕ) (l : Me Slot View) → l.0 ≡ after_turn v b ns → Finds v y → entered_in y ≤ entered_in b → v.given ≤ l.0.given
+given_more v y b ns l is f more =
+    let was = f.given in
+    let now : l.0.given ≡ entered_in b = ap (λ (k : View). k.given) is in
+    omega arith
+
 -- a fact of what a seat has seen, old and new
 pub seen_as : (v : View) (y b : Book) (ns : List ℕ) (R : Option Seen → Option Seen → Type 0) → Finds v y → setup_in b ≡ setup_in y
     → ((new : Option Seen) → R None new) → ((t : Seen) → Comes v.numbers t y → R (Some t) (Some (seen_in b)))

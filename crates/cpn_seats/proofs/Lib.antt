@@ -1,4 +1,5 @@
 mod Answering
+mod CallStates
 mod HeldClaims
 mod Keeping
 mod Meeting
@@ -8,3 +9,4 @@ pub mod SendableSeats
 mod Sighted
 mod StillHeld
 mod Totals
+mod WantsOfMemory

@@ -1,5 +1,5 @@
 -- Facts about a seat from those about its token.
-use Rattle.std.proofs.Common.{◌≡◌, ℕ, true, List, Option, Some, None, refl, ap, sym, ◌∙◌, subst}
+use Rattle.std.proofs.Common.{◌≡◌, ℕ, ◌≤◌, true, List, Option, Some, None, refl, ap, sym, ◌∙◌, subst}
 use Rattle.std.specs.Option.{is_some, option_map}
 use Rattle.atomic_table.specs.Table.{Me}
 use Rattle.atomic_table.specs.Seated.{TableId}
@@ -11,14 +11,14 @@ use Rattle.cpn_seats.specs.declared.views.View.{View}
 use Rattle.cpn_seats.specs.Joins.{AreJoined, IsJoined}
 use Rattle.cpn_seats.specs.SeenViews.{seen_by}
 use Rattle.cpn_seats.specs.HeldClaims.{KeepsHeld}
-use Rattle.cpn_seats.specs.Seats.{IsSameSeat, table_of, number_of_seat, numbers_of, journal_of, setup_of, seen_of}
+use Rattle.cpn_seats.specs.Seats.{IsSameSeat, table_of, number_of_seat, numbers_of, journal_of, setup_of, seen_of, given_of}
 use Rattle.cpn_seats.specs.Turns.{Slot, AreDistinct, GoesOnFrom, IsAtRest}
 use Rattle.cpn_seats.proofs.HeldClaims.{kept_by}
 use Rattle.cpn_seats.proofs.Numbers.{distinct_apart}
 use Rattle.cpn_seats.specs.Splits.{IsTokenSplitOff, IsSplitOff}
 
-pub same_seat : (old new : Seat) → table_of new ≡ table_of old → number_of_seat new ≡ number_of_seat old → numbers_of new ≡ numbers_of old → IsSameSeat old new
-same_seat old new table number numbers = record { table = table; number = number; numbers = numbers }
+pub same_seat : (old new : Seat) → table_of new ≡ table_of old → number_of_seat new ≡ number_of_seat old → numbers_of new ≡ numbers_of old → given_of old ≤ given_of new → IsSameSeat old new
+same_seat old new table number numbers given = record { table = table; number = number; numbers = numbers; given = given }
 
 -- what is as it was is at rest still
 pub still_at_rest : (old new : Me Slot View) (number : ℕ) → new ≡ old → IsAtRest old number → IsAtRest new number
@@ -29,6 +29,7 @@ split_off place seat other at s = record {
   table = s.table ∙ sym at;
   numbers = ap (λ (v : View). v.numbers) s.view_is;
   seen = ap (λ (v : View). seen_by v) s.view_is;
+  spent = ap (λ (v : View). v.spent) s.view_is;
   given = ap (λ (v : View). v.given) s.view_is;
   last_given = s.last_given;
   fresh = s.fresh;

@@ -21,8 +21,8 @@ use Rattle.cpn_book.specs.declared.answers.GivenBack.TheVariants as returns
 use Rattle.cpn_book.specs.declared.tickets.Evaluated.{Evaluated}
 use Rattle.cpn_book.specs.declared.tickets.Ticket.{Ticket}
 use Rattle.cpn_book.specs.Seen.{Seen, SeesCall, ClaimsAt}
-use Rattle.cpn_seats.specs.HeldClaims.{Holds, IsHeld}
-use Rattle.cpn_seats.specs.StillHeld.{ClaimsKeepHeld, CompletionsKeepOthersHeld, GivingBackKeepsHeld, MovesKeepHeld, LooksKeepHeld, WantsOfMemoryKeepHeld}
+use Rattle.cpn_seats.specs.HeldClaims.{Holds, IsHeld, IsNotDone}
+use Rattle.cpn_seats.specs.StillHeld.{ClaimsKeepHeld, CompletionsKeepOthersHeld, RefusedCompletionsKeepHeld, GivingBackKeepsHeld, MovesKeepHeld, LooksKeepHeld, WantsOfMemoryKeepHeld}
 use Rattle.cpn_seats.proofs.HeldClaims.{leads_first, held_further, held_by_seat}
 
 -- a call whose own events are by others than the number under which a claim is held
@@ -33,7 +33,7 @@ through numbers own old new seat number job c among none held =
     held
 
 -- the state at which a call was made
-at_call : (numbers : List ℕ) (own : List PlainEvent) (old new : Seen) (state : PlainState) (c : SeesCall numbers own old new) → IsState new.setup new.journal state → (mid : PlainState) × IsState old.setup c.at mid
+pub at_call : (numbers : List ℕ) (own : List PlainEvent) (old new : Seen) (state : PlainState) (c : SeesCall numbers own old new) → IsState new.setup new.journal state → (mid : PlainState) × IsState old.setup c.at mid
 at_call numbers own old new state c is =
     let here : IsState old.setup (c.at ++ own) state = subst (λ (events : List PlainEvent). IsState old.setup events state) c.journal (subst (λ (s : PlainSetup). IsState s new.journal state) c.setup is) in
     let first = leads_first old.setup (first_state old.setup) c.at own state here in
@@ -118,6 +118,17 @@ pub completions_keep_others_held : CompletionsKeepOthersHeld
 completions_keep_others_held numbers seat done answer old new c = λ other number job among ne held state at.
     let mid = at_call numbers c.own old new state c.call at in
     through numbers c.own old new other number job c.call among (completion_none seat done old.setup mid.0 c.own answer other (c.answer_is mid.0 mid.1) ne) held state at
+
+-- a completion that isn't made makes no event
+refused_none : (seat : ℕ) (done : Evaluated) (setup : PlainSetup) (state : PlainState) (events : List PlainEvent) (answer : Completed) (other : ℕ) → AnswersCompletion setup state seat done events answer → IsNotDone answer → events_by other events ≡ []
+refused_none seat done setup state events (completions.Void number) other a refused = ap (events_by other) a.0
+refused_none seat done setup state events (completions.Stranger kept brought) other a refused = ap (events_by other) a.0
+refused_none seat done setup state events completions.Done other a refused = absurd refused
+
+pub refused_completions_keep_held : RefusedCompletionsKeepHeld
+refused_completions_keep_held numbers seat done answer old new c refused = λ other number job among held state at.
+    let mid = at_call numbers c.own old new state c.call at in
+    through numbers c.own old new other number job c.call among (refused_none seat done old.setup mid.0 c.own answer other (c.answer_is mid.0 mid.1) refused) held state at
 
 -- ---- a ticket that is given back
 

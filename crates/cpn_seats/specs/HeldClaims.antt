@@ -47,6 +47,12 @@ IsNoStranger completions.Done = Unit {0}
 IsNoStranger (completions.Void number) = Unit {0}
 IsNoStranger (completions.Stranger kept brought) = ⊥
 
+-- the answer is that the completion wasn't made
+abbrev pub IsNotDone : Completed → Type 0
+IsNotDone completions.Done = ⊥
+IsNotDone (completions.Void number) = Unit {0}
+IsNotDone (completions.Stranger kept brought) = Unit {0}
+
 abbrev pub IsNoStrangersTicket : GivenBack → Type 0
 IsNoStrangersTicket returns.Cut = Unit {0}
 IsNoStrangersTicket (returns.Void number) = Unit {0}

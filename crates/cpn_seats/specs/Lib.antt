@@ -5,3 +5,5 @@ pub mod Splits
 pub mod Joins
 pub mod HeldClaims
 pub mod StillHeld
+pub mod CallStates
+pub mod WantsOfMemory

@@ -1,5 +1,5 @@
 -- Seats and desks as their callers see them. Source: own choice.
-use Rattle.std.specs.Prelude.{◌≡◌, ℕ, Bool, List, Option}
+use Rattle.std.specs.Prelude.{◌≡◌, ◌≤◌, ℕ, Bool, List, Option}
 use Rattle.std.specs.Option.{option_map}
 use Rattle.atomic_table.specs.Seated.{TableId}
 use Rattle.cpn_runs.specs.State.{PlainSetup, PlainEvent}
@@ -51,8 +51,9 @@ spent_of seat = seat.token.me.0.spent
 abbrev pub given_of : Seat → ℕ
 given_of seat = seat.token.me.0.given
 
--- A seat before and after a call: it stays at its desk and keeps its numbers.
+-- A seat before and after a call: it stays at its desk and keeps its numbers; what it has noted of the numbers given never falls.
 pub record IsSameSeat (old new : Seat) : Type 0 where
   pub table : table_of new ≡ table_of old
   pub number : number_of_seat new ≡ number_of_seat old
   pub numbers : numbers_of new ≡ numbers_of old
+  pub given : given_of old ≤ given_of new

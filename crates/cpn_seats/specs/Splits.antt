@@ -9,7 +9,7 @@ use Rattle.cpn_seats.specs.declared.desks.Split.{Split}
 use Rattle.cpn_seats.specs.declared.desks.Split.TheVariants as splits
 use Rattle.cpn_seats.specs.declared.seats.Seat.{Seat}
 use Rattle.cpn_seats.specs.declared.views.View.{View}
-use Rattle.cpn_seats.specs.Seats.{table_of, number_of_seat, numbers_of, seen_of, journal_of, given_of}
+use Rattle.cpn_seats.specs.Seats.{table_of, number_of_seat, numbers_of, seen_of, journal_of, spent_of, given_of}
 use Rattle.cpn_seats.specs.SeenViews.{seen_by}
 use Rattle.cpn_seats.specs.Turns.{Slot, journal_told, with_numbers, IsAtRest}
 
@@ -24,12 +24,14 @@ pub record IsTokenSplitOff (place : TableId) (left : Me Slot View) (token : tabl
   pub no_event : events_by number (journal_told left.0.seen) ≡ []
   pub room : (seen : Seen) → seen_by left.0 ≡ Some seen → number < seen.setup.limits.seats
 
--- The seat that a split gives, and the one that was split: it is at the same desk, and has seen what that one has; its one number is the last
--- one given, below the number of the run's seats, is none of the other seat's, and no claim and no completion is by it.
+-- The seat that a split gives, and the one that was split: it is at the same desk, and has seen what that one has, also whether the book was
+-- spent; its one number is the last one given, below the number of the run's seats, is none of the other seat's, and no claim and no completion is
+-- by it.
 pub record IsSplitOff (seat other : Seat) : Type 0 where
   pub table : table_of other ≡ table_of seat
   pub numbers : numbers_of other ≡ number_of_seat other ∷ []
   pub seen : seen_of other ≡ seen_of seat
+  pub spent : spent_of other ≡ spent_of seat
   pub given : given_of other ≡ given_of seat
   pub last_given : given_of seat ≡ number_of_seat other + 1
   pub fresh : is_among (number_of_seat other) (numbers_of seat) ≡ true → ⊥

@@ -7,7 +7,7 @@ use Rattle.cpn_book.specs.declared.answers.GivenBack.{GivenBack}
 use Rattle.cpn_book.specs.declared.tickets.Evaluated.{Evaluated}
 use Rattle.cpn_book.specs.declared.tickets.Ticket.{Ticket}
 use Rattle.cpn_book.specs.Seen.{Seen, SeesCall, ClaimsAt, CompletesAt, GivesBackAt, AdvancesAt, WantsMemoryAt}
-use Rattle.cpn_seats.specs.HeldClaims.{KeepsHeld, KeepsOthersHeld}
+use Rattle.cpn_seats.specs.HeldClaims.{IsNotDone, KeepsHeld, KeepsOthersHeld}
 
 -- what is held under any of a seat's numbers is held after its claim
 abbrev pub ClaimsKeepHeld : Type 0
@@ -16,6 +16,10 @@ ClaimsKeepHeld = (numbers : List ℕ) (seat : ℕ) (answer : Claimed) (old new :
 -- what is held under the numbers that it doesn't act under is held after its completion
 abbrev pub CompletionsKeepOthersHeld : Type 0
 CompletionsKeepOthersHeld = (numbers : List ℕ) (seat : ℕ) (done : Evaluated) (answer : Completed) (old new : Seen) → CompletesAt numbers seat done answer old new → KeepsOthersHeld numbers seat old new
+
+-- what is held under any of a seat's numbers is held after its completion that is answered `Void` or `Stranger`, so that it was not made
+abbrev pub RefusedCompletionsKeepHeld : Type 0
+RefusedCompletionsKeepHeld = (numbers : List ℕ) (seat : ℕ) (done : Evaluated) (answer : Completed) (old new : Seen) → CompletesAt numbers seat done answer old new → IsNotDone answer → KeepsHeld numbers old new
 
 -- what is held is held, or cut off, after a claim is given back
 abbrev pub GivingBackKeepsHeld : Type 0

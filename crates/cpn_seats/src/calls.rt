@@ -1,6 +1,6 @@
 //! What a seat does in a turn of its own, by its token and the number that it acts under.
 
-ghost use Rattle.std.specs.Prelude.{◌≡◌, ◌<◌, ◌∷◌, [], None, Some, IfOk, IfErr, OnErr};
+ghost use Rattle.std.specs.Prelude.{◌≡◌, ◌<◌, ◌≤◌, ◌∷◌, [], None, Some, IfOk, IfErr, OnErr};
 ghost use Rattle.cpn_book.specs.Books.{IsBook};
 ghost use Rattle.cpn_book.specs.Tickets.{number_of, job_of, evaluated_number, evaluated_job};
 ghost use Rattle.cpn_book.specs.declared.books.Book.{Book};
@@ -105,6 +105,7 @@ impl SeatDesk {
         ensures own { token.new.table_id ≡ token.old.table_id }
         ensures at_rest { IsAtRest token.new.me number }
         ensures numbers { token.new.me.0.numbers ≡ token.old.me.0.numbers }
+        ensures more_given { token.old.me.0.given ≤ token.new.me.0.given }
         ensures answer { IfOk result (λ answer. IfSeen (seen_by token.old.me.0) (seen_by token.new.me.0) (ClaimsAt token.old.me.0.numbers number answer)) }
         ensures none { OnErr result (IfSeen (seen_by token.old.me.0) (seen_by token.new.me.0) (WantsMemoryAt token.old.me.0.numbers)) }
     {
@@ -138,6 +139,7 @@ impl SeatDesk {
         ensures own { token.new.table_id ≡ token.old.table_id }
         ensures at_rest { IsAtRest token.new.me number }
         ensures numbers { token.new.me.0.numbers ≡ token.old.me.0.numbers }
+        ensures more_given { token.old.me.0.given ≤ token.new.me.0.given }
         ensures answer { IfOk result (λ answer. IfSeen (seen_by token.old.me.0) (seen_by token.new.me.0) (CompletesAt token.old.me.0.numbers number done answer)) }
         ensures none { OnErr result (IfSeen (seen_by token.old.me.0) (seen_by token.new.me.0) (WantsMemoryAt token.old.me.0.numbers)) }
         ensures held { IfOk result (λ answer. (seen : Seen) → seen_by token.old.me.0 ≡ Some seen → IsHeld seen number (evaluated_number done) (evaluated_job done) → IsNoStranger answer) }
@@ -172,6 +174,7 @@ impl SeatDesk {
         ensures own { token.new.table_id ≡ token.old.table_id }
         ensures at_rest { IsAtRest token.new.me number }
         ensures numbers { token.new.me.0.numbers ≡ token.old.me.0.numbers }
+        ensures more_given { token.old.me.0.given ≤ token.new.me.0.given }
         ensures answer { IfOk result (λ answer. IfSeen (seen_by token.old.me.0) (seen_by token.new.me.0) (GivesBackAt token.old.me.0.numbers number ticket answer)) }
         ensures none { OnErr result (IfSeen (seen_by token.old.me.0) (seen_by token.new.me.0) (WantsMemoryAt token.old.me.0.numbers)) }
         ensures held { IfOk result (λ answer. (seen : Seen) → seen_by token.old.me.0 ≡ Some seen → IsHeld seen number (number_of ticket) (job_of ticket) → IsNoStrangersTicket answer) }
@@ -205,6 +208,7 @@ impl SeatDesk {
         ensures own { token.new.table_id ≡ token.old.table_id }
         ensures at_rest { IsAtRest token.new.me number }
         ensures numbers { token.new.me.0.numbers ≡ token.old.me.0.numbers }
+        ensures more_given { token.old.me.0.given ≤ token.new.me.0.given }
         ensures answer { IfSeen (seen_by token.old.me.0) (seen_by token.new.me.0) (AdvancesAt token.old.me.0.numbers result) }
     {
         let _turn = self.take_turn(rt, token);
@@ -235,6 +239,7 @@ impl SeatDesk {
         ensures own { token.new.table_id ≡ token.old.table_id }
         ensures at_rest { IsAtRest token.new.me number }
         ensures numbers { token.new.me.0.numbers ≡ token.old.me.0.numbers }
+        ensures more_given { token.old.me.0.given ≤ token.new.me.0.given }
         ensures looks { IfSeen (seen_by token.old.me.0) (seen_by token.new.me.0) (SeesCall token.old.me.0.numbers []) }
     {
         let _turn = self.take_turn(rt, token);
@@ -259,6 +264,7 @@ impl SeatDesk {
         ensures own { token.new.table_id ≡ token.old.table_id }
         ensures at_rest { IsAtRest token.new.me number }
         ensures numbers { token.new.me.0.numbers ≡ token.old.me.0.numbers }
+        ensures more_given { token.old.me.0.given ≤ token.new.me.0.given }
         ensures looks { IfSeen (seen_by token.old.me.0) (seen_by token.new.me.0) (SeesCall token.old.me.0.numbers []) }
         ensures split { IfOk result (λ new. IsTokenSplitOff token.old.table_id token.new.me new.0 new.1) }
         ensures given { IfErr result (λ given. token.new.me.0.given ≡ given) }

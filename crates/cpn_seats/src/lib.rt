@@ -19,5 +19,5 @@ mod waiting;
 
 pub use desks::Split;
 pub use handles::SeatHandle;
-pub use laws::claims_stay_held;
+pub use laws::{calls_are_made_in_a_state, claims_stay_held, want_of_memory_stays};
 pub use seats::{Seat, SeatDesk};

@@ -1,1 +1,2 @@
+mod CountedOccurrences
 mod Rows

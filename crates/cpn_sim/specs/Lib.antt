@@ -1,2 +1,3 @@
 pub mod Probing
+pub mod Counted
 pub mod ProbeViews

@@ -1,6 +1,6 @@
 //! From the words and the source to the report, or to the reason why there is none.
 
-ghost use Rattle.std.specs.Prelude.{◌≡◌, ◌≤◌, [], length, Some, Err, map, string_bytes, IfOk, IfErr, OnOk, IfSome, MatchOption};
+ghost use Rattle.std.specs.Prelude.{◌≡◌, ◌≤◌, ◌⊎◌, [], length, Some, Err, map, string_bytes, IfOk, IfErr, OnOk, IfSome, MatchOption};
 ghost use Rattle.cpn_core.specs.Inscriptions.{funs_view};
 ghost use Rattle.cpn_core.specs.Nets.{net_view};
 ghost use Rattle.cpn_declared.specs.DeclsViews.{decls_view};
@@ -46,21 +46,23 @@ pub struct Report {
 }
 
 /// The report of the runs of the document, under the options of the words, and of what the probes said of them. In mode `large` the document
-/// is a generated net; otherwise it is what the source gives. The workers of the runs pass the gate.
+/// is a generated net; otherwise it is what the source gives. Where there are several workers, each passes the gate between a claim and its evaluation.
 pub fn answer<S: Source, P: Probe, G: Gate + Sync, R: Threads + Wait + Sync>(
     rt: &R,
     alloc: Global,
     words: &[String],
     source: &mut S,
-    probes: Vec<P>,
+    probes: &mut Vec<P>,
     gate: &G,
 ) -> Result<Report, Refusal>
-    ensures report { IfOk result (λ report. IfSome (document_of (map string_bytes words.now) (S.left source.old)) (λ bytes. (length bytes ≤ most_bytes) × IsTheReport bytes (map string_bytes words.now) (HaveReported P.Notes P.Reports probes.items) report.status (string_bytes report.text))) }
+    ensures report { IfOk result (λ report. IfSome (document_of (map string_bytes words.now) (S.left source.old)) (λ bytes. (length bytes ≤ most_bytes) × IsTheReport bytes (map string_bytes words.now) (HaveReported P.Notes P.Reports probes.old.items) report.status (string_bytes report.text))) }
     ensures status { IfOk result (λ report. IsReported report.status) }
     ensures end { OnOk result ((GeneratesNet (map string_bytes words.now) → ⊥) → IfSome (S.left source.old) (λ _. S.left source.new ≡ Some [])) }
     ensures unread { GeneratesNet (map string_bytes words.now) → source.new ≡ source.old }
     ensures options { OnOk result (GiveOptions (map string_bytes words.now)) }
     ensures cause { IfErr result (λ refusal. MatchOption (refusal_view refusal) (refusal ≡ Refusal.Memory) (λ plain. HasCause plain (map string_bytes words.now) (document_of (map string_bytes words.now) (S.left source.old)) (S.faults source.old) (S.faults source.new))) }
+    // Unless memory is wanted, what is refused is refused before any run, and no probe was told anything.
+    ensures untold { IfErr result (λ refusal. (refusal ≡ Refusal.Memory) ⊎ (probes.new ≡ probes.old)) }
     // The document has at most one reading.
     ensures one_reading { OnOk result (IfSome (document_of (map string_bytes words.now) (S.left source.old)) HaveOneReading) }
     ensures read_once { IfErr result (λ refusal. IfSome (refusal_view refusal) (λ plain. IsReadOnce plain (document_of (map string_bytes words.now) (S.left source.old)))) }
@@ -92,17 +94,16 @@ fn report_of<P: Probe, G: Gate + Sync, R: Threads + Wait + Sync>(
     alloc: Global,
     options: &Options,
     model: Model,
-    probes: Vec<P>,
+    probes: &mut Vec<P>,
     gate: &G,
 ) -> Result<Report, Memory>
     requires reads { model_in (loaded_view model.loaded) (read (model_view model)) }
     requires ready { IsReady (decls_view model.loaded.decls) (net_view model.loaded.net) model.loaded.initial (monitors_view model.monitors) }
     requires fit { FitNet (net_view model.loaded.net) (funs_view model.monitors.funs.value) (monitors_view model.monitors) }
     requires starts { StartInitially (model_view model).phases }
-    ensures report { IfOk result (λ report. IsReportOf (model_view model) (options_view options.now) (HaveReported P.Notes P.Reports probes.items) report.status (string_bytes report.text)) }
+    ensures report { IfOk result (λ report. IsReportOf (model_view model) (options_view options.now) (HaveReported P.Notes P.Reports probes.old.items) report.status (string_bytes report.text)) }
     ensures status { IfOk result (λ report. IsReported report.status) }
 {
-    let mut probes = probes;
     let mut told = cpn_report::Report::new(alloc, options.trace)?;
     let limits = Limits {
         steps: options.steps,
@@ -110,7 +111,7 @@ fn report_of<P: Probe, G: Gate + Sync, R: Threads + Wait + Sync>(
         seats: options.workers as u32,
     };
     let session = Session::of_model(alloc, model, options.seed, limits)?;
-    let status = run_phases(rt, alloc, session, &mut told, &mut probes, gate)?;
+    let status = run_phases(rt, alloc, session, &mut told, probes, gate)?;
     let said = report_all(alloc, probes.as_slice())?;
     let text = told.end(said.as_slice())?;
     Ok(Report { text, status })

@@ -24,7 +24,7 @@ pub struct Options {
     pub seed: u64,
     /// How many workers make each run: 1 to 64.
     pub workers: u64,
-    /// How many claims the runs may make together: 1 to 1,000,000.
+    /// How many claims a run may make, less the occurrences of the runs before it: 1 to 1,000,000.
     pub steps: u64,
     /// The last time that each run may reach: 0 to 2^62.
     pub until: u64,

@@ -32,7 +32,7 @@ use std::alloc::Global;
 use std::sync::Wait;
 use std::thread::Threads;
 
-/// Makes the runs of the phases that are left, one after another, each by workers who pass the gate; a run that ends by a fault is the last. The
+/// Makes the runs of the phases that are left, one after another, each by its workers (several pass the gate); a run that ends by a fault is the last. The
 /// report is told each run, and the probes its occurrences, after it has ended. What is answered is the status of the last end.
 ///
 /// # Errors

@@ -30,9 +30,9 @@ use std::thread::Threads;
 /// another under the options of the words, and writes the report, or one error line, to the sink. Nothing is written before it stands whole in
 /// memory.
 ///
-/// Each run is driven by as many workers as the words say, each in a thread of its own while threads can be made, who share it in turns; each
-/// passes the gate between a claim and its evaluation. What they leave is then taken to its end. The call may wait, and keeps its promise if it
-/// returns.
+/// Each run is driven by as many workers as the words say. Several share it in turns, each in a thread of its own while threads can be made, and
+/// each passes the gate between a claim and its evaluation; what they leave is then taken to its end. One worker makes the run alone, and passes
+/// no gate. The call may wait, and keeps its promise if it returns.
 ///
 /// Each probe is told the committed occurrences of all runs, those of each run after it has ended, and is asked for its report after the last
 /// one. The probes are dropped before the call returns.
@@ -107,7 +107,10 @@ pub fn simulate<S: Source, K: Sink, G: Gate + Sync, R: Threads + Wait + Sync>(
         → (model : PlainModel) → IsModel bytes (read model)
         → IsReportedOrExcused result (Rose (S.faults source.old) (S.faults source.new)) (Rose (K.faults sink.old) (K.faults sink.new)) }
 {
-    match answer(rt, alloc, words, source, probes, gate) {
+    let mut probes = probes;
+    let answered = answer(rt, alloc, words, source, &mut probes, gate);
+    drop(probes);
+    match answered {
         Ok(report) => match write_all(sink, report.text.as_bytes()) {
             Ok(()) => report.status,
             Err(_) => Status::WriteFault,

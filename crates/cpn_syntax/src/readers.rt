@@ -36,17 +36,6 @@ impl<'t> Reader<'t> {
         }
     }
 
-    /// Whether the symbol is next. Nothing is read.
-    pub fn next_is(&self, symbol: Symbol) -> bool
-        ensures yes { result ≡ true → Begins (Is symbol) (unread self.now) }
-        ensures no { result ≡ false → Begins (Is symbol) (unread self.now) → ⊥ }
-    {
-        match self.rest.first() {
-            Some(token) => is_symbol(token, symbol),
-            None => false,
-        }
-    }
-
     /// Reads the next token; `None` at the end of the text.
     pub fn next(&mut self) -> Option<&'t Token>
         ensures some { IfSome result (λ t. unread self.old ≡ token_view t.now ∷ unread self.new) }

@@ -12,6 +12,8 @@ mod markings;
 #[cfg(test)]
 mod multisets;
 #[cfg(test)]
+mod names;
+#[cfg(test)]
 mod places;
 #[cfg(test)]
 mod probes;

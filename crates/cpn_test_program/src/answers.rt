@@ -10,17 +10,23 @@ ghost use Rattle.cpn_test_program.specs.Shown.{HasElement, KeptHasElement, Keeps
 use cpn_book::{Advanced, Claimed, Completed, GivenBack, Ticket};
 use cpn_core::{Memory, Net};
 use cpn_jobs::Job;
-use cpn_report::push_element;
+use cpn_report::element_text;
+use std::alloc::Global;
 use std::fmt::Write;
 use std::sync::Arc;
 
 /// Appends the answer to a seat that makes a claim.
-pub fn push_claimed(out: &mut String, net: &Net, answer: &Claimed) -> Result<(), Memory>
+pub fn push_claimed(
+    out: &mut String,
+    alloc: Global,
+    net: &Net,
+    answer: &Claimed,
+) -> Result<(), Memory>
     requires net { IsPrintableNet (net_view net.now) }
     requires element { TellsElement (net_view net.now) answer.now }
 {
     match answer {
-        Claimed::Ticket(ticket) => push_ticket(out, net, ticket),
+        Claimed::Ticket(ticket) => push_ticket(out, alloc, net, ticket),
         Claimed::Nothing { held } => push_number(out, "nothing", *held),
         Claimed::Busy { number } => push_number(out, "busy", *number),
         Claimed::StepLimit => push_words(out, "step_limit"),
@@ -29,35 +35,45 @@ pub fn push_claimed(out: &mut String, net: &Net, answer: &Claimed) -> Result<(),
 }
 
 /// Appends a ticket: its number and its job.
-fn push_ticket(out: &mut String, net: &Net, ticket: &Ticket) -> Result<(), Memory>
+fn push_ticket(out: &mut String, alloc: Global, net: &Net, ticket: &Ticket) -> Result<(), Memory>
     requires net { IsPrintableNet (net_view net.now) }
     requires element { HasElement (net_view net.now) (job_of ticket.now) }
 {
     push_number(out, "ticket", ticket.number())?;
-    push_job(out, net, ticket.job())
+    push_job(out, alloc, net, ticket.job())
 }
 
 /// Appends the answer to a seat that brings an evaluation.
-pub fn push_completed(out: &mut String, net: &Net, answer: &Completed) -> Result<(), Memory>
+pub fn push_completed(
+    out: &mut String,
+    alloc: Global,
+    net: &Net,
+    answer: &Completed,
+) -> Result<(), Memory>
     requires net { IsPrintableNet (net_view net.now) }
     requires element { KeepsElement (net_view net.now) answer.now }
 {
     match answer {
         Completed::Done => push_words(out, "done"),
         Completed::Void { number } => push_number(out, "void", *number),
-        Completed::Stranger { kept, .. } => push_stranger(out, net, kept),
+        Completed::Stranger { kept, .. } => push_stranger(out, alloc, net, kept),
     }
 }
 
 /// Appends the answer to a seat that gives a ticket back.
-pub fn push_given_back(out: &mut String, net: &Net, answer: &GivenBack) -> Result<(), Memory>
+pub fn push_given_back(
+    out: &mut String,
+    alloc: Global,
+    net: &Net,
+    answer: &GivenBack,
+) -> Result<(), Memory>
     requires net { IsPrintableNet (net_view net.now) }
     requires element { TicketKeepsElement (net_view net.now) answer.now }
 {
     match answer {
         GivenBack::Cut => push_words(out, "cut"),
         GivenBack::Void { number } => push_number(out, "void", *number),
-        GivenBack::Stranger { kept, .. } => push_stranger(out, net, kept),
+        GivenBack::Stranger { kept, .. } => push_stranger(out, alloc, net, kept),
     }
 }
 
@@ -95,25 +111,31 @@ fn push_number(out: &mut String, word: &str, number: u64) -> Result<(), Memory> 
 }
 
 /// Appends that what was brought is a stranger, and the job of the open claim of its number, if there is one.
-fn push_stranger(out: &mut String, net: &Net, kept: &Option<Arc<Job>>) -> Result<(), Memory>
+fn push_stranger(
+    out: &mut String,
+    alloc: Global,
+    net: &Net,
+    kept: &Option<Arc<Job>>,
+) -> Result<(), Memory>
     requires net { IsPrintableNet (net_view net.now) }
     requires element { KeptHasElement (net_view net.now) (option_map (λ job. job_view job.value) kept.now) }
 {
     match kept {
         Some(job) => {
             push_words(out, "stranger")?;
-            push_job(out, net, job)
+            push_job(out, alloc, net, job)
         }
         None => push_words(out, "stranger none"),
     }
 }
 
 /// Appends a job: its time and its element.
-fn push_job(out: &mut String, net: &Net, job: &Job) -> Result<(), Memory>
+fn push_job(out: &mut String, alloc: Global, net: &Net, job: &Job) -> Result<(), Memory>
     requires net { IsPrintableNet (net_view net.now) }
     requires element { HasElement (net_view net.now) (job_view job.now) }
 {
     let time = job.time;
     write!(out, " @{time} ")?;
-    push_element(out, net, &job.element)
+    out.push_str(element_text(alloc, net, &job.element)?.as_str())?;
+    Ok(())
 }

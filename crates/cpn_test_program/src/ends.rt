@@ -11,8 +11,8 @@ ghost use Rattle.cpn_test_program.specs.Shown.{IsShownSetup};
 
 use cpn_core::{Memory, Net, Occurrence};
 use cpn_report::{
-    Report, Start, Trace, end_text, monitor_text, occurrence_text, printable_runs,
-    push_place_lines, schedule_text,
+    Start, Trace, end_text, monitor_text, occurrence_text, printable_runs, push_place_lines,
+    run_text, schedule_text,
 };
 use cpn_runs::{End, Finished};
 use std::alloc::Global;
@@ -30,7 +30,7 @@ pub fn push_end(out: &mut String, alloc: Global, finished: &Finished) -> Result<
     push_report(out, alloc, finished)
 }
 
-/// Appends the line of the end, and the report of the run.
+/// Appends the line of the end, and the lines of the run as a report has them.
 fn push_report(out: &mut String, alloc: Global, finished: &Finished) -> Result<(), Memory>
     requires printable { IsPrintable (net_view finished.now.setup.net.value) (finished_view finished.now) }
 {
@@ -41,9 +41,7 @@ fn push_report(out: &mut String, alloc: Global, finished: &Finished) -> Result<(
         &finished.cause,
     )?;
     push_line(out, end.as_str())?;
-    let mut report = Report::new(alloc, Trace::On)?;
-    report.tell(Start::Initial, finished)?;
-    let text = report.end(&[])?;
+    let text = run_text(alloc, Trace::On, 0, Start::Initial, finished)?;
     out.push_str(text.as_str())?;
     Ok(())
 }

@@ -142,7 +142,7 @@ impl Table {
             return push_not_made(&mut self.out, "the run has no such seat");
         }
         let claimed = book.claim(seat)?;
-        push_claimed(&mut self.out, net, &claimed)?;
+        push_claimed(&mut self.out, self.alloc, net, &claimed)?;
         self.own.keep_claimed(claimed)
     }
 
@@ -177,7 +177,7 @@ impl Table {
         ensures shown { OnOk result (IsShown (net_view net.now) book.new) }
     {
         let completed = book.complete(seat, done)?;
-        push_completed(&mut self.out, net, &completed)?;
+        push_completed(&mut self.out, self.alloc, net, &completed)?;
         self.hand(run).keep_completed(completed)
     }
 
@@ -212,7 +212,7 @@ impl Table {
         ensures shown { OnOk result (IsShown (net_view net.now) book.new) }
     {
         let given_back = book.give_back(seat, ticket)?;
-        push_given_back(&mut self.out, net, &given_back)?;
+        push_given_back(&mut self.out, self.alloc, net, &given_back)?;
         self.hand(run).keep_given_back(given_back)
     }
 

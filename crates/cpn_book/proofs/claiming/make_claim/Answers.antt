@@ -54,7 +54,7 @@ returns-clause-at c =
       clock = refl;
       cut = refl;
       occurrences = refl;
-      values = refl;
+      measuring = refl;
       claims =
           c.in_ok-changes.ensures.pushed
           ∙ ap (λ e. (log_view old.log).claims ++ opened c.args.seat e job.time c.args.needs ∷ []) (drawn_element s old c.args.number job c.args.needs due)

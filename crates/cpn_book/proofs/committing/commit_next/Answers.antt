@@ -130,7 +130,7 @@ returns-in-Some-clause-leads c =
     (is_of_next (setup_view c.args.setup.now) c.args.standing.now c.requires.may c.committed-number.result c.deref.result.now c.in_ok-clone.field-0 (next_of c.args.standing.now c.committed-number.result c.state.result c.committed-number.ensures c.state.ensures c.in-Done.is)
     c.committed-number.ensures (c.job-job.ensures ∙ ap Some (sym c.deref.ensures)) (ap element_view c.in_ok-clone.ensures.cases ∙ ap (λ (j : Job). element_view j.element.value) (c.deref-2.ensures ∙ sym c.deref.ensures)))
     c.commit_one.new.self (record { committed = c.in_ok-commit_one.ensures.next; kept = c.in_ok-commit_one.ensures.kept; jobs = c.in_ok-commit_one.ensures.jobs })
-    c.note_last.new.standing c.reserve.new.self c.reserve.ensures.items c.note_last.ensures.occurrences c.note_last.ensures.others c.in_ok-monitor.field-0 c.in_ok-monitor.ensures.measured c.in_ok-monitor.ensures.stop c.in-Some.monitor c.in-Some.is
+    c.note_last.new.standing c.reserve.new.self c.reserve.ensures.items c.note_last.ensures.occurrences c.note_last.ensures.others c.requires.playable c.in_ok-monitor.field-0 c.in_ok-monitor.ensures.measured c.in_ok-monitor.ensures.stop c.in-Some.monitor c.in-Some.is
 
 pub returns-in-None-clause-leads : goal.returns-in-None-clause-leads
 returns-in-None-clause-leads c = (
@@ -139,7 +139,7 @@ returns-in-None-clause-leads c = (
       (is_of_next (setup_view c.args.setup.now) c.args.standing.now c.requires.may c.committed-number.result c.deref.result.now c.in_ok-clone.field-0 (next_of c.args.standing.now c.committed-number.result c.state.result c.committed-number.ensures c.state.ensures c.in-Done.is)
       c.committed-number.ensures (c.job-job.ensures ∙ ap Some (sym c.deref.ensures)) (ap element_view c.in_ok-clone.ensures.cases ∙ ap (λ (j : Job). element_view j.element.value) (c.deref-2.ensures ∙ sym c.deref.ensures)))
       c.commit_one.new.self (record { committed = c.in_ok-commit_one.ensures.next; kept = c.in_ok-commit_one.ensures.kept; jobs = c.in_ok-commit_one.ensures.jobs })
-      c.note_last.new.standing c.reserve.new.self c.reserve.ensures.items c.note_last.ensures.occurrences c.note_last.ensures.others c.in_ok-monitor.field-0 c.in_ok-monitor.ensures.measured c.in_ok-monitor.ensures.stop c.in-None.is,
+      c.note_last.new.standing c.reserve.new.self c.reserve.ensures.items c.note_last.ensures.occurrences c.note_last.ensures.others c.requires.playable c.in_ok-monitor.field-0 c.in_ok-monitor.ensures.measured c.in_ok-monitor.ensures.stop c.in-None.is,
   one_committed (setup_view c.args.setup.now) c.args.standing.now c.requires.may (next_of c.args.standing.now c.committed-number.result c.state.result c.committed-number.ensures c.state.ensures c.in-Done.is)
       (record { number = c.committed-number.result; time = c.deref.result.now.time; element = c.in_ok-clone.field-0 })
       (is_of_next (setup_view c.args.setup.now) c.args.standing.now c.requires.may c.committed-number.result c.deref.result.now c.in_ok-clone.field-0 (next_of c.args.standing.now c.committed-number.result c.state.result c.committed-number.ensures c.state.ensures c.in-Done.is)

@@ -84,7 +84,7 @@ did c =
       kept = subst (λ (l : Log). IsKept (log_view l)) (sym log_same) c.in_ok-changes.ensures.kept;
       occurrences = occurrence_noted c.reserve-2.new.self.items old.occurrences.items noted.occurrences.items c.args.number c.deref.result.now.time job.time c.in_ok-clone.field-0 (element_view job.element.value) c.reserve-2.ensures.items c.note_last.ensures.occurrences (ap (λ (j : Job). j.time) c.deref.ensures) element;
       events = events_noted c.reserve.new.self.items old.journal.items c.push_reserved.new.self.items c.push_reserved-2.new.self.items c.args.number c.reserve.ensures.items (c.push_reserved.ensures.items ∙ ap (λ es. es ++ events.Claim 0 c.args.number ∷ []) (ap (λ (s : Standing). s.journal.items) others)) c.push_reserved-2.ensures.items;
-      others = ap (λ (s : Standing). record s { journal = c.push_reserved-2.new.self }) others ∙ ap (λ (l : Log). record old { log = l; journal = c.push_reserved-2.new.self; occurrences = noted.occurrences; values = noted.values }) (sym log_same);
+      others = ap (λ (s : Standing). record s { journal = c.push_reserved-2.new.self }) others ∙ ap (λ (l : Log). record old { log = l; journal = c.push_reserved-2.new.self; occurrences = noted.occurrences; measuring = noted.measuring }) (sym log_same);
     }
 
 -- its occurrence, with the marking after it

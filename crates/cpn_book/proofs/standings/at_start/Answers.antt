@@ -13,9 +13,11 @@ use Rattle.cpn_book.specs.Standings.{job_for}
 use Rattle.std.proofs.lemmas.List.{length-replicate}
 use Rattle.std.specs.List.{AllByRecursion}
 use Rattle.cpn_core.specs.Inscriptions.{funs_view}
-use Rattle.cpn_monitor.specs.Fitting.{AreMeasured}
+use Rattle.cpn_core.specs.Nets.{net_view}
+use Rattle.cpn_core.specs.declared.nets.Net.{Net}
+use Rattle.cpn_monitor.specs.Kept.{AreKept}
 use Rattle.cpn_monitor.specs.Noted.{MayLook}
-use Rattle.cpn_monitor.specs.Views.{monitors_view, values_view}
+use Rattle.cpn_monitor.specs.Views.{monitors_view, measuring_view}
 use Rattle.cpn_monitor.specs.declared.monitors.Monitors.{Monitors}
 use Rattle.cpn_runs.specs.HoleRun.{PlainClaim}
 use Rattle.cpn_runs.specs.MeasuredStates.{run_of}
@@ -72,8 +74,9 @@ returns-clause-starts c =
         jobs = ap (map job_view) c.in_ok-log.ensures.jobs ∙ sym (ap (λ l. map (job_for s.net) (map head_of l.claims)) is);
         occurrences = ap (map occurrence_view) c.new.ensures.items ∙ ap (numbered 0) (sym (none_taken (length (log_view log).committed)));
         measured =
-            measured_alike s s.clock s.clock [] (take (length (log_view log).committed) no_claims) (values_view c.in_ok-values.values) (values_view c.in_ok-values.values) refl (none_taken (length (log_view log).committed)) refl
-            (subst (λ (d : Monitors). AreMeasured (funs_view d.funs.value) (monitors_view d) (run_of s s.clock []) (values_view c.in_ok-values.values)) c.deref.ensures c.in_ok-values.ensures.started);
+            measured_alike s s.clock s.clock [] (take (length (log_view log).committed) no_claims) (measuring_view c.in_ok-measuring.measuring) (measuring_view c.in_ok-measuring.measuring) refl (none_taken (length (log_view log).committed)) refl
+            (subst (λ (n : Net). AreKept (net_view n) s.functions s.monitors (run_of s s.clock []) (measuring_view c.in_ok-measuring.measuring)) c.deref-2.ensures
+            (subst (λ (d : Monitors). AreKept (net_view c.deref-2.result.now) (funs_view d.funs.value) (monitors_view d) (run_of s s.clock []) (measuring_view c.in_ok-measuring.measuring)) c.deref.ensures c.in_ok-measuring.ensures.started));
         made_now = subst (λ (l : PlainLog). AllByRecursion (λ (claim : PlainClaim). claim.time ≡ s.clock) l.claims) (sym is) tt;
         draw = λ none_yet. c.new-2.ensures;
       };

@@ -1,7 +1,7 @@
 -- Each body has its shape.
 use Rattle.std.proofs.Common.{◌∙◌, ap, ap₂, sym, refl, map, string_bytes, to_z, of_z, w64, rules}
-use Rattle.cpn_core.specs.Colours.{shape_view}
-use Rattle.cpn_definitions.specs.Colour.{list_shape, int_shape}
+use Rattle.cpn_core.specs.Colours.{shape_view, shapes_view}
+use Rattle.cpn_definitions.specs.Colour.{list_shape, tuple_shape, int_shape}
 use Rattle.cpn_trees.specs.declared.declaration_trees.Body.TheVariants as bodies
 use Rattle.cpn_typing.specs.ColourSets.{component, components}
 use Rattle.cpn_declared.specs.DeclsViews.{decls_view}
@@ -31,8 +31,8 @@ returns-then-low-high-clause-exact c =
 pub returns-in_ok-shapes-in-Product-clause-exact : goal.returns-in_ok-shapes-in-Product-clause-exact
 returns-in_ok-shapes-in-Product-clause-exact c =
     alone (decls_view c.args.decls.now) c.args.name.now c.args.body.now (bodies.Product c.in-Product.names) _ _ c.in-Product.is
-    (product_accepted (decls_view c.args.decls.now) c.args.name.now (map string_bytes c.in-Product.names.items) _ (ap (λ names. components (decls_view c.args.decls.now) (map string_bytes names)) (sym c.as_slice-in-Product.ensures.value) ∙ c.in_ok-shapes-in-Product.ensures.exact))
-    (shape_tuple c.in_ok-shapes-in-Product.shapes)
+    (product_accepted (decls_view c.args.decls.now) c.args.name.now (map string_bytes c.in-Product.names.items) _ (ap (λ names. components (decls_view c.args.decls.now) (map string_bytes names)) (sym c.as_slice-in-Product.ensures.value) ∙ c.in_ok-items-in-Product.ensures.exact))
+    (shape_tuple c.in_ok-shapes-in-Product.shapes ∙ ap (λ shapes. tuple_shape (shapes_view shapes.items)) c.in_ok-shapes-in-Product.ensures.ok)
 
 pub returns-in_ok-new-in-List-clause-exact : goal.returns-in_ok-new-in-List-clause-exact
 returns-in_ok-new-in-List-clause-exact c =
@@ -48,6 +48,9 @@ returns-in_ok-shape-in-Named-clause-exact c =
 
 pub returns-in_err-from_str-in-IntRange-clause-grown : goal.returns-in_err-from_str-in-IntRange-clause-grown
 returns-in_err-from_str-in-IntRange-clause-grown c = grows_same (decls_view c.args.decls.now) (decls_view c.args.decls.now) refl
+
+pub returns-in_err-items-in-Product-clause-grown : goal.returns-in_err-items-in-Product-clause-grown
+returns-in_err-items-in-Product-clause-grown c = grows_same (decls_view c.args.decls.now) (decls_view c.args.decls.now) refl
 
 pub returns-in_err-shapes-in-Product-clause-grown : goal.returns-in_err-shapes-in-Product-clause-grown
 returns-in_err-shapes-in-Product-clause-grown c = grows_same (decls_view c.args.decls.now) (decls_view c.args.decls.now) refl

@@ -15,7 +15,7 @@ has_shape-returns-in-Union t c = record {
   exact =
       c.is_constructed.ensures.exact c.in-Union.field-0
       ∙ ap₂ has_shape (sym (ap value_view c.in-Con.is ∙ view_con c.in-Con.position c.in-Con.argument))
-      (ap (λ cs. union_shape c.in-Union.field-0 (constructors_view cs)) c.as_slice.ensures.value ∙ sym (ap shape_view c.in-Union.is ∙ shape_union c.in-Union.field-0 c.in-Union.constructors));
+      (ap (λ cs. union_shape c.in-Union.field-0 (constructors_view cs)) c.as_slice.ensures.value ∙ ap (λ cs. union_shape c.in-Union.field-0 (constructors_view cs.items)) c.deref-in-Union.ensures ∙ sym (ap shape_view c.in-Union.is ∙ shape_union c.in-Union.field-0 c.in-Union.constructors));
 }
 
 pub have_shapes-loop-i-init : goal.have_shapes-loop-i-init

@@ -43,7 +43,7 @@ values_in-returns-in-List t c = subst (λ vs. IfOk c.empty_list.result (λ value
 
 pub values_in-returns-in-Union : goal.values_in-returns-in-Union
 values_in-returns-in-Union t c =
-    subst (λ vs. IfOk c.constructed.result (λ values. map value_view values.items ≡ vs)) (sym (ap (λ s. values_in (shape_view s)) c.in-Union.is ∙ ap values_in (shape_union c.in-Union.field-0 c.in-Union.constructors))) c.constructed.ensures
+    subst (λ vs. IfOk c.constructed.result (λ values. map value_view values.items ≡ vs)) (ap (λ cs. constructed_in (constructors_view cs.items) 0) c.deref-in-Union.ensures ∙ sym (ap (λ s. values_in (shape_view s)) c.in-Union.is ∙ ap values_in (shape_union c.in-Union.field-0 c.in-Union.constructors))) c.constructed.ensures
 
 -- ---- the rows, from the last shape on
 

@@ -1,11 +1,11 @@
 -- The rules of the list, of its arcs and of their number.
 use Rattle.std.proofs.Common.{refl}
-use Rattle.cpn_document.specs.Document.{arcs_rules}
+use Rattle.cpn_document.specs.Document.{arcs_rules, each_arc}
 use Rattle.cpn_document.proofs.BrokenRules.{broken_append, is_kept, is_few, is_many}
 use Rattle.cpn_document.proofs.arcs.arcs_in.Goals as goal
 
 pub returns-then-branch : goal.returns-then-branch
-unfolding arcs_rules
+unfolding arcs_rules each_arc
 returns-then-branch c =
     let front = is_kept _ _ c.list_refusal.ensures.exact c.in_default.is in
     let arcs = rw c.list_or_empty.ensures.exact at c.in_ok-arcs.ensures.gives.0 in
@@ -14,7 +14,7 @@ returns-then-branch c =
     record { gives = (arcs, simp broken_append (rw (front, each, is_few _ _ few) refl)) }
 
 pub returns-else-branch : goal.returns-else-branch
-unfolding arcs_rules
+unfolding arcs_rules each_arc
 returns-else-branch c =
     let front = is_kept _ _ c.list_refusal.ensures.exact c.in_default.is in
     let arcs = rw c.list_or_empty.ensures.exact at c.in_ok-arcs.ensures.gives.0 in

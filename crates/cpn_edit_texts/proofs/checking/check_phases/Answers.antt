@@ -32,7 +32,7 @@ loop-number-preserved c =
     let written = c.index-written-number.result in
     let phases = c.loop-number.phases.items in
     let edits = edits_view c.in_ok-edits.edits.items in
-    let here = subst (λ (es : List WrittenEdit). edits_so ds ms i 0 n (map written_edit_view es) (read edits)) c.as_slice.ensures.value c.in_ok-edits.ensures.reads in
+    let here = subst (λ (es : List WrittenEdit). edits_so ds ms i 0 n (map written_edit_view es) (read edits)) c.as_slice.ensures.value (rw (← c.in_ok-named.ensures.net) c.in_ok-edits.ensures.reads) in
     rw (c.in_ok-push.ensures.items, map-append phase_view phases (_ ∷ []))
     (related_more (phase_so ds ms n) written_view c.args.written.now i written c.loop-number-test.true c.index-written-number.is (phases_view phases) c.loop-number.invariant (record { start = written.start; edits = edits }) (phase_made ds ms n i (written_view written) edits here))
 
@@ -57,7 +57,7 @@ returns-in_err-edits c = record {
       let written = c.index-written-number.result in
       let o = edit_refusal_of c.in_err-edits.field-0.0 in
       let p = err_from_is_err_and c.from_residual-in_err-edits.result c.from_residual-in_err-edits.ensures.1 in
-      let here = subst (λ (es : List WrittenEdit). RefusesBy (edits_so ds ms i 0 n (map written_edit_view es)) o) c.as_slice.ensures.value c.in_err-edits.ensures.reads in
+      let here = subst (λ (es : List WrittenEdit). RefusesBy (edits_so ds ms i 0 n (map written_edit_view es)) o) c.as_slice.ensures.value (rw (← c.in_ok-named.ensures.net) c.in_err-edits.ensures.reads) in
       rw (p.1, p.2) (phases_refused ds ms n c.requires.editable.declares (map written_view c.args.written.now) o
       (related_refused (phase_so ds ms n) written_view c.args.written.now i written c.loop-number-test.true c.index-written-number.is (phases_view c.loop-number.phases.items) c.loop-number.invariant o (phase_refused ds ms n i (written_view written) o here))));
 }

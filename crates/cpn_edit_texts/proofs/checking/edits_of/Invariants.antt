@@ -10,4 +10,4 @@ use Rattle.cpn_edit_texts.proofs.AlikeEdits.{edit_of}
 use Rattle.cpn_edit_texts.proofs.checking.edits_of.Given as goal
 
 abbrev pub invariant-loop-number : goal.invariant-loop-number
-invariant-loop-number l = AreRead (edit_of (decls_view l.decls) (monitors_view l.monitors) (net_view l.net) l.phase) 0 (map written_view (take l.number l.written)) (edits_view l.edits.items)
+invariant-loop-number l = AreRead (edit_of (decls_view l.decls) (monitors_view l.monitors) (net_view l.named) l.phase) 0 (map written_view (take l.number l.written)) (edits_view l.edits.items)

@@ -58,3 +58,15 @@ loop-preserved-in-Open g c =
       seat = f.seat ∙ e.seat ∙ d.seat ∙ i.seat;
       book = f.book ∙ e.book ∙ d.book ∙ i.book;
     }
+
+pub returns-in_default-advance : goal.returns-in_default-advance
+returns-in_default-advance g c =
+    let i = c.loop.invariant in
+    let d = c.claim.ensures in
+    let e = c.advance.ensures in record {
+      keeps = e.keeps;
+      later = later_trans _ _ _ (later_trans _ _ _ i.later d.later) e.later;
+      numbers = e.numbers ∙ d.numbers ∙ i.numbers;
+      seat = e.seat ∙ d.seat ∙ i.seat;
+      book = e.book ∙ d.book ∙ i.book;
+    }

@@ -1,5 +1,5 @@
 -- One empty list more.
-use Rattle.std.proofs.Common.{ℕ, ◌+◌, List, [], ◌∷◌, length, Vec, Global, subst, sym, ap, ◌∙◌, refl}
+use Rattle.std.proofs.Common.{ℕ, ◌+◌, List, [], ◌∷◌, length, Vec, Global, ap, ◌∙◌}
 use Rattle.std.proofs.lemmas.List.{length-append}
 use Rattle.cpn_index.specs.Readers.{numbers_at}
 use Rattle.cpn_index.proofs.ReaderLists.{empty_more}

@@ -14,6 +14,9 @@ use Rattle.cpn_monitor_texts.proofs.checking.check_monitors.Goals as goal
 pub returns-clause-one : goal.returns-clause-one
 returns-clause-one c = monitors_one (decls_view c.args.decls.now) (net_view c.args.net.now) (map monitor_view c.args.written.now)
 
+pub returns-in_err-named-clause-one : goal.returns-in_err-named-clause-one
+returns-in_err-named-clause-one c = monitors_one (decls_view c.args.decls.now) (net_view c.args.net.now) (map monitor_view c.args.written.now)
+
 pub returns-in_err-monitors-clause-one : goal.returns-in_err-monitors-clause-one
 returns-in_err-monitors-clause-one c = monitors_one (decls_view c.args.decls.now) (net_view c.args.net.now) (map monitor_view c.args.written.now)
 
@@ -25,7 +28,7 @@ returns-clause-fit c =
     let same : c.in_ok-funs.funs.value ≡ c.args.net.now.funs.value = search rules in
     subst (λ (funs : Funs). FitNet (net_view c.args.net.now) (funs_view funs) (map measured_view c.in_ok-monitors.monitors.items)) (sym same)
     (accepted_fit (decls_view c.args.decls.now) (net_view c.args.net.now) c.requires.consistent c.requires.declares (map measured_view c.in_ok-monitors.monitors.items)
-    (monitors_accepted (decls_view c.args.decls.now) (net_view c.args.net.now) (map monitor_view c.args.written.now) (map measured_view c.in_ok-monitors.monitors.items) c.in_ok-monitors.ensures.reads))
+    (monitors_accepted (decls_view c.args.decls.now) (net_view c.args.net.now) (map monitor_view c.args.written.now) (map measured_view c.in_ok-monitors.monitors.items) (rw (← c.in_ok-named.ensures.net) c.in_ok-monitors.ensures.reads)))
 
 pub returns-clause-accepted : goal.returns-clause-accepted
-returns-clause-accepted c = monitors_accepted (decls_view c.args.decls.now) (net_view c.args.net.now) (map monitor_view c.args.written.now) (map measured_view c.in_ok-monitors.monitors.items) c.in_ok-monitors.ensures.reads
+returns-clause-accepted c = monitors_accepted (decls_view c.args.decls.now) (net_view c.args.net.now) (map monitor_view c.args.written.now) (map measured_view c.in_ok-monitors.monitors.items) (rw (← c.in_ok-named.ensures.net) c.in_ok-monitors.ensures.reads)

@@ -1,5 +1,5 @@
 -- The transition is there, and the text is an inscription over its variables; or one of both refuses the monitor.
-use Rattle.std.proofs.Common.{◌≡◌, ◌∙◌, ◌<◌, ℕ, List, length, get_or, sym, subst, arith}
+use Rattle.std.proofs.Common.{◌≡◌, ◌∙◌, ◌<◌, ℕ, List, length, get_or, sym, ap, subst, arith}
 use Rattle.std.proofs.lemmas.List.{length-map}
 use Rattle.std.proofs.lemmas.Result.{err_from_is_err_and}
 use Rattle.cpn_core.specs.Inscriptions.{expr_view}
@@ -28,11 +28,11 @@ there : (net : Net) (i : ℕ) (name : List ℕ) (t : ℕ) → known i (transitio
 there net i name t h = subst (λ (k : ℕ). t < k) (length-map net.transitions.items transition_view) (transition_there (net_view net) i name t h)
 
 pub index-requires : goal.index-requires
-index-requires c = let here = there c.args.net.now c.args.number c.args.name.now c.in_ok-transition.transition c.in_ok-transition.ensures.known in omega (arith, here, c.args.net.now.transitions.ok.0)
+index-requires c = let here = there c.args.net.now c.args.number c.args.name.now c.in_ok-transition.transition c.in_ok-transition.ensures.known in rw c.net.ensures.net (omega (arith, here, c.args.net.now.transitions.ok.0))
 
 -- its variables, as the call has them
-its : (net : Net) (t : ℕ) (transition : Transition) (vars : List ℕ) → t < length net.transitions.items → transition ≡ get_or net.transitions.items t transition → vars ≡ transition.vars.items → vars ≡ (transition_at (net_view net) t).vars
-its net t transition vars lt at is = is ∙ sym (vars_there net t transition lt at)
+its : (net same : Net) (t : ℕ) (transition : Transition) (vars : List ℕ) → same ≡ net → t < length net.transitions.items → transition ≡ get_or same.transitions.items t transition → vars ≡ transition.vars.items → vars ≡ (transition_at (net_view net) t).vars
+its net same t transition vars are lt at is = is ∙ sym (vars_there net t transition lt (at ∙ ap (λ (n : Net). get_or n.transitions.items t transition) are))
 
 pub returns-in_err-inscription : goal.returns-in_err-inscription
 returns-in_err-inscription c = record {
@@ -43,7 +43,7 @@ returns-in_err-inscription c = record {
       let p = err_from_is_err_and c.from_residual-in_err-inscription.result c.from_residual-in_err-inscription.ensures.1 in
       let lt = there c.args.net.now c.args.number c.args.name.now t c.in_ok-transition.ensures.known in
       rw (p.1, p.2) (value_refused ds (net_view c.args.net.now) c.args.number c.args.name.now c.args.text.now t c.in_ok-transition.ensures.known o
-      (subst (λ (vars : List ℕ). RefusesBy (inscription_so ds c.args.number vars c.args.text.now) o) (its c.args.net.now t c.index.result.now c.as_slice-vars.result.now lt c.index.ensures c.as_slice-vars.ensures.value) c.in_err-inscription.ensures.reads)));
+      (subst (λ (vars : List ℕ). RefusesBy (inscription_so ds c.args.number vars c.args.text.now) o) (its c.args.net.now c.net.result.now t c.index.result.now c.as_slice-vars.result.now c.net.ensures.net lt c.index.ensures c.as_slice-vars.ensures.value) c.in_err-inscription.ensures.reads)));
 }
 
 pub returns : goal.returns
@@ -54,5 +54,5 @@ returns c = record {
       let e = expr_view c.in_ok-inscription.inscription in
       let lt = there c.args.net.now c.args.number c.args.name.now t c.in_ok-transition.ensures.known in
       value_read ds (net_view c.args.net.now) c.args.number c.args.name.now c.args.text.now t c.in_ok-transition.ensures.known e
-      (subst (λ (vars : List ℕ). inscription_so ds c.args.number vars c.args.text.now (read e)) (its c.args.net.now t c.index.result.now c.as_slice-vars.result.now lt c.index.ensures c.as_slice-vars.ensures.value) c.in_ok-inscription.ensures.reads));
+      (subst (λ (vars : List ℕ). inscription_so ds c.args.number vars c.args.text.now (read e)) (its c.args.net.now c.net.result.now t c.index.result.now c.as_slice-vars.result.now c.net.ensures.net lt c.index.ensures c.as_slice-vars.ensures.value) c.in_ok-inscription.ensures.reads));
 }

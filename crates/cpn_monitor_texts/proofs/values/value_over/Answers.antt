@@ -7,7 +7,7 @@ use Rattle.cpn_trees.specs.ParsedViews.{inscription_view}
 use Rattle.cpn_typing.specs.GuardsAndDelays.{checked_value}
 use Rattle.cpn_typing.proofs.Answered.{answers_on, refuses_through}
 use Rattle.cpn_monitor_texts.specs.Variables.{value_over}
-use Rattle.cpn_monitor_texts.proofs.ValuesOver.{then_over, variables_declared}
+use Rattle.cpn_monitor_texts.proofs.ValuesOver.{variables_declared}
 use Rattle.cpn_monitor_texts.proofs.values.value_over.Goals as goal
 
 pub returns-in_err-value : goal.returns-in_err-value

@@ -19,8 +19,8 @@ pub push_value-push_constructed-requires : goal.push_value-push_constructed-requ
 push_value-push_constructed-requires t c = (
   search (rules, values.the_lemmas, shapes.the_lemmas),
   (
-    constructed_has (net_view c.args.net.now) c.args.value.now c.args.shape.now c.in-Con.position c.in-Con.argument c.in-Union.number c.in-Union.constructors c.in-Con.is c.in-Union.is c.requires.admitted,
-    constructed_named (net_view c.args.net.now) c.args.value.now c.args.shape.now c.in-Con.position c.in-Con.argument c.in-Union.number c.in-Union.constructors c.in-Con.is c.in-Union.is c.requires.named,
+    constructed_has (net_view c.args.net.now) c.args.value.now c.args.shape.now c.in-Con.position c.in-Con.argument c.in-Union.number c.in-Union.constructors c.deref-in-Union.result.now c.in-Con.is c.in-Union.is c.deref-in-Union.ensures c.requires.admitted,
+    constructed_named (net_view c.args.net.now) c.args.value.now c.args.shape.now c.in-Con.position c.in-Con.argument c.in-Union.number c.in-Union.constructors c.deref-in-Union.result.now c.in-Con.is c.in-Union.is c.deref-in-Union.ensures c.requires.named,
   ),
 )
 

@@ -20,36 +20,36 @@ trials_with-requires-clause-placed g c = plan_of c.args.net.now c.args.marking.n
 
 pub push_found_by-requires-clause-trials : goal.push_found_by-requires-clause-trials
 push_found_by-requires-clause-trials g c =
-    held_trials (net_view c.args.net.now) c.args.marking.now c.args.t c.args.place (value_view c.args.value.now) c.args.plan.now.stages.items c.args.number c.index.result.now (pattern_view c.in-Some.pattern.now) (trials_view c.deref.result.now)
+    held_trials (net_view c.args.net.now) c.args.marking.now c.args.t c.args.place (value_view c.args.value.now) c.args.plan.now.stages.items c.args.number c.index.result.now (pattern_view c.in-Some.pattern.now) (trials_view c.deref_mut.result.now)
     (λ p. (held_at (net_view c.args.net.now).places c.args.marking.now c.requires.marking p).0) c.requires.planned.values c.requires.planned.stages c.requires.stands c.requires.within c.index.ensures
-    (sym c.pattern_on.ensures.exact ∙ ap (option_map (λ p. pattern_view p.now)) c.in-Some.is) (ap trials_view c.deref.ensures.value ∙ c.in_ok-trials-in-Some.ensures.tried)
+    (sym c.pattern_on.ensures.exact ∙ ap (option_map (λ p. pattern_view p.now)) c.in-Some.is) (ap trials_view c.deref_mut.ensures.value ∙ c.in_ok-trials-in-Some.ensures.tried)
 
 pub returns-in_ok-push_found_by-in-Some-clause-added : goal.returns-in_ok-push_found_by-in-Some-clause-added
 returns-in_ok-push_found_by-in-Some-clause-added g c =
     subst (λ ls. AddsFound (net_view c.args.net.now) c.args.marking.now c.args.t ls (map found_view c.args.found.now.items) (map found_view c.push_found_by.new.found.items))
-    (held_lists c.args.marking.now c.args.place (value_view c.args.value.now) c.args.plan.now.stages.items c.args.number c.index.result.now (pattern_view c.in-Some.pattern.now) (trials_view c.deref.result.now) c.requires.within c.index.ensures
-    (sym c.pattern_on.ensures.exact ∙ ap (option_map (λ p. pattern_view p.now)) c.in-Some.is) (ap trials_view c.deref.ensures.value ∙ c.in_ok-trials-in-Some.ensures.tried))
+    (held_lists c.args.marking.now c.args.place (value_view c.args.value.now) c.args.plan.now.stages.items c.args.number c.index.result.now (pattern_view c.in-Some.pattern.now) (trials_view c.deref_mut.result.now) c.requires.within c.index.ensures
+    (sym c.pattern_on.ensures.exact ∙ ap (option_map (λ p. pattern_view p.now)) c.in-Some.is) (ap trials_view c.deref_mut.ensures.value ∙ c.in_ok-trials-in-Some.ensures.tried))
     c.in_ok-push_found_by-in-Some.ensures.added
 
 pub returns-in_ok-push_found_by-in-Some-clause-counted : goal.returns-in_ok-push_found_by-in-Some-clause-counted
 returns-in_ok-push_found_by-in-Some-clause-counted g c =
     subst (λ ls. c.push_found_by.new.steps ≡ c.args.steps.now + tried_by_each (net_view c.args.net.now) ls (unbound (transition_at (net_view c.args.net.now) c.args.t).vars))
-    (held_lists c.args.marking.now c.args.place (value_view c.args.value.now) c.args.plan.now.stages.items c.args.number c.index.result.now (pattern_view c.in-Some.pattern.now) (trials_view c.deref.result.now) c.requires.within c.index.ensures
-    (sym c.pattern_on.ensures.exact ∙ ap (option_map (λ p. pattern_view p.now)) c.in-Some.is) (ap trials_view c.deref.ensures.value ∙ c.in_ok-trials-in-Some.ensures.tried))
+    (held_lists c.args.marking.now c.args.place (value_view c.args.value.now) c.args.plan.now.stages.items c.args.number c.index.result.now (pattern_view c.in-Some.pattern.now) (trials_view c.deref_mut.result.now) c.requires.within c.index.ensures
+    (sym c.pattern_on.ensures.exact ∙ ap (option_map (λ p. pattern_view p.now)) c.in-Some.is) (ap trials_view c.deref_mut.ensures.value ∙ c.in_ok-trials-in-Some.ensures.tried))
     c.in_ok-push_found_by-in-Some.ensures.counted
 
 pub returns-in_ok-push_found_by-in-Some-clause-steps : goal.returns-in_ok-push_found_by-in-Some-clause-steps
 returns-in_ok-push_found_by-in-Some-clause-steps g c =
     subst (λ ls. c.push_found_by.new.steps ≤ c.args.steps.now + tried_by_each (net_view c.args.net.now) ls (unbound (transition_at (net_view c.args.net.now) c.args.t).vars))
-    (held_lists c.args.marking.now c.args.place (value_view c.args.value.now) c.args.plan.now.stages.items c.args.number c.index.result.now (pattern_view c.in-Some.pattern.now) (trials_view c.deref.result.now) c.requires.within c.index.ensures
-    (sym c.pattern_on.ensures.exact ∙ ap (option_map (λ p. pattern_view p.now)) c.in-Some.is) (ap trials_view c.deref.ensures.value ∙ c.in_ok-trials-in-Some.ensures.tried))
+    (held_lists c.args.marking.now c.args.place (value_view c.args.value.now) c.args.plan.now.stages.items c.args.number c.index.result.now (pattern_view c.in-Some.pattern.now) (trials_view c.deref_mut.result.now) c.requires.within c.index.ensures
+    (sym c.pattern_on.ensures.exact ∙ ap (option_map (λ p. pattern_view p.now)) c.in-Some.is) (ap trials_view c.deref_mut.ensures.value ∙ c.in_ok-trials-in-Some.ensures.tried))
     c.push_found_by.ensures.steps
 
 pub returns-in_err-push_found_by-in-Some-clause-steps : goal.returns-in_err-push_found_by-in-Some-clause-steps
 returns-in_err-push_found_by-in-Some-clause-steps g c =
     subst (λ ls. c.push_found_by.new.steps ≤ c.args.steps.now + tried_by_each (net_view c.args.net.now) ls (unbound (transition_at (net_view c.args.net.now) c.args.t).vars))
-    (held_lists c.args.marking.now c.args.place (value_view c.args.value.now) c.args.plan.now.stages.items c.args.number c.index.result.now (pattern_view c.in-Some.pattern.now) (trials_view c.deref.result.now) c.requires.within c.index.ensures
-    (sym c.pattern_on.ensures.exact ∙ ap (option_map (λ p. pattern_view p.now)) c.in-Some.is) (ap trials_view c.deref.ensures.value ∙ c.in_ok-trials-in-Some.ensures.tried))
+    (held_lists c.args.marking.now c.args.place (value_view c.args.value.now) c.args.plan.now.stages.items c.args.number c.index.result.now (pattern_view c.in-Some.pattern.now) (trials_view c.deref_mut.result.now) c.requires.within c.index.ensures
+    (sym c.pattern_on.ensures.exact ∙ ap (option_map (λ p. pattern_view p.now)) c.in-Some.is) (ap trials_view c.deref_mut.ensures.value ∙ c.in_ok-trials-in-Some.ensures.tried))
     c.push_found_by.ensures.steps
 
 pub returns-in-None-clause-added : goal.returns-in-None-clause-added

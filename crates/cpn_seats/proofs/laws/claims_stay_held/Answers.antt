@@ -1,4 +1,4 @@
-use Rattle.cpn_seats.proofs.StillHeld.{claims_keep_held, completions_keep_others_held, giving_back_keeps_held, moves_keep_held, looks_keep_held, wants_of_memory_keep_held}
+use Rattle.cpn_seats.proofs.StillHeld.{claims_keep_held, completions_keep_others_held, refused_completions_keep_held, giving_back_keeps_held, moves_keep_held, looks_keep_held, wants_of_memory_keep_held}
 use Rattle.cpn_seats.proofs.laws.claims_stay_held.Goals as goal
 
 pub returns-clause-claims : goal.returns-clause-claims
@@ -6,6 +6,9 @@ returns-clause-claims c = claims_keep_held
 
 pub returns-clause-completions : goal.returns-clause-completions
 returns-clause-completions c = completions_keep_others_held
+
+pub returns-clause-refused : goal.returns-clause-refused
+returns-clause-refused c = refused_completions_keep_held
 
 pub returns-clause-giving_back : goal.returns-clause-giving_back
 returns-clause-giving_back c = giving_back_keeps_held

@@ -1,39 +1,19 @@
 -- The run is under way at the next time, and something is ready.
 use Rattle.std.proofs.Common.{arith, ap, ◌∙◌, map, sym, subst}
-use Rattle.cpn_core.specs.Inscriptions.{funs_view}
 use Rattle.cpn_log.specs.LogViews.{log_view}
-use Rattle.cpn_monitor.specs.Fitting.{AreMeasured, MayClose}
-use Rattle.cpn_monitor.specs.Views.{monitors_view, values_view}
-use Rattle.cpn_monitor.specs.declared.monitors.Monitors.{Monitors}
-use Rattle.cpn_runs.specs.MeasuredStates.{run_of}
 use Rattle.cpn_runs.specs.Views.{event_view}
 use Rattle.cpn_runs.specs.declared.events.Event.TheVariants as events
 use Rattle.cpn_book.specs.Books.{setup_in}
-use Rattle.cpn_book.specs.Standings.{committed_of}
-use Rattle.cpn_book.proofs.MovedBooks.{next_not_before, may_close, moved_runs, moved_ready}
+use Rattle.cpn_book.proofs.MovedBooks.{next_not_before, moved_runs, moved_ready}
 use Rattle.cpn_book.proofs.books.Book.move_to.Goals as goal
 use Rattle.cpn_definitions.proofs.ListItems.{map_more}
-
-pub close-requires : goal.close-requires
-close-requires c =
-    let book = c.args.self.now in
-    record {
-      may =
-          subst (λ (d : Monitors). MayClose (funs_view d.funs.value) (monitors_view d) (values_view book.standing.values) c.args.time) (sym c.deref.ensures)
-          (may_close book c.args.time c.requires.kept c.requires.running c.requires.next c.requires.in_time);
-    }
 
 pub returns-clause-running : goal.returns-clause-running
 returns-clause-running c =
     let book = c.args.self.now in
-    let s = record book.standing { journal = c.push_reserved.new.self; values = c.close.new.values } in
-    let later = next_not_before book c.args.time c.requires.running c.requires.next in
+    let s = record book.standing { journal = c.push_reserved.new.self } in
     moved_runs book c.args.time c.requires.running c.requires.none_ready c.requires.none_open c.requires.uncut c.requires.below c.requires.next c.requires.in_time s
     (ap (map event_view) c.push_reserved.ensures.items ∙ map_more event_view book.standing.journal.items (events.Move c.args.time))
-    (subst (λ (d : Monitors). AreMeasured (funs_view d.funs.value) (monitors_view d) (run_of (setup_in book) c.args.time (committed_of c.requires.running.at.at.state book.standing)) (values_view c.close.new.values)) c.deref.ensures
-    (c.close.ensures.closed (run_of (setup_in book) book.standing.clock (committed_of c.requires.running.at.at.state book.standing))
-    (subst (λ (d : Monitors). AreMeasured (funs_view d.funs.value) (monitors_view d) (run_of (setup_in book) book.standing.clock (committed_of c.requires.running.at.at.state book.standing)) (values_view book.standing.values)) (sym c.deref.ensures) c.requires.running.at.at.measured)
-    later))
     c.advance_to.new.self c.advance_to.ensures.kept c.advance_to.ensures.moved
     (c.advance_to.ensures.index (setup_in book).net (log_view book.standing.log).unclaimed c.requires.running.index)
 

@@ -2,7 +2,7 @@
 use Rattle.std.proofs.Common.{sym, ◌∙◌, subst}
 use Rattle.cpn_runs.specs.Views.{end_view}
 use Rattle.cpn_book.specs.Books.{IsRunning}
-use Rattle.cpn_book.proofs.MovedBooks.{shows_end}
+use Rattle.cpn_book.proofs.MovedBooks.{shows_end, may_close}
 use Rattle.cpn_book.proofs.RunningBooks.{shows_run, by_cut}
 use Rattle.cpn_book.proofs.books.Book.take_end.Goals as goal
 
@@ -20,3 +20,9 @@ end-requires-clause-running c =
 
 pub returns-clause-end : goal.returns-clause-end
 returns-clause-end c = shows_end c.args.self.now c.requires.kept c.requires.running c.requires.none_open c.end.result c.end.ensures.end
+
+pub returns-in-Some-clause-closes : goal.returns-in-Some-clause-closes
+returns-in-Some-clause-closes c = may_close c.args.self.now c.requires.kept c.requires.running
+
+pub returns-clause-closes : goal.returns-clause-closes
+returns-clause-closes c = may_close c.args.self.now c.requires.kept c.requires.running

@@ -7,5 +7,5 @@ use Rattle.cpn_declared.proofs.decls.Decls.add_colour.Goals as goal
 pub returns-clause-added : goal.returns-clause-added
 returns-clause-added c =
     same_parts _ _ _ _ _ _ _ _ _ _ _ _
-    (colours_with c.args.name.now c.in_ok-key.key c.args.colour c.args.self.now.colours.entries c.insert.new.self.entries c.in_ok-insert.ensures.entries c.in_ok-key.ensures.ok c.requires.new)
+    (colours_with c.args.name.now c.args.colour c.args.self.now.colours c.push.new.self c.in_ok-push.ensures.added)
     refl refl refl refl refl

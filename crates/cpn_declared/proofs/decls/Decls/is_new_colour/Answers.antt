@@ -1,8 +1,8 @@
--- The map tells whether the name is there.
+-- It is told whether the name is there.
 use Rattle.cpn_declared.proofs.NewNames.{new_colour_told}
 use Rattle.cpn_declared.proofs.decls.Decls.is_new_colour.Goals as goal
 
 pub returns-then-not-is_predeclared : goal.returns-then-not-is_predeclared
 returns-then-not-is_predeclared c = record {
-  exact = new_colour_told c.args.name.now c.args.self.now.colours.entries c.is_predeclared.result c.contains_key.result c.is_predeclared.ensures.exact c.if-not-is_predeclared.true c.contains_key.ensures;
+  exact = new_colour_told c.args.name.now c.args.self.now.colours c.is_predeclared.result c.has.result c.is_predeclared.ensures.exact c.if-not-is_predeclared.true c.has.ensures.tells;
 }

@@ -1,14 +1,23 @@
--- Each place at which a monitor looks is there.
-use Rattle.std.proofs.Common.{List, map, subst, sym, arith}
-use Rattle.std.specs.List.{AllByRecursion}
-use Rattle.cpn_monitor.specs.Noted.{MayLook}
-use Rattle.cpn_monitor.specs.Views.{monitor_view}
+-- What is measured at the start is kept of a run that has begun.
+use Rattle.std.proofs.Common.{subst, arith, List, map}
+use Rattle.cpn_core.specs.Inscriptions.{funs_view}
+use Rattle.cpn_monitor.specs.Watched.{AreWatched}
 use Rattle.cpn_monitor.specs.declared.monitors.Monitor.{Monitor}
-use Rattle.cpn_monitor.proofs.ValueViews.{seen_here}
+use Rattle.cpn_monitor.specs.MeasuredRuns.{begun}
+use Rattle.cpn_monitor.specs.Views.{monitor_view, monitors_view, watched_view}
+use Rattle.cpn_monitor.proofs.ToldRuns.{kept_at_start}
 use Rattle.cpn_monitor.proofs.monitors.Monitors.start.Goals as goal
 
-pub at_start-measured-requires-clause-seen : goal.at_start-measured-requires-clause-seen
-at_start-measured-requires-clause-seen c =
-    let items = c.deref-monitor-items in
-    let P : List Monitor → Type 0 = λ monitors. AllByRecursion (λ monitor. MayLook c.args.marking.now monitor.measure) (map monitor_view monitors) in
-    seen_here (λ monitor. MayLook c.args.marking.now monitor.measure) items.result.now c.loop-monitor.monitor-index c.monitor-item.result (subst P (sym items.ensures.value) c.requires.seen) (omega arith) c.monitor-item.is
+pub returns : goal.returns
+returns c =
+    let all = kept_at_start (funs_view c.args.self.now.funs.value) (monitors_view c.args.self.now) (begun c.args.marking.now c.args.clock) _ (c.in_ok-values.ensures.values (funs_view c.args.self.now.funs.value)) in
+    record {
+      started = record {
+        timely = omega arith;
+        up_to = all.up_to;
+        values_are = all.values_are;
+        watched = subst (λ (monitors : List Monitor). AreWatched (map monitor_view monitors) (watched_view c.in_ok-watched.watched)) c.deref.ensures.value c.in_ok-watched.ensures.watched;
+        beside = c.in_ok-beside.ensures.beside;
+        quiet = λ quiet. cc;
+      };
+    }

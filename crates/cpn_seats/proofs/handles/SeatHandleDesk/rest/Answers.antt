@@ -1,16 +1,15 @@
-use Rattle.std.proofs.Common.{[], sym, ap, ◌∙◌, subst}
-use Rattle.cpn_book.specs.Seen.{IfSeen, SeesCall}
+use Rattle.std.proofs.Common.{sym, ap, ◌∙◌, subst}
 use Rattle.cpn_book.specs.Desks.{shared}
 use Rattle.cpn_seats.specs.Seats.{numbers_of, seen_of}
-use Rattle.cpn_seats.proofs.Sighted.{looks_through, look_later}
+use Rattle.cpn_seats.proofs.Sighted.{LooksOn, looks_on, looks_further, look_later}
 use Rattle.cpn_seats.proofs.handles.SeatHandleDesk.rest.Goals as goal
 
 pub returns-then-look_on-clause-looks : goal.returns-then-look_on-clause-looks
-returns-then-look_on-clause-looks g c = looks_through _ _ _ _ _ c.loop.invariant.numbers c.loop.invariant.looks c.look_on.ensures.looks
+returns-then-look_on-clause-looks g c = looks_on _ _ _ _ _ c.loop.invariant.numbers c.loop.invariant.looks c.look_on.ensures.looks
 
 pub returns-then-look_on-clause-later : goal.returns-then-look_on-clause-later
 returns-then-look_on-clause-later g c =
-    look_later (numbers_of c.args.self.now.seat) _ _ (looks_through _ _ _ _ _ c.loop.invariant.numbers c.loop.invariant.looks c.look_on.ensures.looks)
+    look_later (numbers_of c.args.self.now.seat) _ _ (looks_on _ _ _ _ _ c.loop.invariant.numbers c.loop.invariant.looks c.look_on.ensures.looks)
 
 pub returns-then-look_on-clause-book : goal.returns-then-look_on-clause-book
 returns-then-look_on-clause-book g c = ap shared (c.look_on.ensures.same.table ∙ c.loop.invariant.table)
@@ -28,7 +27,7 @@ loop-preserved g c =
     let s = c.sleep_on.ensures in record {
       can = tt;
       finite = tt;
-      looks = subst (λ now. IfSeen (seen_of c.args.self.now.seat) now (SeesCall (numbers_of c.args.self.now.seat) [])) (sym s.seen) (looks_through _ _ _ _ _ i.numbers i.looks e.looks);
+      looks = subst (LooksOn (numbers_of c.args.self.now.seat) (seen_of c.args.self.now.seat)) (sym s.seen) (looks_further _ _ _ _ _ i.numbers i.looks e.looks);
       numbers = s.same.numbers ∙ e.same.numbers ∙ i.numbers;
       seat = s.same.number ∙ e.same.number ∙ i.seat;
       table = s.same.table ∙ e.same.table ∙ i.table;

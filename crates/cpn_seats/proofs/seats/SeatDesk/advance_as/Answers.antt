@@ -2,7 +2,7 @@ use Rattle.std.proofs.Common.{[], ◌∷◌, Some, refl, ap, ◌∙◌, arith}
 use Rattle.cpn_book.specs.Seen.{AdvancesAt}
 use Rattle.cpn_book.proofs.SeatCalls.{advance_makes, advances_at}
 use Rattle.cpn_book.specs.declared.books.Book.{Book}
-use Rattle.cpn_seats.proofs.Answering.{holds, held_some, puts_back, ends_as, rests, sees}
+use Rattle.cpn_seats.proofs.Answering.{given_more, holds, held_some, puts_back, ends_as, rests, sees}
 use Rattle.cpn_seats.proofs.seats.SeatDesk.advance_as.Goals as goal
 
 pub take-book-requires-clause-held : goal.take-book-requires-clause-held
@@ -48,6 +48,19 @@ returns-clause-numbers g c =
     let made = advance_makes c.args.number y b c.advance-answer.result e.kept e.setup e.events e.spent_still in
     let end = c.leave.ensures.same ∙ ends_as v m c.put.new.token.me c.serve.new.token.me y b h is c.serve.ensures.served in
     ap (λ k. k.0.numbers) end
+
+pub returns-clause-more_given : goal.returns-clause-more_given
+returns-clause-more_given g c =
+    let v = c.args.token.now.me.0 in
+    let m = c.take_turn-turn.new.token.me in
+    let y = c.take-book.result in
+    let e = c.advance-answer.ensures in
+    let b : Book = c.advance-answer.new.self in
+    let h = holds v m y c.take_turn-turn.ensures.held c.take-book.ensures.taken in
+    let is = c.put.ensures.full ∙ ap (λ k. (k.0, (0, Some b) ∷ [])) c.take-book.ensures.empty in
+    let made = advance_makes c.args.number y b c.advance-answer.result e.kept e.setup e.events e.spent_still in
+    let end = c.leave.ensures.same ∙ ends_as v m c.put.new.token.me c.serve.new.token.me y b h is c.serve.ensures.served in
+    given_more v y b v.numbers c.leave.new.token.me (ap (λ k. k.0) end) h.finds (omega (arith, e.entered))
 
 pub returns-clause-answer : goal.returns-clause-answer
 returns-clause-answer g c =

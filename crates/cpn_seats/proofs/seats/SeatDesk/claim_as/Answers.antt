@@ -3,7 +3,7 @@ use Rattle.cpn_book.specs.declared.answers.Claimed.{Claimed}
 use Rattle.cpn_book.specs.Seen.{ClaimsAt, WantsMemoryAt}
 use Rattle.cpn_book.proofs.SeatCalls.{claim_makes, claims_at, claim_fails}
 use Rattle.cpn_book.specs.declared.books.Book.{Book}
-use Rattle.cpn_seats.proofs.Answering.{holds, held_some, seat_known, puts_back, ends_as, rests, tells, wants}
+use Rattle.cpn_seats.proofs.Answering.{given_more, holds, held_some, seat_known, puts_back, ends_as, rests, tells, wants}
 use Rattle.cpn_seats.proofs.seats.SeatDesk.claim_as.Goals as goal
 
 pub take-book-requires-clause-held : goal.take-book-requires-clause-held
@@ -52,6 +52,19 @@ returns-clause-numbers g c =
     let made = claim_makes c.args.number y b c.claim-answer.result e.kept e.setup e.events e.events_stay e.spent_same in
     let end = c.leave.ensures.same ∙ ends_as v m c.put.new.token.me c.serve.new.token.me y b h is c.serve.ensures.served in
     ap (λ k. k.0.numbers) end
+
+pub returns-clause-more_given : goal.returns-clause-more_given
+returns-clause-more_given g c =
+    let v = c.args.token.now.me.0 in
+    let m = c.take_turn-turn.new.token.me in
+    let y = c.take-book.result in
+    let e = c.claim-answer.ensures in
+    let b : Book = c.claim-answer.new.self in
+    let h = holds v m y c.take_turn-turn.ensures.held c.take-book.ensures.taken in
+    let is = c.put.ensures.full ∙ ap (λ k. (k.0, (0, Some b) ∷ [])) c.take-book.ensures.empty in
+    let made = claim_makes c.args.number y b c.claim-answer.result e.kept e.setup e.events e.events_stay e.spent_same in
+    let end = c.leave.ensures.same ∙ ends_as v m c.put.new.token.me c.serve.new.token.me y b h is c.serve.ensures.served in
+    given_more v y b v.numbers c.leave.new.token.me (ap (λ k. k.0) end) h.finds (omega (arith, e.entered))
 
 pub returns-clause-answer : goal.returns-clause-answer
 returns-clause-answer g c =

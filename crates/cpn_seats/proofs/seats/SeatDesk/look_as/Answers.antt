@@ -1,7 +1,7 @@
 use Rattle.std.proofs.Common.{[], ◌∷◌, Some, refl, ap, ◌∙◌, arith}
 use Rattle.cpn_book.specs.Seen.{SeesCall}
 use Rattle.cpn_book.proofs.SeatCalls.{sees_call}
-use Rattle.cpn_seats.proofs.Answering.{holds, held_some, puts_back, ends_as, rests, sees, look_makes}
+use Rattle.cpn_seats.proofs.Answering.{given_more, holds, held_some, puts_back, ends_as, rests, sees, look_makes}
 use Rattle.cpn_seats.proofs.seats.SeatDesk.look_as.Goals as goal
 
 pub take-book-requires-clause-held : goal.take-book-requires-clause-held
@@ -38,6 +38,17 @@ returns-clause-numbers g c =
     let made = look_makes c.args.number y h.finds.is_book in
     let end = ends_as v m c.put.new.token.me c.serve.new.token.me y y h is c.serve.ensures.served in
     ap (λ k. k.0.numbers) end
+
+pub returns-clause-more_given : goal.returns-clause-more_given
+returns-clause-more_given g c =
+    let v = c.args.token.now.me.0 in
+    let m = c.take_turn-turn.new.token.me in
+    let y = c.take-book.result in
+    let h = holds v m y c.take_turn-turn.ensures.held c.take-book.ensures.taken in
+    let is = c.put.ensures.full ∙ ap (λ k. (k.0, (0, Some y) ∷ [])) c.take-book.ensures.empty in
+    let made = look_makes c.args.number y h.finds.is_book in
+    let end = ends_as v m c.put.new.token.me c.serve.new.token.me y y h is c.serve.ensures.served in
+    given_more v y y v.numbers c.serve.new.token.me (ap (λ k. k.0) end) h.finds (omega arith)
 
 pub returns-clause-looks : goal.returns-clause-looks
 returns-clause-looks g c =

@@ -7,7 +7,7 @@ use Rattle.cpn_book.proofs.SeatCalls.{sees_call}
 use Rattle.cpn_seats.specs.SeenViews.{seen_by}
 use Rattle.cpn_seats.specs.Turns.{journal_told, after_turn, with_numbers}
 use Rattle.cpn_seats.proofs.Keeping.{splits}
-use Rattle.cpn_seats.proofs.Answering.{holds, held_some, puts_back, ends_as, ends_more, left_ends, right_ends, fresh_number, split_rests, rests, sees, enter_makes, seats_seen}
+use Rattle.cpn_seats.proofs.Answering.{given_more, holds, held_some, puts_back, ends_as, ends_more, left_ends, right_ends, fresh_number, split_rests, rests, sees, enter_makes, seats_seen}
 use Rattle.cpn_seats.proofs.seats.SeatDesk.split_as.Goals as goal
 
 pub take-book-requires-clause-held : goal.take-book-requires-clause-held
@@ -86,6 +86,22 @@ returns-clause-numbers g c =
     let end = left_ends v b (entered_in y) k l now s.2 in
     ap (λ k. k.0.numbers) end
 
+pub returns-clause-more_given : goal.returns-clause-more_given
+returns-clause-more_given g c =
+    let v = c.args.token.now.me.0 in
+    let m = c.take_turn-turn.new.token.me in
+    let y = c.take-book.result in
+    let b : Book = c.enter.new.self in
+    let h = holds v m y c.take_turn-turn.ensures.held c.take-book.ensures.taken in
+    let made = enter_makes c.args.number y b c.enter.ensures.kept c.enter.ensures.same in
+    let is = c.put-2.ensures.full ∙ ap (λ k. (k.0, (0, Some b) ∷ [])) c.take-book.ensures.empty in
+    let k = c.serve_more.new.token.me in
+    let now = ends_more v m c.put-2.new.token.me k y b h is c.serve_more.ensures.served in
+    let s = c.split_seat-other.ensures in
+    let l = c.split_seat-other.new.seat.me in
+    let end = left_ends v b (entered_in y) k l now s.2 in
+    given_more v y b v.numbers l (ap (λ k. k.0) end) h.finds (let next = c.in-Some.ensures.next in omega (arith, next.0, next.1))
+
 pub returns-clause-looks : goal.returns-clause-looks
 returns-clause-looks g c =
     let v = c.args.token.now.me.0 in
@@ -154,6 +170,18 @@ returns-in_default-clause-numbers g c =
     let is = c.put.ensures.full ∙ ap (λ k. (k.0, (0, Some b) ∷ [])) c.take-book.ensures.empty in
     let end = ends_as v m c.put.new.token.me c.serve.new.token.me y b h is c.serve.ensures.served in
     ap (λ k. k.0.numbers) end
+
+pub returns-in_default-clause-more_given : goal.returns-in_default-clause-more_given
+returns-in_default-clause-more_given g c =
+    let v = c.args.token.now.me.0 in
+    let m = c.take_turn-turn.new.token.me in
+    let y = c.take-book.result in
+    let b : Book = c.enter.new.self in
+    let h = holds v m y c.take_turn-turn.ensures.held c.take-book.ensures.taken in
+    let made = enter_makes c.args.number y b c.enter.ensures.kept c.enter.ensures.same in
+    let is = c.put.ensures.full ∙ ap (λ k. (k.0, (0, Some b) ∷ [])) c.take-book.ensures.empty in
+    let end = ends_as v m c.put.new.token.me c.serve.new.token.me y b h is c.serve.ensures.served in
+    given_more v y b v.numbers c.serve.new.token.me (ap (λ k. k.0) end) h.finds (let e = ap entered_in (c.enter.ensures.unchanged c.in_default.is) in omega (arith, e))
 
 pub returns-in_default-clause-looks : goal.returns-in_default-clause-looks
 returns-in_default-clause-looks g c =

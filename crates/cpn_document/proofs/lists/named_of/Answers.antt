@@ -1,0 +1,39 @@
+-- Each thing is the next one of the list, and is read or refused with it; its name is the next one of the names.
+use Rattle.std.proofs.Common.{arith, refl}
+use Rattle.std.proofs.lemmas.Result.{err_from_is_err_and}
+use Rattle.serde_json.specs.View.{view}
+use Rattle.cpn_document.specs.Answers.{refusal_of}
+use Rattle.cpn_document.proofs.ReadLists.{values_more, values_done, names_more, names_done, named_more, named_broken, named_done}
+use Rattle.cpn_document.proofs.lists.named_of.Goals as goal
+
+pub returns-in_err-read-clause-gives : goal.returns-in_err-read-clause-gives
+returns-in_err-read-clause-gives g c =
+    let p = err_from_is_err_and c.from_residual-in_err-read.result c.from_residual-in_err-read.ensures.1 in
+    rw (p.1, p.2) (named_broken view c.args.list.now c.loop-number.number c.index-list-number.result c.loop-number-test.true c.index-list-number.is _ c.loop-number.names _ (refusal_of c.in_err-read.field-0.0) c.loop-number.invariant.rest c.in_err-read.ensures.gives)
+
+pub loop-number-init : goal.loop-number-init
+loop-number-init g c = record {
+  values = rw c.in_ok-things.ensures.items refl;
+  names = refl;
+  rest = refl;
+  len = c.in_ok-things.ensures.len;
+  room = c.in_ok-things.ensures.capacity;
+}
+
+pub push_reserved-requires : goal.push_reserved-requires
+push_reserved-requires g c = omega (arith, c.loop-number.invariant.len, c.loop-number.invariant.room, c.loop-number-test.true)
+
+pub loop-number-preserved : goal.loop-number-preserved
+loop-number-preserved g c = record {
+  values = rw c.push_reserved.ensures.items (values_more view c.args.list.now c.loop-number.number c.index-list-number.result c.loop-number-test.true c.index-list-number.is g.T.Named.value_in g.T.Named.seen c.loop-number.things.items c.in_ok-read.field-0 _ c.in_ok-read.ensures.gives.0 c.loop-number.invariant.values);
+  names = names_more view c.args.list.now c.loop-number.number c.index-list-number.result c.loop-number-test.true c.index-list-number.is c.loop-number.names c.read.new.names _ c.in_ok-read.ensures.names c.loop-number.invariant.names;
+  rest = named_more view c.args.list.now c.loop-number.number c.index-list-number.result c.loop-number-test.true c.index-list-number.is _ c.loop-number.names c.read.new.names _ c.in_ok-read.ensures.names c.in_ok-read.ensures.gives.1 c.loop-number.invariant.rest;
+  len = omega (arith, c.push_reserved.ensures.len, c.loop-number.invariant.len);
+  room = rw c.push_reserved.ensures.capacity c.loop-number.invariant.room;
+}
+
+pub returns : goal.returns
+returns g c = record {
+  gives = (values_done view c.args.list.now c.loop-number.number (omega arith) g.T.Named.value_in g.T.Named.seen c.loop-number.things.items _ c.loop-number.invariant.values, named_done view c.args.list.now c.loop-number.number (omega arith) _ c.loop-number.names _ c.loop-number.invariant.rest);
+  names = names_done view c.args.list.now c.loop-number.number (omega arith) c.loop-number.names _ c.loop-number.invariant.names;
+}

@@ -1,8 +1,0 @@
--- The rules of the rest decide.
-use Rattle.cpn_document.specs.Views.{fusion_view}
-use Rattle.cpn_module.specs.ModuleRules.{member_module_rules}
-use Rattle.cpn_module.proofs.CheckedItems.{Decides}
-use Rattle.cpn_module.proofs.unknown.check_all_member_modules.Given as goal
-
-abbrev pub invariant-loop-number : goal.invariant-loop-number
-invariant-loop-number l = Decides fusion_view (member_module_rules l.modules) l.document.fusions.items l.number

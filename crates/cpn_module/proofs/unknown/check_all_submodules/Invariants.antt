@@ -1,8 +1,0 @@
--- The rules of the rest decide.
-use Rattle.cpn_document.specs.Views.{module_view}
-use Rattle.cpn_module.specs.ModuleRules.{submodule_rules}
-use Rattle.cpn_module.proofs.CheckedItems.{Decides}
-use Rattle.cpn_module.proofs.unknown.check_all_submodules.Given as goal
-
-abbrev pub invariant-loop-number : goal.invariant-loop-number
-invariant-loop-number l = Decides module_view (submodule_rules l.modules) l.document.modules.items l.number

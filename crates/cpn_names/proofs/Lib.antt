@@ -1,0 +1,5 @@
+pub mod FirstOfNames
+mod FoundThings
+mod KeptNumbers
+pub mod NameNumbers
+mod Rows

@@ -1,0 +1,3 @@
+pub mod ListedNumbers
+mod TurnedLists
+mod Rows
